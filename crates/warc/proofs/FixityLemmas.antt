@@ -3,11 +3,10 @@ use Rattle.std.proofs.Common.{◌≡◌, ℕ, ◌≤◌, List, [], ◌∷◌, �
 use Rattle.std.proofs.lemmas.List.{map-append, take_all}
 use Rattle.std.specs.List.{concat, enumerate_from, flat_map, join_with_byte}
 use Rattle.warc_record.specs.Ids.{bare_text}
-use Rattle.warc_reading.specs.Judging.{verdict_on}
 use Rattle.warc_reading.specs.Row.{Placed, Row}
 use Rattle.warc_value.specs.declared.hash.Verdict.{Verdict}
 use Rattle.warc_value.specs.declared.hash.Verdict.TheVariants.{Good, Bad, Unchecked}
-use Rattle.warc.specs.Fixity.{Digested, Judgements, counts_line, counts_of, digest_kept, digest_value, fixity_line, fixity_lines, fixity_text, unless_good, verdict_line, verdict_text}
+use Rattle.warc.specs.Fixity.{Digested, Judgements, counts_line, counts_of, digest_kept, digest_value, fixity_line, fixity_lines, fixity_text, stated_on, unless_good, verdict_line, verdict_text}
 use Rattle.warc.specs.Listing.{shown}
 use Rattle.warc.proofs.LineLemmas.{lines_front}
 use Rattle.warc.specs.declared.fixity.Counts.{Counts}
@@ -55,11 +54,11 @@ whole_text judged rows i len counts size past is =
 
 -- what is kept of a record that was read in place
 pub digests_more : {E : Type 0} (answer : Result (Unit {0}) E) (old new : Judgements) (records : List Placed) (p : Placed) (verdict : Verdict) (value : List ℕ)
-    → (old.verdicts ≡ map verdict_on records) × (old.digests ≡ map digest_kept records) → verdict ≡ verdict_on p → digest_value p.content.fields ≡ value
+    → (old.verdicts ≡ map stated_on records) × (old.digests ≡ map digest_kept records) → verdict ≡ stated_on p → digest_value p.content.fields ≡ value
     → OnOk answer ((new.verdicts ≡ old.verdicts ++ verdict ∷ []) × (new.digests ≡ old.digests ++ unless_good verdict value ∷ []))
-    → OnOk answer ((new.verdicts ≡ map verdict_on (records ++ p ∷ [])) × (new.digests ≡ map digest_kept (records ++ p ∷ [])))
+    → OnOk answer ((new.verdicts ≡ map stated_on (records ++ p ∷ [])) × (new.digests ≡ map digest_kept (records ++ p ∷ [])))
 digests_more (Ok u) old new records p verdict value is judged stated added = (
-  added.0 ∙ ap₂ (λ (l : List Verdict) (x : Verdict). l ++ x ∷ []) is.0 judged ∙ sym (map-append verdict_on records (p ∷ [])),
+  added.0 ∙ ap₂ (λ (l : List Verdict) (x : Verdict). l ++ x ∷ []) is.0 judged ∙ sym (map-append stated_on records (p ∷ [])),
   added.1 ∙ ap₂ (λ (l : List (List ℕ)) (x : List ℕ). l ++ x ∷ []) is.1 (ap₂ unless_good judged (sym stated)) ∙ sym (map-append digest_kept records (p ∷ [])),
 )
 digests_more (Err e) old new records p verdict value is judged stated added = tt

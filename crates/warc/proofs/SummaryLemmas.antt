@@ -13,10 +13,10 @@ use Rattle.warc_quick.specs.Quick.{AreAlone}
 use Rattle.warc_record.specs.Readings.{SegmentReading, present_value, segment_number}
 use Rattle.warc_record.specs.declared.readings.SegmentNumber.TheVariants.{Absent, Number, Bad}
 use Rattle.warc_value.specs.declared.hash.Verdict.{Verdict}
-use Rattle.warc_reading.specs.Judging.{verdict_on}
 use Rattle.warc_value.specs.Dates.{Instant, is_before}
 use Rattle.warc_index.specs.Captures.{is_earlier}
 use Rattle.warc_reading.specs.Row.{Placed, Row}
+use Rattle.warc.specs.Fixity.{stated_on}
 use Rattle.warc.specs.Summary.{Flags, IsEndOf, IsEndRow, has_segment_number, is_numbered, instant_at, is_nearer, number_line, shown_date, summary_numbers, summary_text, text_line}
 use Rattle.warc.specs.declared.summary.Dated.{Dated}
 use Rattle.warc.specs.declared.summary.End.{End}
@@ -240,11 +240,11 @@ pub alone_is_no_segment : (fields : List Pair) → AreAlone fields → has_segme
 alone_is_no_segment fields alone = not_numbered fields (present_value warc_segment_number fields) refl (ap (λ (s : SegmentReading). s.number) alone.segment)
 
 pub flags_more : {E : Type 0} (answer : Result (Unit {0}) E) (old new : Flags) (records : List Placed) (p : Placed) (verdict : Verdict)
-    → (old.segmented ≡ map is_numbered records) × (old.verdicts ≡ map verdict_on records) → is_numbered p ≡ false → verdict ≡ verdict_on p
+    → (old.segmented ≡ map is_numbered records) × (old.verdicts ≡ map stated_on records) → is_numbered p ≡ false → verdict ≡ stated_on p
     → OnOk answer ((new.segmented ≡ old.segmented ++ false ∷ []) × (new.verdicts ≡ old.verdicts ++ verdict ∷ []))
-    → OnOk answer ((new.segmented ≡ map is_numbered (records ++ p ∷ [])) × (new.verdicts ≡ map verdict_on (records ++ p ∷ [])))
+    → OnOk answer ((new.segmented ≡ map is_numbered (records ++ p ∷ [])) × (new.verdicts ≡ map stated_on (records ++ p ∷ [])))
 flags_more (Ok u) old new records p verdict is number judged added = (
   added.0 ∙ ap₂ (λ (l : List Bool) (x : Bool). l ++ x ∷ []) is.0 (sym number) ∙ sym (map-append is_numbered records (p ∷ [])),
-  added.1 ∙ ap₂ (λ (l : List Verdict) (x : Verdict). l ++ x ∷ []) is.1 judged ∙ sym (map-append verdict_on records (p ∷ [])),
+  added.1 ∙ ap₂ (λ (l : List Verdict) (x : Verdict). l ++ x ∷ []) is.1 judged ∙ sym (map-append stated_on records (p ∷ [])),
 )
 flags_more (Err e) old new records p verdict is number judged added = tt

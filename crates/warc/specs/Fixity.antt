@@ -5,11 +5,11 @@ use Rattle.std.specs.List.{enumerate_from, flat_map, join_with_byte}
 use Rattle.warc_field.specs.Area.{Pair, first_value}
 use Rattle.warc_value.specs.declared.hash.Verdict.{Verdict}
 use Rattle.warc_value.specs.declared.hash.Verdict.TheVariants.{Good, Bad, Unchecked}
+use Rattle.warc_fixity.specs.Judged.{stated_verdict}
 use Rattle.warc_frame.specs.declared.fault.Fault.{Fault}
 use Rattle.warc_frame.specs.Names.{warc_block_digest}
 use Rattle.warc_record.specs.Ids.{bare_text}
 use Rattle.warc_reading.specs.Archive.{Contents, IsArchiveOf}
-use Rattle.warc_reading.specs.Judging.{verdict_on}
 use Rattle.warc_reading.specs.Row.{Placed, Row}
 use Rattle.warc.specs.Counting.{verdict_at, verdict_tally}
 use Rattle.warc.specs.Listing.{shown}
@@ -25,10 +25,14 @@ unless_good Good text = []
 unless_good Bad text = text
 unless_good Unchecked text = text
 
-abbrev pub digest_kept : Placed → List ℕ
-digest_kept p = unless_good (verdict_on p) (digest_value p.content.fields)
+-- how a record's block compares with the digest that its head states
+abbrev pub stated_on : Placed → Verdict
+stated_on p = stated_verdict (digest_value p.content.fields) p.content.block
 
--- how blocks compare with the digests that their heads ask for, and those values
+abbrev pub digest_kept : Placed → List ℕ
+digest_kept p = unless_good (stated_on p) (digest_value p.content.fields)
+
+-- how blocks compare with the digests that their heads state, and those values
 pub record Judgements : Type 0 where
   pub verdicts : List Verdict
   pub digests : List (List ℕ)
@@ -41,7 +45,7 @@ pub record Digested (S : Type 0) : Type 0 where
 -- these are the rows of the good records that the bytes spell, and what was found of their blocks
 pub record AreDigested (bytes : List ℕ) (rows : List Row) (judged : Judgements) : Type 0 where
   pub listed : IsArchiveOf bytes rows
-  pub verdicts_are : judged.verdicts ≡ map verdict_on listed.are.records
+  pub verdicts_are : judged.verdicts ≡ map stated_on listed.are.records
   pub digests_are : judged.digests ≡ map digest_kept listed.are.records
 
 abbrev pub IsDigested : {S : Type 0} → List ℕ → Digested S → Type 0

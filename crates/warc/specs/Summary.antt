@@ -11,9 +11,9 @@ use Rattle.warc_record.specs.Readings.{present_value}
 use Rattle.warc_record.specs.declared.types.Kind.TheVariants.{Warcinfo, Response, Resource, Request, Metadata, Revisit, Conversion, Continuation, Other}
 use Rattle.warc_index.specs.Captures.{is_earlier}
 use Rattle.warc_reading.specs.Archive.{Contents, IsArchiveOf}
-use Rattle.warc_reading.specs.Judging.{verdict_on}
 use Rattle.warc_reading.specs.Row.{Placed, Row}
 use Rattle.warc.specs.Counting.{tally_of, verdict_tally}
+use Rattle.warc.specs.Fixity.{stated_on}
 use Rattle.warc.specs.declared.counting.Counted.TheVariants as counted
 use Rattle.warc.specs.declared.summary.End.{End}
 use Rattle.warc.specs.declared.summary.End.TheVariants.{First, Last}
@@ -43,7 +43,7 @@ pub record Flagged (S : Type 0) : Type 0 where
 pub record AreFlagged (bytes : List ℕ) (rows : List Row) (flags : Flags) : Type 0 where
   pub listed : IsArchiveOf bytes rows
   pub segmented_are : flags.segmented ≡ map is_numbered listed.are.records
-  pub verdicts_are : flags.verdicts ≡ map verdict_on listed.are.records
+  pub verdicts_are : flags.verdicts ≡ map stated_on listed.are.records
 
 abbrev pub IsSummarized : {S : Type 0} → List ℕ → Flagged S → Type 0
 IsSummarized bytes flagged = AreFlagged bytes flagged.listing.rows flagged.flags

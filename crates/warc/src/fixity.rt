@@ -1,21 +1,21 @@
 //! How the blocks of an archive compare with the digests that their heads state.
 ghost use Rattle.std.specs.Prelude.{◌≡◌, ◌∷◌, ◌++◌, true, false, [], codes, OnErr, OnOk, map};
 ghost use Rattle.warc_frame.specs.Effects.{Puts, SendsText};
-ghost use Rattle.warc_reading.specs.Judging.{verdict_on};
 ghost use Rattle.warc_reading.specs.Opening.{Opens};
 ghost use Rattle.warc.specs.Counting.{verdict_at};
-ghost use Rattle.warc.specs.Fixity.{IsDigested, counts_line, counts_of, digest_at, digest_kept, digest_value, fixity_text, digested_of, source_digested};
+ghost use Rattle.warc.specs.Fixity.{IsDigested, counts_line, counts_of, digest_at, digest_kept, fixity_text, digested_of, source_digested, stated_on};
 ghost use Rattle.warc.specs.Fixity.{unless_good, verdict_line, verdict_text};
 
 use crate::counting::Verdicts;
 use crate::row::shown_as;
+use crate::stated::{StatedBlock, digest_value, plain_stated};
 use itoa::Buffer;
 use std::alloc::{AllocError, Allocator, Global};
 use std::marker::Model;
 use warc_field::Fields;
-use warc_frame::{Fault, OutBuffer, OutFault, SendFault, Sink, Source, names, put_columns};
+use warc_frame::{Fault, OutBuffer, OutFault, SendFault, Sink, Source, put_columns};
 use warc_quick::{QuickHead, QuickRecord};
-use warc_reading::{Keep, Row, Rows, plain_verdict, read_on};
+use warc_reading::{Keep, Row, Rows, read_on};
 use warc_record::bare;
 use warc_value::Verdict;
 
@@ -43,16 +43,6 @@ impl<A: Allocator> Model for Digests<A> {
     ghost Value = { Judgements };
 
     ghost view = { λ d. record { verdicts = d.verdicts; digests = map (λ v. v.items) d.values.items } };
-}
-
-/// The value that states the digest of a block.
-fn digest_value<A: Allocator>(fields: &Fields<A>) -> &[u8]
-    ensures { result.now ≡ digest_value fields.now }
-{
-    match fields.first(names::WARC_BLOCK_DIGEST.as_bytes()) {
-        Some(value) => value.bytes(),
-        None => b"",
-    }
 }
 
 /// A text, unless a block is good.
@@ -124,15 +114,11 @@ impl<A: Allocator> Digests<A> {
 }
 
 impl<A: Allocator + Copy> Keep<A> for Digests<A> {
-    ghost keeps = { λ d records. (d.verdicts ≡ map verdict_on records) × (d.digests ≡ map digest_kept records) };
+    ghost keeps = { λ d records. (d.verdicts ≡ map stated_on records) × (d.digests ≡ map digest_kept records) };
 
-    ghost judges = { true };
+    type Block = StatedBlock;
 
     ghost takes = { λ _. true };
-
-    fn judges() -> bool {
-        true
-    }
 
     fn takes(_head: &QuickHead<'_>) -> bool {
         true
@@ -145,9 +131,9 @@ impl<A: Allocator + Copy> Keep<A> for Digests<A> {
         fields: &Fields<A>,
         _block_start: u64,
         _block_len: u64,
-        verdict: Verdict,
+        block: StatedBlock,
     ) -> Result<(), AllocError> {
-        self.add(alloc, verdict, digest_value(fields))
+        self.add(alloc, block.verdict(), digest_value(fields))
     }
 
     fn keep_plain(
@@ -157,7 +143,7 @@ impl<A: Allocator + Copy> Keep<A> for Digests<A> {
         found: &QuickRecord<'_>,
         _block_start: u64,
     ) -> Result<(), AllocError> {
-        self.add(alloc, plain_verdict(found), found.head.digest)
+        self.add(alloc, plain_stated(found), found.head.digest)
     }
 
     fn truncate(&mut self, count: usize) {

@@ -30,6 +30,7 @@ mod rewriting;
 mod row;
 mod segments;
 mod selecting;
+mod stated;
 mod summary;
 
 pub use archives::Archive;
@@ -41,6 +42,7 @@ pub use iterating::RowIter;
 pub use outcome::{Outcome, StoredAt};
 pub use part::Part;
 pub use reader::Listing;
+pub use stated::block_verdict;
 pub use summary::{Summarized, Summary};
 
 // What the calls above take and give, so that a caller needs this crate alone.

@@ -3,19 +3,20 @@ ghost use Rattle.std.specs.Prelude.{◌≡◌, ◌∷◌, ◌++◌, true, false,
 ghost use Rattle.std.specs.List.{concat};
 ghost use Rattle.warc_frame.specs.Effects.{Puts, SendsText};
 ghost use Rattle.warc_index.specs.Captures.{is_earlier};
-ghost use Rattle.warc_reading.specs.Judging.{verdict_on};
 ghost use Rattle.warc_reading.specs.Opening.{Opens};
+ghost use Rattle.warc.specs.Fixity.{stated_on};
 ghost use Rattle.warc.specs.Summary.{IsDateOf, IsEndOf, IsSummarized, IsSummaryOf, has_segment_number, is_nearer, is_numbered, number_line, summary_numbers};
 ghost use Rattle.warc.specs.Summary.{segmented_count, shown_date, source_summarized, summarized_of, summary_text, text_line};
 
 use crate::counting::{Counted, Verdicts, count, one_if};
+use crate::stated::{StatedBlock, plain_stated};
 use itoa::Buffer;
 use std::alloc::{AllocError, Allocator, Global};
 use std::marker::Model;
 use warc_field::Fields;
 use warc_frame::{Fault, OutBuffer, OutFault, SendFault, Sink, Source, names, put_columns};
 use warc_quick::{QuickHead, QuickRecord};
-use warc_reading::{Keep, Rows, plain_verdict, read_on};
+use warc_reading::{Keep, Rows, read_on};
 use warc_record::Kind;
 use warc_value::{Moment, Verdict, read_date};
 
@@ -109,15 +110,11 @@ fn has_segment_number<A: Allocator>(fields: &Fields<A>) -> bool
 }
 
 impl<A: Allocator + Copy> Keep<A> for RecordFlags<A> {
-    ghost keeps = { λ s records. (s.segmented ≡ map is_numbered records) × (s.verdicts ≡ map verdict_on records) };
+    ghost keeps = { λ s records. (s.segmented ≡ map is_numbered records) × (s.verdicts ≡ map stated_on records) };
 
-    ghost judges = { true };
+    type Block = StatedBlock;
 
     ghost takes = { λ head. head.is_alone };
-
-    fn judges() -> bool {
-        true
-    }
 
     fn takes(head: &QuickHead<'_>) -> bool {
         head.is_alone
@@ -130,9 +127,9 @@ impl<A: Allocator + Copy> Keep<A> for RecordFlags<A> {
         fields: &Fields<A>,
         _block_start: u64,
         _block_len: u64,
-        verdict: Verdict,
+        block: StatedBlock,
     ) -> Result<(), AllocError> {
-        self.add(has_segment_number(fields), verdict)
+        self.add(has_segment_number(fields), block.verdict())
     }
 
     fn keep_plain(
@@ -145,7 +142,7 @@ impl<A: Allocator + Copy> Keep<A> for RecordFlags<A> {
         if !found.head.is_alone {
             return Ok(());
         }
-        self.add(false, plain_verdict(found))
+        self.add(false, plain_stated(found))
     }
 
     fn truncate(&mut self, count: usize) {

@@ -24,7 +24,7 @@ use std::marker::Model;
 use warc_field::Fields;
 use warc_frame::Source;
 use warc_quick::{QuickHead, QuickRecord, faultless_head};
-use warc_reading::{Keep, RereadFault, Row, good_head_in, reread_text};
+use warc_reading::{BlockDigest, Keep, RereadFault, Row, good_head_in, reread_text};
 use warc_value::{Verdict, Wanted};
 
 /// How many bytes a read asks for: 1 MiB. A record that a read cuts is hashed alone, so few are cut.
@@ -360,13 +360,9 @@ impl<A: Allocator + Copy> Judging<A> {
 impl<A: Allocator + Copy> Keep<A> for Judging<A> {
     ghost keeps = { λ l records. l ≡ map own_findings (contents records) };
 
-    ghost judges = { true };
+    type Block = BlockDigest;
 
     ghost takes = { λ _. true };
-
-    fn judges() -> bool {
-        true
-    }
 
     fn takes(_head: &QuickHead<'_>) -> bool {
         true
@@ -379,9 +375,9 @@ impl<A: Allocator + Copy> Keep<A> for Judging<A> {
         fields: &Fields<A>,
         _block_start: u64,
         block_len: u64,
-        verdict: Verdict,
+        block: BlockDigest,
     ) -> Result<(), AllocError> {
-        self.add(alloc, fields, block_len, verdict)
+        self.add(alloc, fields, block_len, block.verdict())
     }
 
     fn keep_plain(
@@ -396,6 +392,10 @@ impl<A: Allocator + Copy> Keep<A> for Judging<A> {
 
     fn truncate(&mut self, count: usize) {
         Judging::truncate(self, count);
+    }
+
+    fn checks_heads() -> bool {
+        true
     }
 
     fn piece_len() -> usize {

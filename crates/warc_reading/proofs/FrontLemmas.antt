@@ -3,6 +3,7 @@ use Rattle.std.proofs.Common.{◌≡◌, ◌≢◌, ℕ, ◌+◌, ◌-◌, ◌<�
 use Rattle.std.proofs.Math.Seq.{take-append_seam, take-append-add}
 use Rattle.std.proofs.lemmas.Bool.{ltb-true, ltb-false}
 use Rattle.std.proofs.lemmas.List.{append_assoc, append-nil, take-append-drop, take-append-le, take_all}
+use Rattle.warc_field.specs.Area.{Pair}
 use Rattle.warc_field.specs.Lines.{crlf}
 use Rattle.warc_frame.specs.Faults.{AllAccepted, HasFault, goes_on, limited, within_limit}
 use Rattle.warc_frame.specs.Reading.{Head, any_fields, fault, head_of, record_of}
@@ -75,7 +76,7 @@ head_none u head bytes more kind bytes_are read found = λ r text rest whole spe
 
 -- ---- the front that was read
 
-module _ {A L : Type 0} {judges : Bool} {K : L → List Placed → Type 0} (text : List ℕ) (told : Told) (r : Reading A L) (has : HasRead judges K text told r) (rows : List Row) (same : rows ≡ r.rows)
+module _ {A B L : Type 0} {Sees : B → List Pair → List ℕ → Type 0} {K : L → List Placed → Type 0} (text : List ℕ) (told : Told) (r : Reading A L B) (has : HasRead Sees K text told r) (rows : List Row) (same : rows ≡ r.rows)
     (low : length text ≤ max_archive) where
   front_at : (bytes rest : List ℕ) → bytes ≡ has.front ++ rest → BeginsWithNone rest → IsLongestFront bytes rows
   front_at bytes rest is none =
@@ -195,7 +196,7 @@ stops_more text more rows f is = λ rest.
     subst P (sym (append_assoc text more rest)) (is (more ++ rest))
 
 -- a head was refused
-pub head_stops_at : {A L : Type 0} {judges : Bool} {K : L → List Placed → Type 0} (text piece : List ℕ) (told : Told) (r : Reading A L) (has : HasRead judges K text told r) (rows : List Row) → rows ≡ r.rows → length text ≤ max_archive → (u : Unclosed) (kind : FaultKind) (offset : ℕ)
+pub head_stops_at : {A B L : Type 0} {Sees : B → List Pair → List ℕ → Type 0} {K : L → List Placed → Type 0} (text piece : List ℕ) (told : Told) (r : Reading A L B) (has : HasRead Sees K text told r) (rows : List Row) → rows ≡ r.rows → length text ≤ max_archive → (u : Unclosed) (kind : FaultKind) (offset : ℕ)
     → told.unclosed ≡ None → IsExact (text ++ piece) (record { records = told.records; unclosed = Some u }) → head_fault u.fields ≡ Some kind → length (text ++ piece) ≤ max_archive → Stops (text ++ piece) rows (fault kind offset)
 head_stops_at text piece told r has rows same low u kind offset none exact found short = λ more.
     let P : ℕ → Type 0 = λ n. IsLongestFront (take n ((text ++ piece) ++ more)) rows in

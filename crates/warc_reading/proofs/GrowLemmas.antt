@@ -3,6 +3,7 @@ use Rattle.std.proofs.Common.{◌≡◌, ◌≢◌, ℕ, ◌+◌, ◌-◌, ◌^�
 use Rattle.std.proofs.Math.Nat.{min-eq_left}
 use Rattle.std.proofs.Math.Seq.{drop-append_seam, take-add, take-append_seam, take-append-add}
 use Rattle.std.proofs.lemmas.List.{append_assoc, append-nil, drop-drop, length-drop, length-map, length-take, take-append-drop, take_all}
+use Rattle.warc_field.specs.Area.{Pair}
 use Rattle.warc_frame.specs.Count.{capped, raised}
 use Rattle.warc_frame.specs.Decoding.{Finishes, IsAt, PhaseIs, State}
 use Rattle.warc_frame.specs.Device.{Gives}
@@ -76,7 +77,7 @@ shorter q (p ∷ ps) more a b (front, rest, one, at, start, is, tail) (front2, r
     omega (arith, shorter (q + length front) ps more rest rest2 tail (subst P same tail2), same, ap length is ∙ length-append front rest, ap length is2 ∙ length-append front2 rest2)
 
 -- the record that is being read begins behind those that were kept
-begins_after : {A L : Type 0} {judges : Bool} (K : L → List Placed → Type 0) (bytes text : List ℕ) (was : List Row × L) (is : IsKeptOf K bytes was) (told : Told) (r : Reading A L) → HasRead judges (Since K is.listed.are.records) text told r
+begins_after : {A B L : Type 0} {Sees : B → List Pair → List ℕ → Type 0} (K : L → List Placed → Type 0) (bytes text : List ℕ) (was : List Row × L) (is : IsKeptOf K bytes was) (told : Told) (r : Reading A L B) → HasRead Sees (Since K is.listed.are.records) text told r
     → length bytes ≤ r.begin
 begins_after K bytes text was is told r has =
     let on = has.beside.1 in
@@ -84,8 +85,8 @@ begins_after K bytes text was is told r has =
     omega (arith, has.begin_is, shorter 0 is.listed.are.records on.0 bytes has.front is.listed.are.spelled (subst P on.1 has.spelled))
 
 -- so memory is wanted behind them
-wants_after : {A L : Type 0} {judges : Bool} (K : L → List Placed → Type 0) (bytes taken : List ℕ) (was : List Row × L) (is : IsKeptOf K bytes was) (told : Told) (r : Reading A L) (offset : ℕ)
-    → HasRead judges (Since K is.listed.are.records) (bytes ++ taken) told r → BeginsSince (bytes ++ taken) r.begin offset → length bytes ≤ offset
+wants_after : {A B L : Type 0} {Sees : B → List Pair → List ℕ → Type 0} (K : L → List Placed → Type 0) (bytes taken : List ℕ) (was : List Row × L) (is : IsKeptOf K bytes was) (told : Told) (r : Reading A L B) (offset : ℕ)
+    → HasRead Sees (Since K is.listed.are.records) (bytes ++ taken) told r → BeginsSince (bytes ++ taken) r.begin offset → length bytes ≤ offset
 wants_after K bytes taken was is told r offset has (inl same) = omega (arith, same, begins_after K bytes (bytes ++ taken) was is told r has)
 wants_after K bytes taken was is told r offset has (inr after) = omega (arith, after, length-append bytes taken)
 
@@ -105,11 +106,11 @@ at_behind at start bytes records d spelled begins is =
     }
 
 -- what is kept of records stands where the decoder begins behind them
-pub kept_stands : {A L : Type 0} {judges : Bool} (K : L → List Placed → Type 0) (bytes : List ℕ) (d : State) (r : Reading A L) → IsKeptOf K bytes (r.rows, r.beside) → r.begin ≡ length bytes → r.current ≡ None
-    → IsAt r.begin [] nothing d → Stands judges K bytes d r
-kept_stands {A} {L} {judges} K bytes d r is at none start =
+pub kept_stands : {A B L : Type 0} {Sees : B → List Pair → List ℕ → Type 0} (K : L → List Placed → Type 0) (bytes : List ℕ) (d : State) (r : Reading A L B) → IsKeptOf K bytes (r.rows, r.beside) → r.begin ≡ length bytes → r.current ≡ None
+    → IsAt r.begin [] nothing d → Stands Sees K bytes d r
+kept_stands {A} {B} {L} {Sees} K bytes d r is at none start =
     let records = is.listed.are.records in
-    let M : Option (Current A) → Type 0 = λ c. Matches judges (length bytes) [] None c in
+    let M : Option (Current A B) → Type 0 = λ c. Matches Sees (length bytes) [] None c in
     record {
       told = record { records = contents records; unclosed = None };
       is_at = at_behind 0 r.begin bytes (contents records) d (spells_all 0 records bytes is.listed.are.spelled) (omega (arith, at)) start;
@@ -128,12 +129,12 @@ kept_stands {A} {L} {judges} K bytes d r is at none start =
       };
     }
 
-pub begun : {A L : Type 0} {judges : Bool} (K : L → List Placed → Type 0) (bytes : List ℕ) (d : State) (r : Reading A L) (is : IsKeptOf K bytes (r.rows, r.beside)) → r.begin ≡ length bytes → r.current ≡ None
-    → IsAt r.begin [] nothing d → Stands judges (Since K is.listed.are.records) (bytes ++ []) d r
-begun {A} {L} {judges} K bytes d r is at none start =
+pub begun : {A B L : Type 0} {Sees : B → List Pair → List ℕ → Type 0} (K : L → List Placed → Type 0) (bytes : List ℕ) (d : State) (r : Reading A L B) (is : IsKeptOf K bytes (r.rows, r.beside)) → r.begin ≡ length bytes → r.current ≡ None
+    → IsAt r.begin [] nothing d → Stands Sees (Since K is.listed.are.records) (bytes ++ []) d r
+begun {A} {B} {L} {Sees} K bytes d r is at none start =
     let was = is.listed.are.records in
     let since : IsKeptOf (Since K was) bytes (r.rows, r.beside) = record { listed = is.listed; beside = (is.beside, extends_none was) } in
-    let P : List ℕ → Type 0 = λ t. Stands judges (Since K was) t d r in
+    let P : List ℕ → Type 0 = λ t. Stands Sees (Since K was) t d r in
     subst P (sym (append-nil bytes)) (kept_stands (Since K was) bytes d r since at none start)
 
 -- ---- what a source gives from an offset on
@@ -200,8 +201,8 @@ follows_on E start at n old mid new taken buf here size low follows goes = λ is
     (on.0 ∙ was.0, on.1 ∙ ap Some e)
 
 -- a piece was taken
-pub part_grows : {A L : Type 0} {judges : Bool} (K : L → List Placed → Type 0) (was : List Placed) (bytes taken part : List ℕ) (d : State) (r : Reading A L) → Stands judges (Since K was) ((bytes ++ taken) ++ part) d r → Stands judges (Since K was) (bytes ++ (taken ++ part)) d r
-part_grows {A} {L} {judges} K was bytes taken part d r stands = let P : List ℕ → Type 0 = λ t. Stands judges (Since K was) t d r in subst P (append_assoc bytes taken part) stands
+pub part_grows : {A B L : Type 0} {Sees : B → List Pair → List ℕ → Type 0} (K : L → List Placed → Type 0) (was : List Placed) (bytes taken part : List ℕ) (d : State) (r : Reading A L B) → Stands Sees (Since K was) ((bytes ++ taken) ++ part) d r → Stands Sees (Since K was) (bytes ++ (taken ++ part)) d r
+part_grows {A} {B} {L} {Sees} K was bytes taken part d r stands = let P : List ℕ → Type 0 = λ t. Stands Sees (Since K was) t d r in subst P (append_assoc bytes taken part) stands
 
 pub on_err : {X E P : Type 0} (r : Result X E) → P → OnErr r P
 on_err (Ok x) p = tt
@@ -228,7 +229,7 @@ whole_given start old new taken bytes more has at held = record {
 -- ---- how it ends
 
 -- the stream ends where the source does
-finished : {A L : Type 0} {judges : Bool} (K : L → List Placed → Type 0) (was : List Placed) (text : List ℕ) (told : Told) (r : Reading A L) (result : Result (Unit {0}) Fault) → HasRead judges (Since K was) text told r → Lies text told
+finished : {A B L : Type 0} {Sees : B → List Pair → List ℕ → Type 0} (K : L → List Placed → Type 0) (was : List Placed) (text : List ℕ) (told : Told) (r : Reading A L B) (result : Result (Unit {0}) Fault) → HasRead Sees (Since K was) text told r → Lies text told
     → length text ≤ max_archive → Finishes 0 text told result → MatchResult (grown result (r.rows, r.beside)) (IsKeptOf K text) (λ f. (f.kind ≡ Truncated) × IsFaultOf text f)
 finished K was text told r (Ok u) has lies short (none, spelled) =
     let kept = kept_whole text told r has spelled short in
@@ -287,8 +288,8 @@ module _ (start : ℕ) (old mid new : SeenSource) (taken : List ℕ) (has : HasG
     };
   }
 
-  module _ {A L : Type 0} {judges : Bool} (K : L → List Placed → Type 0) (was : List Row × L) (at : (bytes : List ℕ) → IsKeptOf K bytes was → start ≡ length bytes) (d : State) (r : Reading A L)
-      (stands : (bytes : List ℕ) (is : IsKeptOf K bytes was) → Stands judges (Since K is.listed.are.records) (bytes ++ taken) d r) (lies : (text : List ℕ) (told : Told) → IsAt 0 text told d → Lies text told) where
+  module _ {A B L : Type 0} {Sees : B → List Pair → List ℕ → Type 0} (K : L → List Placed → Type 0) (was : List Row × L) (at : (bytes : List ℕ) → IsKeptOf K bytes was → start ≡ length bytes) (d : State) (r : Reading A L B)
+      (stands : (bytes : List ℕ) (is : IsKeptOf K bytes was) → Stands Sees (Since K is.listed.are.records) (bytes ++ taken) d r) (lies : (text : List ℕ) (told : Told) → IsAt 0 text told d → Lies text told) where
     short_of : (bytes : List ℕ) → start ≡ length bytes → length (bytes ++ taken) ≤ max_archive
     short_of bytes here = omega (arith, size bytes here, short)
 
@@ -391,9 +392,9 @@ module _ (start : ℕ) (old mid new : SeenSource) (taken : List ℕ) (has : HasG
 
 -- ---- the front that was read
 
-module _ (start : ℕ) (old mid : SeenSource) (taken : List ℕ) (has : HasGivenFrom start old mid taken) (short : start + length taken ≤ max_archive) {A L : Type 0} {judges : Bool} (K : L → List Placed → Type 0) (was : List Row × L)
-    (at : (bytes : List ℕ) → IsKeptOf K bytes was → start ≡ length bytes) (d : State) (r : Reading A L)
-    (stands : (bytes : List ℕ) (is : IsKeptOf K bytes was) → Stands judges (Since K is.listed.are.records) (bytes ++ taken) d r) (lies : (text : List ℕ) (told : Told) → IsAt 0 text told d → Lies text told) where
+module _ (start : ℕ) (old mid : SeenSource) (taken : List ℕ) (has : HasGivenFrom start old mid taken) (short : start + length taken ≤ max_archive) {A B L : Type 0} {Sees : B → List Pair → List ℕ → Type 0} (K : L → List Placed → Type 0) (was : List Row × L)
+    (at : (bytes : List ℕ) → IsKeptOf K bytes was → start ≡ length bytes) (d : State) (r : Reading A L B)
+    (stands : (bytes : List ℕ) (is : IsKeptOf K bytes was) → Stands Sees (Since K is.listed.are.records) (bytes ++ taken) d r) (lies : (text : List ℕ) (told : Told) → IsAt 0 text told d → Lies text told) where
   -- what was read is a front of less than one more record
   cut_there : (bytes : List ℕ) → IsKeptOf K bytes was → IsLongestFront (bytes ++ taken) r.rows
   cut_there bytes is = let s = stands bytes is in longest_cut (bytes ++ taken) s.told r s.has r.rows refl (omega (arith, at bytes is, short, length-append bytes taken)) (lies (bytes ++ taken) s.told s.is_at)

@@ -3,6 +3,7 @@ use Rattle.std.proofs.Common.{◌≡◌, ◌≢◌, ℕ, ◌+◌, ◌-◌, ◌^�
 use Rattle.std.proofs.Math.Nat.{min-le_left}
 use Rattle.std.proofs.Math.Seq.{drop-append_seam}
 use Rattle.std.proofs.lemmas.List.{append_assoc, append-nil, length-take, take-append-drop}
+use Rattle.warc_field.specs.Area.{Pair}
 use Rattle.warc_frame.specs.Count.{raised}
 use Rattle.warc_frame.specs.Faults.{within_limit}
 use Rattle.warc_frame.specs.Record.{max_archive}
@@ -27,7 +28,7 @@ use Rattle.warc_reading.proofs.SourceLemmas.{not_raised, raised_by_one}
 use Rattle.warc_reading.proofs.StreamLemmas.{accepts_told, same_front}
 
 -- a text of which good records lie in front, and behind them less than one
-cut_by : {A L : Type 0} {judges : Bool} {K : L → List Placed → Type 0} (text : List ℕ) (told : Told) (r : Reading A L) (lies : Lies text told) (rest : List ℕ) → lies.rest ≡ rest → HasRead judges K text told r → length text ≤ max_archive
+cut_by : {A B L : Type 0} {Sees : B → List Pair → List ℕ → Type 0} {K : L → List Placed → Type 0} (text : List ℕ) (told : Told) (r : Reading A L B) (lies : Lies text told) (rest : List ℕ) → lies.rest ≡ rest → HasRead Sees K text told r → length text ≤ max_archive
     → (f : Fault) → IsFaultOf text f → f.kind ≡ Truncated
 cut_by text told r lies [] none has short f is =
     let whole : lies.front ≡ text = sym (append-nil lies.front) ∙ ap (λ l. lies.front ++ l) (sym none) ∙ sym lies.text_is in
@@ -37,11 +38,11 @@ cut_by text told r lies (b ∷ bs) some has short f is =
     let cut = truncated head_fault 0 text told (omega arith) (accepts_told text told r has) lies (λ (none : lies.rest ≡ []). let e : b ∷ bs ≡ [] = sym some ∙ none in cc e) in
     ap (λ (g : Fault). g.kind) (first_fault_is_unique head_fault 0 text f (fault Truncated (0 + length text)) is cut)
 
-pub only_cut : {A L : Type 0} {judges : Bool} {K : L → List Placed → Type 0} (text : List ℕ) (told : Told) (r : Reading A L) → Lies text told → HasRead judges K text told r → length text ≤ max_archive → IsOnlyCut text
+pub only_cut : {A B L : Type 0} {Sees : B → List Pair → List ℕ → Type 0} {K : L → List Placed → Type 0} (text : List ℕ) (told : Told) (r : Reading A L B) → Lies text told → HasRead Sees K text told r → length text ≤ max_archive → IsOnlyCut text
 only_cut text told r lies has short = cut_by text told r lies lies.rest refl has short
 
 -- what comes after the records that were reported is less than one
-rest_cut : {A L : Type 0} {judges : Bool} {K : L → List Placed → Type 0} (text : List ℕ) (told : Told) (r : Reading A L) → Lies text told → HasRead judges K text told r → IsCut (drop r.begin text)
+rest_cut : {A B L : Type 0} {Sees : B → List Pair → List ℕ → Type 0} {K : L → List Placed → Type 0} (text : List ℕ) (told : Told) (r : Reading A L B) → Lies text told → HasRead Sees K text told r → IsCut (drop r.begin text)
 rest_cut text told r lies has =
     let (same, rest) = same_front text [] lies.front lies.rest told r has (append-nil text ∙ lies.text_is) lies.spelled in
     let at : drop r.begin text ≡ lies.rest = ap (λ n. drop n text) (has.begin_is ∙ ap length same) ∙ ap (drop (length lies.front)) lies.text_is ∙ drop-append_seam lies.front lies.rest in
@@ -49,7 +50,7 @@ rest_cut text told r lies has =
     subst P (sym at) lies.cut
 
 -- so no whole record lies between the one that is being read and the end of the text, or one that begins later
-pub cut_since : {A L : Type 0} {judges : Bool} {K : L → List Placed → Type 0} (text : List ℕ) (told : Told) (r : Reading A L) (offset : ℕ) → Lies text told → HasRead judges K text told r → BeginsSince text r.begin offset → offset < length text
+pub cut_since : {A B L : Type 0} {Sees : B → List Pair → List ℕ → Type 0} {K : L → List Placed → Type 0} (text : List ℕ) (told : Told) (r : Reading A L B) (offset : ℕ) → Lies text told → HasRead Sees K text told r → BeginsSince text r.begin offset → offset < length text
     → IsCut (drop offset text)
 cut_since text told r offset lies has (inl same) before =
     let P : ℕ → Type 0 = λ n. IsCut (drop n text) in
@@ -70,10 +71,10 @@ wants_before text done rest piece begin mid f whole first wants = λ memory.
     (begins_behind text done begin mid f.offset first since, omega (arith, before, size))
 
 -- the record that is being read begins in the text
-pub begins_within : {A L : Type 0} {judges : Bool} {K : L → List Placed → Type 0} (text piece : List ℕ) (told : Told) (r : Reading A L) → HasRead judges K text told r → 0 < length piece → r.begin < length (text ++ piece)
+pub begins_within : {A B L : Type 0} {Sees : B → List Pair → List ℕ → Type 0} {K : L → List Placed → Type 0} (text piece : List ℕ) (told : Told) (r : Reading A L B) → HasRead Sees K text told r → 0 < length piece → r.begin < length (text ++ piece)
 begins_within text piece told r has some = omega (arith, has.begin_is, ap length has.text_is, length-append has.front has.rest, length-append text piece)
 
-wants_by : {A L : Type 0} {judges : Bool} {K : L → List Placed → Type 0} (kind : FaultKind) (offset : ℕ) (text piece : List ℕ) (told : Told) (r : Reading A L) → HasRead judges K text told r → 0 < length piece
+wants_by : {A B L : Type 0} {Sees : B → List Pair → List ℕ → Type 0} {K : L → List Placed → Type 0} (kind : FaultKind) (offset : ℕ) (text piece : List ℕ) (told : Told) (r : Reading A L B) → HasRead Sees K text told r → 0 < length piece
     → RefusesAs kind 0 (text ++ piece) told (fault kind offset) → kind ≡ Memory → BeginsSince text r.begin offset × (offset < length (text ++ piece))
 unfolding within_limit
 wants_by Memory offset text piece told r has some is memory =
@@ -86,7 +87,7 @@ wants_by Memory offset text piece told r has some is memory =
 wants_by kind offset text piece told r has some is memory = cc memory
 
 -- memory was wanted by the decoder
-pub step_wants : {A L : Type 0} {judges : Bool} {K : L → List Placed → Type 0} (text piece : List ℕ) (told : Told) (r : Reading A L) (f : Fault) → HasRead judges K text told r → 0 < length piece → Refuses 0 (text ++ piece) told f
+pub step_wants : {A B L : Type 0} {Sees : B → List Pair → List ℕ → Type 0} {K : L → List Placed → Type 0} (text piece : List ℕ) (told : Told) (r : Reading A L B) (f : Fault) → HasRead Sees K text told r → 0 < length piece → Refuses 0 (text ++ piece) told f
     → WantsSince text piece r.begin f
 step_wants text piece told r f has some is = λ memory. wants_by f.kind f.offset text piece told r has some is memory
 
@@ -117,7 +118,7 @@ module _ (start : ℕ) (old mid new : SeenSource) (text : List ℕ) (has : HasGi
   cost bytes held = omega (arith, has.cost, read.counted, raised_by_one mid.reads, low bytes held)
 
   -- a read failed
-  pub opens_unread : {X A L : Type 0} {Is : List ℕ → X → Type 0} {judges : Bool} {K : L → List Placed → Type 0} (told : Told) (r : Reading A L) → failed ≡ true → Lies text told → HasRead judges K text told r → OpensFrom start Is old new (Err (fault Read (length text)))
+  pub opens_unread : {X A B L : Type 0} {Is : List ℕ → X → Type 0} {Sees : B → List Pair → List ℕ → Type 0} {K : L → List Placed → Type 0} (told : Told) (r : Reading A L B) → failed ≡ true → Lies text told → HasRead Sees K text told r → OpensFrom start Is old new (Err (fault Read (length text)))
   opens_unread told r fails lies kept = record {
     accepted = λ bytes held. tt;
     some = tt;
@@ -166,7 +167,7 @@ module _ (start : ℕ) (old mid new : SeenSource) (text : List ℕ) (has : HasGi
   refusal_by kind offset bytes is unkept = is
 
   -- a piece was refused
-  pub opens_refused : {X A L : Type 0} {Is : List ℕ → X → Type 0} {judges : Bool} {K : L → List Placed → Type 0} (told : Told) (r : Reading A L) (part : List ℕ) (n : ℕ) (f : Fault) → failed ≡ false → Lies text told → HasRead judges K text told r
+  pub opens_refused : {X A B L : Type 0} {Is : List ℕ → X → Type 0} {Sees : B → List Pair → List ℕ → Type 0} {K : L → List Placed → Type 0} (told : Told) (r : Reading A L B) (part : List ℕ) (n : ℕ) (f : Fault) → failed ≡ false → Lies text told → HasRead Sees K text told r
       → ((bytes : List ℕ) → old.holds ≡ Some bytes → text ++ part ≡ take n bytes) → StaysRefused (text ++ part) f → WantsSince text part r.begin f → OpensFrom start Is old new (Err f)
   opens_refused told r part n f well lies kept front stays wants =
       by_bytes f well (stays_not_read (text ++ part) f stays) (λ bytes held.

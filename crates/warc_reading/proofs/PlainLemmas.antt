@@ -2,6 +2,7 @@
 use Rattle.std.proofs.Common.{◌≡◌, ℕ, ◌+◌, ◌≤◌, Bool, true, false, List, [], ◌∷◌, ◌++◌, length, take, Option, Some, None, Result, Ok, Err, OnErr, OnOk, is_err, refl, sym, ap, subst, ◌∙◌, arith, length-append}
 use Rattle.std.specs.Prelude.{unwrap_or}
 use Rattle.std.proofs.lemmas.List.{append_assoc, append-nil, length-map, length-take-le, map-append}
+use Rattle.warc_field.specs.Area.{Pair}
 use Rattle.warc_frame.specs.Decoding.{Finishes, IsAt, State}
 use Rattle.warc_frame.specs.Faults.{AllAccepted}
 use Rattle.warc_frame.specs.Record.{Record, max_archive}
@@ -64,10 +65,10 @@ kept_more K text last rows l m p is one good offset start short keeps =
     }
 
 -- no record is being read
-none_open : {A : Type 0} (judges : Bool) (begin : ℕ) (rest : List ℕ) (o : Option Unclosed) (c : Option (Current A)) → o ≡ None → Matches judges begin rest o c → c ≡ None
-none_open judges begin rest None None none m = refl
-none_open judges begin rest None (Some c) none m = absurd m
-none_open judges begin rest (Some u) c none m = cc none
+none_open : {A B : Type 0} (Sees : B → List Pair → List ℕ → Type 0) (begin : ℕ) (rest : List ℕ) (o : Option Unclosed) (c : Option (Current A B)) → o ≡ None → Matches Sees begin rest o c → c ≡ None
+none_open Sees begin rest None None none m = refl
+none_open Sees begin rest None (Some c) none m = absurd m
+none_open Sees begin rest (Some u) c none m = cc none
 
 -- where a record is whose head has this length
 abbrev pub placed_at : ℕ → ℕ → Record → Placed
@@ -93,8 +94,8 @@ pub next_plain : (at : ℕ) (piece : List ℕ) (found : QuickRecord) (is : IsQui
 next_plain at piece found is start start_is =
     record { says = is.says; start_is = start_is; len_is = is.block; block_is = is.block_is; reads = is.reads }
 
-module _ {A L : Type 0} {judges : Bool} (K : L → List Placed → Type 0) (text piece : List ℕ) (d after : State) (old new : Reading A L) (found : QuickRecord)
-    (stands : Stands judges K text d old) (is : IsQuickRecord piece found) (between : IsBetween d) (limit : d.position + found.len ≤ max_archive) where
+module _ {A B L : Type 0} {Sees : B → List Pair → List ℕ → Type 0} (K : L → List Placed → Type 0) (text piece : List ℕ) (d after : State) (old new : Reading A L B) (found : QuickRecord)
+    (stands : Stands Sees K text d old) (is : IsQuickRecord piece found) (between : IsBetween d) (limit : d.position + found.len ≤ max_archive) where
   here : d.position ≡ length text
   here = omega (arith, stands.is_at.position_is)
 
@@ -110,11 +111,11 @@ module _ {A L : Type 0} {judges : Bool} (K : L → List Placed → Type 0) (text
 
   -- no other record is being read
   pub plain_alone : old.current ≡ None
-  plain_alone = none_open judges (length stands.has.front) stands.has.rest stands.told.unclosed old.current (between 0 text stands.told stands.is_at).0 stands.has.current
+  plain_alone = none_open Sees (length stands.has.front) stands.has.rest stands.told.unclosed old.current (between 0 text stands.told stands.is_at).0 stands.has.current
 
   pub plain_stands : (start : ℕ) → start ≡ d.position + found.head.len → new.rows ≡ old.rows ++ plain_row d.position start found.head ∷ [] → new.begin ≡ d.position + found.len → new.current ≡ old.current
       → ((records : List Placed) (p : Placed) → K old.beside records → length old.rows ≡ length records → IsNextPlain p found start → K new.beside (records ++ p ∷ []))
-      → IsAt (d.position + found.len) [] nothing after → Stands judges K (text ++ take found.len piece) after new
+      → IsAt (d.position + found.len) [] nothing after → Stands Sees K (text ++ take found.len piece) after new
   plain_stands start start_is rows begin current keeps anew =
       let p : Placed = placed_at d.position found.head.len is.content in
       let next : IsNextPlain p found start = next_plain d.position piece found is start start_is in

@@ -1,5 +1,5 @@
 -- Why bytes are refused while they are read.
-use Rattle.std.proofs.Common.{◌≡◌, ◌≢◌, ℕ, ◌+◌, ◌-◌, ◌≤◌, Bool, true, true≢false, List, ◌++◌, length, drop, Some, None, refl, sym, ap, subst, ◌∙◌, arith}
+use Rattle.std.proofs.Common.{◌≡◌, ◌≢◌, ℕ, ◌+◌, ◌-◌, ◌≤◌, true, true≢false, List, ◌++◌, length, drop, Some, None, refl, sym, ap, subst, ◌∙◌, arith}
 use Rattle.std.proofs.lemmas.List.{append_assoc, take-append-drop}
 use Rattle.warc_field.specs.Area.{Pair}
 use Rattle.warc_frame.specs.Faults.{AllAccepted, within_limit}
@@ -72,11 +72,11 @@ step_by Truncated offset text told accepts is = absurd (is.settled refl)
 step_by kind offset text told accepts is = judged_refuted head_fault 0 text told (fault kind offset) is accepts
 
 -- a step of the decoder failed
-pub step_refused : {A L : Type 0} {judges : Bool} {K : L → List Placed → Type 0} (text piece : List ℕ) (told : Told) (r : Reading A L) (f : Fault) → HasRead judges K text told r → Refuses 0 (text ++ piece) told f → StaysRefused (text ++ piece) f
+pub step_refused : {A B L : Type 0} {Sees : B → List Pair → List ℕ → Type 0} {K : L → List Placed → Type 0} (text piece : List ℕ) (told : Told) (r : Reading A L B) (f : Fault) → HasRead Sees K text told r → Refuses 0 (text ++ piece) told f → StaysRefused (text ++ piece) f
 step_refused text piece told r f has is = step_by f.kind f.offset (text ++ piece) told (accepts_told text told r has) is
 
 -- memory was wanted for a record that was being read
-pub memory_at : {A L : Type 0} {judges : Bool} {K : L → List Placed → Type 0} (text more : List ℕ) (told : Told) (r : Reading A L) → HasRead judges K text told r → IsRecordEnd (text ++ more) r.begin
+pub memory_at : {A B L : Type 0} {Sees : B → List Pair → List ℕ → Type 0} {K : L → List Placed → Type 0} (text more : List ℕ) (told : Told) (r : Reading A L B) → HasRead Sees K text told r → IsRecordEnd (text ++ more) r.begin
 memory_at text more told r has =
     let P : List Record → Type 0 = λ rs. SpellsAll rs has.front in
     let spelled = subst P (sym has.told_is) (spells_all 0 has.records has.front has.spelled) in
@@ -97,7 +97,7 @@ head_by Truncated text f offset of is = absurd (true≢false (sym of))
 head_by kind text f offset of is = is
 
 -- a head is refused
-pub head_refused : {A L : Type 0} {judges : Bool} {K : L → List Placed → Type 0} (text more : List ℕ) (rs : List Record) (u : Unclosed) (r : Reading A L) (kind : FaultKind) → HasRead judges K text (record { records = rs; unclosed = None }) r
+pub head_refused : {A B L : Type 0} {Sees : B → List Pair → List ℕ → Type 0} {K : L → List Placed → Type 0} (text more : List ℕ) (rs : List Record) (u : Unclosed) (r : Reading A L B) (kind : FaultKind) → HasRead Sees K text (record { records = rs; unclosed = None }) r
     → IsExact (text ++ more) (record { records = rs; unclosed = Some u }) → head_fault u.fields ≡ Some kind → length (text ++ more) ≤ max_archive
     → StaysBy kind (text ++ more) (fault kind r.begin)
 head_refused text more rs u r kind has exact is short =

@@ -1,7 +1,7 @@
 -- What is kept of a stream stands for the bytes that were taken.
-use Rattle.std.proofs.Common.{◌≡◌, Bool, ℕ, ◌+◌, ◌≤◌, List, [], ◌∷◌, ◌++◌, length, map, Option, Some, None, Result, Ok, Err, IsSome, refl, sym, ap, subst, ◌∙◌, arith, length-append}
+use Rattle.std.proofs.Common.{◌≡◌, ℕ, ◌+◌, ◌≤◌, List, [], ◌∷◌, ◌++◌, length, map, Option, Some, None, Result, Ok, Err, IsSome, refl, sym, ap, subst, ◌∙◌, arith, length-append}
 use Rattle.std.proofs.lemmas.List.{append_assoc, append-nil, append_cancel_left, length-map, map-append}
-use Rattle.warc_value.specs.Digests.{verdict_of}
+use Rattle.warc_field.specs.Area.{Pair}
 use Rattle.warc_frame.specs.Faults.{AllAccepted}
 use Rattle.warc_frame.specs.Reading.{◌>>=◌, Head, any_fields, block_at, head_of, record_of}
 use Rattle.warc_frame.specs.Record.{Record, max_archive}
@@ -13,7 +13,7 @@ use Rattle.warc_record.specs.Heads.{head_fault}
 use Rattle.warc_reading.specs.Archive.{SpellsFrom, contents}
 use Rattle.warc_reading.specs.Judging.{IsNextOf}
 use Rattle.warc_reading.specs.Row.{Placed, row_of}
-use Rattle.warc_reading.specs.Stream.{HasRead, HasSeen, IsCurrent, IsHead, IsKeptOf, Matches, row_by}
+use Rattle.warc_reading.specs.Stream.{HasRead, IsCurrent, IsHead, IsKeptOf, Matches, row_by}
 use Rattle.warc_reading.proofs.GoodLemmas.{are_good}
 use Rattle.warc_reading.specs.declared.reading.Current.{Current}
 use Rattle.warc_reading.specs.declared.reading.Reading.{Reading}
@@ -79,20 +79,20 @@ record_len r t head s is =
     by_head (head_of any_fields t) head t r (length t) is read
 
 -- what is kept accepts every head that was reported
-pub accepts : {A : Type 0} (judges : Bool) (begin : ℕ) (rest : List ℕ) (o : Option Unclosed) (c : Option (Current A)) → Matches judges begin rest o c → AcceptsOpen head_fault o
-accepts judges begin rest None c m = tt
-accepts judges begin rest (Some u) None m = absurd m
-accepts judges begin rest (Some u) (Some c) m = m.of.good
+pub accepts : {A B : Type 0} (Sees : B → List Pair → List ℕ → Type 0) (begin : ℕ) (rest : List ℕ) (o : Option Unclosed) (c : Option (Current A B)) → Matches Sees begin rest o c → AcceptsOpen head_fault o
+accepts Sees begin rest None c m = tt
+accepts Sees begin rest (Some u) None m = absurd m
+accepts Sees begin rest (Some u) (Some c) m = m.of.good
 
-pub accepts_told : {A L : Type 0} {judges : Bool} {K : L → List Placed → Type 0} (text : List ℕ) (told : Told) (r : Reading A L) → HasRead judges K text told r → AcceptsTold head_fault told
-accepts_told {A} {L} {judges} text told r has = (has.good, accepts judges (length has.front) has.rest told.unclosed r.current has.current)
+pub accepts_told : {A B L : Type 0} {Sees : B → List Pair → List ℕ → Type 0} {K : L → List Placed → Type 0} (text : List ℕ) (told : Told) (r : Reading A L B) → HasRead Sees K text told r → AcceptsTold head_fault told
+accepts_told {A} {B} {L} {Sees} text told r has = (has.good, accepts Sees (length has.front) has.rest told.unclosed r.current has.current)
 
 -- bytes were taken, and nothing was reported
-matches_more : {A : Type 0} (judges : Bool) (begin : ℕ) (rest more : List ℕ) (o : Option Unclosed) (c : Option (Current A)) → Matches judges begin rest o c → Matches judges begin (rest ++ more) o c
-matches_more judges begin rest more None None m = tt
-matches_more judges begin rest more None (Some c) m = absurd m
-matches_more judges begin rest more (Some u) None m = absurd m
-matches_more judges begin rest more (Some u) (Some c) m = record {
+matches_more : {A B : Type 0} (Sees : B → List Pair → List ℕ → Type 0) (begin : ℕ) (rest more : List ℕ) (o : Option Unclosed) (c : Option (Current A B)) → Matches Sees begin rest o c → Matches Sees begin (rest ++ more) o c
+matches_more Sees begin rest more None None m = tt
+matches_more Sees begin rest more None (Some c) m = absurd m
+matches_more Sees begin rest more (Some u) None m = absurd m
+matches_more Sees begin rest more (Some u) (Some c) m = record {
   head = m.head;
   tail = m.tail ++ more;
   rest_is = ap (λ t. t ++ more) m.rest_is ∙ append_assoc m.head m.tail more;
@@ -103,8 +103,8 @@ matches_more judges begin rest more (Some u) (Some c) m = record {
   seen = m.seen;
 }
 
-pub more_kept : {A L : Type 0} {judges : Bool} {K : L → List Placed → Type 0} (text more : List ℕ) (told : Told) (r : Reading A L) → HasRead judges K text told r → HasRead judges K (text ++ more) told r
-more_kept {A} {L} {judges} text more told r has = record {
+pub more_kept : {A B L : Type 0} {Sees : B → List Pair → List ℕ → Type 0} {K : L → List Placed → Type 0} (text more : List ℕ) (told : Told) (r : Reading A L B) → HasRead Sees K text told r → HasRead Sees K (text ++ more) told r
+more_kept {A} {B} {L} {Sees} text more told r has = record {
   records = has.records;
   front = has.front;
   rest = has.rest ++ more;
@@ -115,11 +115,11 @@ more_kept {A} {L} {judges} text more told r has = record {
   rows_are = has.rows_are;
   beside = has.beside;
   begin_is = has.begin_is;
-  current = matches_more judges (length has.front) has.rest more told.unclosed r.current has.current;
+  current = matches_more Sees (length has.front) has.rest more told.unclosed r.current has.current;
 }
 
 -- the front of the records that were told is the same in each view of the bytes
-pub same_front : {A L : Type 0} {judges : Bool} {K : L → List Placed → Type 0} (text more front rest : List ℕ) (told : Told) (r : Reading A L) (has : HasRead judges K text told r) → text ++ more ≡ front ++ rest
+pub same_front : {A B L : Type 0} {Sees : B → List Pair → List ℕ → Type 0} {K : L → List Placed → Type 0} (text more front rest : List ℕ) (told : Told) (r : Reading A L B) (has : HasRead Sees K text told r) → text ++ more ≡ front ++ rest
     → SpellsAll told.records front → (has.front ≡ front) × (has.rest ++ more ≡ rest)
 same_front text more front rest told r has is spelled =
     let P : List Record → Type 0 = λ rs. SpellsAll rs has.front in
@@ -129,17 +129,17 @@ same_front text more front rest told r has is spelled =
     (same, append_cancel_left front (has.rest ++ more) rest (ap (λ f. f ++ (has.rest ++ more)) (sym same) ∙ whole))
 
 -- a head was reported, and it is good
-pub head_kept : {A L : Type 0} {judges : Bool} {K : L → List Placed → Type 0} (text more : List ℕ) (rs : List Record) (u : Unclosed) (old new : Reading A L) (c : Current A) → HasRead judges K text (record { records = rs; unclosed = None }) old
+pub head_kept : {A B L : Type 0} {Sees : B → List Pair → List ℕ → Type 0} {K : L → List Placed → Type 0} (text more : List ℕ) (rs : List Record) (u : Unclosed) (old new : Reading A L B) (c : Current A B) → HasRead Sees K text (record { records = rs; unclosed = None }) old
     → IsExact (text ++ more) (record { records = rs; unclosed = Some u }) → u.bytes ≡ [] → new.rows ≡ old.rows → new.beside ≡ old.beside → new.begin ≡ old.begin → new.current ≡ Some c
-    → IsHead judges u.fields c → HasSeen c.digest [] → c.block_start ≡ length (text ++ more) → c.block_len ≡ u.block_len
-    → HasRead judges K (text ++ more) (record { records = rs; unclosed = Some u }) new
-head_kept {A} {L} {judges} {K} text more rs u old new c has exact none rows beside begin current of seen start len =
+    → IsHead u.fields c → Sees c.block u.fields [] → c.block_start ≡ length (text ++ more) → c.block_len ≡ u.block_len
+    → HasRead Sees K (text ++ more) (record { records = rs; unclosed = Some u }) new
+head_kept {A} {B} {L} {Sees} {K} text more rs u old new c has exact none rows beside begin current of seen start len =
     let (head, head_is, rest_is) = exact.ends in
     let (front, rest) = same_front text more exact.front exact.rest (record { records = rs; unclosed = None }) old has exact.text_is exact.spelled in
-    let S : List ℕ → Type 0 = λ bytes. HasSeen c.digest bytes in
+    let S : List ℕ → Type 0 = λ bytes. Sees c.block u.fields bytes in
     let whole : exact.rest ≡ head = rest_is ∙ ap (λ b. head ++ b) none ∙ append-nil head in
     let size : length (text ++ more) ≡ length has.front + length head = ap length (exact.text_is ∙ ap (λ f. f ++ exact.rest) (sym front)) ∙ length-append has.front exact.rest ∙ ap (λ t. length has.front + length t) whole in
-    let is : IsCurrent judges (length has.front) exact.rest u c = record {
+    let is : IsCurrent Sees (length has.front) exact.rest u c = record {
       head = head;
       tail = [];
       rest_is = whole ∙ sym (append-nil head);
@@ -149,7 +149,7 @@ head_kept {A} {L} {judges} {K} text more rs u old new c has exact none rows besi
       len = len;
       seen = subst S (sym none) seen;
     } in
-    let M : Option (Current A) → Type 0 = λ k. Matches judges (length has.front) exact.rest (Some u) k in
+    let M : Option (Current A B) → Type 0 = λ k. Matches Sees (length has.front) exact.rest (Some u) k in
     let B : L → Type 0 = λ l. K l has.records in
     record {
       records = has.records;
@@ -166,18 +166,18 @@ head_kept {A} {L} {judges} {K} text more rs u old new c has exact none rows besi
     }
 
 -- bytes of a block were told
-abbrev pub TakesPart : {A : Type 0} → List ℕ → Option (Current A) → Option (Current A) → Type 0
-TakesPart {A} part old new = (c : Current A) → old ≡ Some c → (d : Current A) × (new ≡ Some d)
-    × (d.head ≡ c.head) × (d.block_start ≡ c.block_start) × (d.block_len ≡ c.block_len) × (d.digest.wanted ≡ c.digest.wanted)
-    × ((bytes : List ℕ) → HasSeen c.digest bytes → HasSeen d.digest (bytes ++ part))
+abbrev pub TakesPart : {A B : Type 0} → (B → List Pair → List ℕ → Type 0) → List ℕ → Option (Current A B) → Option (Current A B) → Type 0
+TakesPart {A} {B} Sees part old new = (c : Current A B) → old ≡ Some c → (d : Current A B) × (new ≡ Some d)
+    × (d.head ≡ c.head) × (d.block_start ≡ c.block_start) × (d.block_len ≡ c.block_len)
+    × ((fields : List Pair) (bytes : List ℕ) → Sees c.block fields bytes → Sees d.block fields (bytes ++ part))
 
-matches_part : {A : Type 0} (judges : Bool) (begin : ℕ) (rest more part : List ℕ) (o : Option Unclosed) (old new : Option (Current A)) → IsSome o → Matches judges begin rest o old → TakesPart part old new
-    → Matches judges begin (rest ++ more) (with_bytes o part) new
-matches_part judges begin rest more part None old new some m takes = cc some
-matches_part judges begin rest more part (Some u) None new some m takes = absurd m
-matches_part {A} judges begin rest more part (Some u) (Some c) new some m takes =
-    let (d, new_is, fields, start, len, wanted, seen) = takes c refl in
-    let is : IsCurrent judges begin (rest ++ more) (record { version = u.version; fields = u.fields; block_len = u.block_len; bytes = u.bytes ++ part }) d = record {
+matches_part : {A B : Type 0} (Sees : B → List Pair → List ℕ → Type 0) (begin : ℕ) (rest more part : List ℕ) (o : Option Unclosed) (old new : Option (Current A B)) → IsSome o → Matches Sees begin rest o old → TakesPart Sees part old new
+    → Matches Sees begin (rest ++ more) (with_bytes o part) new
+matches_part Sees begin rest more part None old new some m takes = cc some
+matches_part Sees begin rest more part (Some u) None new some m takes = absurd m
+matches_part {A} {B} Sees begin rest more part (Some u) (Some c) new some m takes =
+    let (d, new_is, fields, start, len, seen) = takes c refl in
+    let is : IsCurrent Sees begin (rest ++ more) (record { version = u.version; fields = u.fields; block_len = u.block_len; bytes = u.bytes ++ part }) d = record {
       head = m.head;
       tail = m.tail ++ more;
       rest_is = ap (λ t. t ++ more) m.rest_is ∙ append_assoc m.head m.tail more;
@@ -185,19 +185,18 @@ matches_part {A} judges begin rest more part (Some u) (Some c) new some m takes 
       of = record {
         good = m.of.good;
         fields_are = fields ∙ m.of.fields_are;
-        wanted = wanted ∙ m.of.wanted;
       };
       start = start ∙ m.start;
       len = len ∙ m.len;
-      seen = seen u.bytes m.seen;
+      seen = seen u.fields u.bytes m.seen;
     } in
-    let M : Option (Current A) → Type 0 = λ k. Matches judges begin (rest ++ more) (with_bytes (Some u) part) k in
+    let M : Option (Current A B) → Type 0 = λ k. Matches Sees begin (rest ++ more) (with_bytes (Some u) part) k in
     subst M (sym new_is) is
 
-pub part_kept : {A L : Type 0} {judges : Bool} {K : L → List Placed → Type 0} (text more part : List ℕ) (told : Told) (old new : Reading A L) → HasRead judges K text told old → IsSome told.unclosed → new.rows ≡ old.rows
-    → new.beside ≡ old.beside → new.begin ≡ old.begin → TakesPart part old.current new.current
-    → HasRead judges K (text ++ more) (record { records = told.records; unclosed = with_bytes told.unclosed part }) new
-part_kept {A} {L} {judges} {K} text more part told old new has some rows beside begin takes = record {
+pub part_kept : {A B L : Type 0} {Sees : B → List Pair → List ℕ → Type 0} {K : L → List Placed → Type 0} (text more part : List ℕ) (told : Told) (old new : Reading A L B) → HasRead Sees K text told old → IsSome told.unclosed → new.rows ≡ old.rows
+    → new.beside ≡ old.beside → new.begin ≡ old.begin → TakesPart Sees part old.current new.current
+    → HasRead Sees K (text ++ more) (record { records = told.records; unclosed = with_bytes told.unclosed part }) new
+part_kept {A} {B} {L} {Sees} {K} text more part told old new has some rows beside begin takes = record {
   records = has.records;
   front = has.front;
   rest = has.rest ++ more;
@@ -208,22 +207,22 @@ part_kept {A} {L} {judges} {K} text more part told old new has some rows beside 
   rows_are = rows ∙ has.rows_are;
   beside = (let B : L → Type 0 = λ l. K l has.records in subst B (sym beside) has.beside);
   begin_is = begin ∙ has.begin_is;
-  current = matches_part judges (length has.front) has.rest more part told.unclosed old.current new.current some has.current takes;
+  current = matches_part Sees (length has.front) has.rest more part told.unclosed old.current new.current some has.current takes;
 }
 
 -- the row that is kept of a record is its row
-row_is : {A : Type 0} {judges : Bool} (p : Placed) (begin : ℕ) (c : Current A) → begin ≡ p.offset → c.block_start ≡ p.block_start → c.block_len ≡ length p.content.block
-    → IsHead judges p.content.fields c → row_by begin c ≡ row_of p
+row_is : {A B : Type 0} (p : Placed) (begin : ℕ) (c : Current A B) → begin ≡ p.offset → c.block_start ≡ p.block_start → c.block_len ≡ length p.content.block
+    → IsHead p.content.fields c → row_by begin c ≡ row_of p
 row_is p begin c offset start len of =
     rw (offset, start, len, of.fields_are) refl
 
 -- the end of a record was reported
-pub end_kept_by : {A L : Type 0} {judges : Bool} {K : L → List Placed → Type 0} (text more : List ℕ) (rs : List Record) (u : Unclosed) (old new : Reading A L) (c : Current A) (has : HasRead judges K text (record { records = rs; unclosed = Some u }) old)
-    → IsCurrent judges (length has.front) has.rest u c → length u.bytes ≡ u.block_len → IsExact (text ++ more) (record { records = rs ++ record { version = u.version; fields = u.fields; block = u.bytes } ∷ []; unclosed = None })
+pub end_kept_by : {A B L : Type 0} {Sees : B → List Pair → List ℕ → Type 0} {K : L → List Placed → Type 0} (text more : List ℕ) (rs : List Record) (u : Unclosed) (old new : Reading A L B) (c : Current A B) (has : HasRead Sees K text (record { records = rs; unclosed = Some u }) old)
+    → IsCurrent Sees (length has.front) has.rest u c → length u.bytes ≡ u.block_len → IsExact (text ++ more) (record { records = rs ++ record { version = u.version; fields = u.fields; block = u.bytes } ∷ []; unclosed = None })
     → new.begin ≡ length (text ++ more) → new.current ≡ None → new.rows ≡ old.rows ++ row_by old.begin c ∷ []
-    → ((records : List Placed) (p : Placed) → K old.beside records → length old.rows ≡ length records → IsNextOf judges p c.head c.block_start c.block_len (verdict_of c.digest.wanted u.bytes) → K new.beside (records ++ p ∷ []))
-    → HasRead judges K (text ++ more) (record { records = rs ++ record { version = u.version; fields = u.fields; block = u.bytes } ∷ []; unclosed = None }) new
-end_kept_by {A} {L} {judges} {K} text more rs u old new c has is whole exact begin current rows keeps =
+    → ((records : List Placed) (p : Placed) → K old.beside records → length old.rows ≡ length records → IsNextOf p c.head c.block_start c.block_len → Sees c.block c.head p.content.block → K new.beside (records ++ p ∷ []))
+    → HasRead Sees K (text ++ more) (record { records = rs ++ record { version = u.version; fields = u.fields; block = u.bytes } ∷ []; unclosed = None }) new
+end_kept_by {A} {B} {L} {Sees} {K} text more rs u old new c has is whole exact begin current rows keeps =
     let r : Record = record { version = u.version; fields = u.fields; block = u.bytes } in
     let told : Told = record { records = rs; unclosed = Some u } in
     let (front, last, all, one, exact_is) = split_last rs r exact.front exact.spelled in
@@ -237,14 +236,15 @@ end_kept_by {A} {L} {judges} {K} text more rs u old new c has is whole exact beg
     let whole_is : text ++ more ≡ has.front ++ last = text_is ∙ ap (λ f. f ++ last) (sym same) in
     let count : length (text ++ more) ≡ length has.front + length last = ap length whole_is ∙ length-append has.front last in
     let row : row_by old.begin c ≡ row_of p = row_is p old.begin c has.begin_is refl (is.len ∙ sym whole) is.of in
-    let next : IsNextOf judges p c.head c.block_start c.block_len (verdict_of c.digest.wanted u.bytes) = record {
+    let next : IsNextOf p c.head c.block_start c.block_len = record {
       fields_are = is.of.fields_are;
       good = is.of.good;
       start_is = refl;
       len_is = is.len ∙ sym whole;
-      verdict_is = ap (λ w. verdict_of w u.bytes) is.of.wanted;
     } in
-    let M : Option (Current A) → Type 0 = λ k. Matches judges (length (has.front ++ last)) [] None k in
+    let S : List Pair → Type 0 = λ fields. Sees c.block fields u.bytes in
+    let seen : Sees c.block c.head u.bytes = subst S (sym is.of.fields_are) is.seen in
+    let M : Option (Current A B) → Type 0 = λ k. Matches Sees (length (has.front ++ last)) [] None k in
     record {
       records = has.records ++ p ∷ [];
       front = has.front ++ last;
@@ -254,13 +254,13 @@ end_kept_by {A} {L} {judges} {K} text more rs u old new c has is whole exact beg
       told_is = ap (λ l. l ++ r ∷ []) has.told_is ∙ sym (map-append (λ (x : Placed). x.content) has.records (p ∷ []));
       good = accepted_more rs r has.good is.of.good;
       rows_are = rows ∙ ap (λ l. l ++ row_by old.begin c ∷ []) has.rows_are ∙ ap (λ x. map row_of has.records ++ x ∷ []) row ∙ sym (map-append row_of has.records (p ∷ []));
-      beside = keeps has.records p has.beside (ap length has.rows_are ∙ length-map has.records row_of) next;
+      beside = keeps has.records p has.beside (ap length has.rows_are ∙ length-map has.records row_of) next seen;
       begin_is = begin ∙ count ∙ sym (length-append has.front last);
       current = subst M (sym current) tt;
     }
 
 -- the text ends behind its last record
-pub kept_whole : {A L : Type 0} {judges : Bool} {K : L → List Placed → Type 0} (text : List ℕ) (told : Told) (r : Reading A L) → HasRead judges K text told r → SpellsAll told.records text
+pub kept_whole : {A B L : Type 0} {Sees : B → List Pair → List ℕ → Type 0} {K : L → List Placed → Type 0} (text : List ℕ) (told : Told) (r : Reading A L B) → HasRead Sees K text told r → SpellsAll told.records text
     → length text ≤ max_archive → IsKeptOf K text (r.rows, r.beside)
 kept_whole text told r has spelled short =
     let (same, none) = same_front text [] text [] told r has refl spelled in

@@ -1,4 +1,5 @@
 pub mod Archive
+pub mod Blocks
 pub mod Fitting
 pub mod Fronts
 pub mod Growing

@@ -1,10 +1,7 @@
 -- What is kept of an archive while it is read as a stream. States of the code, but for `IsKeptOf`, which public
 -- contracts cite.
-use Rattle.std.specs.Prelude.{◌≡◌, ◌≢◌, ℕ, Bool, ◌+◌, ◌<◌, ◌≤◌, ◌⊎◌, List, [], ◌++◌, length, map, take, drop, Option, Some, None, unwrap_or, Result, Ok, IfErr, IfOk, MatchResult, OnErr}
+use Rattle.std.specs.Prelude.{◌≡◌, ◌≢◌, ℕ, ◌+◌, ◌<◌, ◌≤◌, ◌⊎◌, List, [], ◌++◌, length, map, take, drop, Option, Some, None, unwrap_or, Result, Ok, IfErr, IfOk, MatchResult, OnErr}
 use Rattle.warc_field.specs.Area.{Pair}
-use Rattle.warc_value.specs.Running.{HasTaken}
-use Rattle.warc_value.specs.declared.hash.Wanted.{Wanted}
-use Rattle.warc_value.specs.declared.hash.Wanted.TheVariants.{Sha1, Unchecked}
 use Rattle.warc_frame.specs.Decoding.{Finishes, State, IsAt}
 use Rattle.warc_frame.specs.Faults.{AllAccepted}
 use Rattle.warc_frame.specs.Record.{max_archive}
@@ -13,53 +10,43 @@ use Rattle.warc_frame.specs.declared.fault.Fault.{Fault}
 use Rattle.warc_frame.specs.declared.fault.FaultKind.{FaultKind}
 use Rattle.warc_frame.specs.declared.fault.FaultKind.TheVariants.{Memory, Read, Truncated}
 use Rattle.warc_record.specs.Heads.{head_fault}
-use Rattle.warc_record.specs.Readings.{digest_wanted, reading_of}
+use Rattle.warc_record.specs.Readings.{reading_of}
 use Rattle.warc_quick.specs.declared.head.QuickHead.{QuickHead}
 use Rattle.warc_reading.specs.Archive.{IsArchiveOf, SpellsFrom, contents, IsFaultOf, IsRecordEnd}
 use Rattle.warc_reading.specs.Fronts.{IsLongestFront, reach_of}
-use Rattle.warc_reading.specs.Judging.{judged_by}
 use Rattle.warc_reading.specs.Row.{Placed, Row, row_of}
 use Rattle.warc_frame.specs.Seen.{AsksOnly, IfHeld, SeenSource}
-use Rattle.warc_reading.specs.declared.reading.BlockDigest.{BlockDigest}
 use Rattle.warc_reading.specs.declared.reading.Current.{Current}
 use Rattle.warc_reading.specs.declared.reading.Reading.{Reading}
 
-abbrev pub IfChecked : Wanted → Type 0 → Type 0
-IfChecked Unchecked P = Unit {0}
-IfChecked (Sha1 digest) P = P
-
--- these are the bytes of the block so far
-abbrev pub HasSeen : BlockDigest → List ℕ → Type 0
-HasSeen digest bytes = IfChecked digest.wanted (HasTaken digest.running bytes)
-
--- what is kept of a good head, whose block is judged or isn't
-pub record IsHead {A : Type 0} (judges : Bool) (fields : List Pair) (c : Current A) : Type 0 where
+-- what is kept of a good head
+pub record IsHead {A B : Type 0} (fields : List Pair) (c : Current A B) : Type 0 where
   pub good : head_fault fields ≡ None
   pub fields_are : c.head ≡ fields
-  pub wanted : c.digest.wanted ≡ judged_by judges (digest_wanted fields)
 
 -- the record that is being read begins at this offset, and of it these bytes were taken and this was reported
-pub record IsCurrent {A : Type 0} (judges : Bool) (begin : ℕ) (rest : List ℕ) (u : Unclosed) (c : Current A)
-    : Type 0 where
+pub record IsCurrent {A B : Type 0} (Sees : B → List Pair → List ℕ → Type 0) (begin : ℕ) (rest : List ℕ) (u : Unclosed)
+    (c : Current A B) : Type 0 where
   pub head : List ℕ
   pub tail : List ℕ
   pub rest_is : rest ≡ head ++ tail
   pub head_is : IsHeadOf u head
-  pub of : IsHead judges u.fields c
+  pub of : IsHead u.fields c
   pub start : c.block_start ≡ begin + length head
   pub len : c.block_len ≡ u.block_len
-  pub seen : HasSeen c.digest u.bytes
+  pub seen : Sees c.block u.fields u.bytes
 
-abbrev pub Matches : {A : Type 0} → Bool → ℕ → List ℕ → Option Unclosed → Option (Current A) → Type 0
-Matches judges begin rest None None = Unit {0}
-Matches judges begin rest None (Some c) = ⊥
-Matches judges begin rest (Some u) None = ⊥
-Matches judges begin rest (Some u) (Some c) = IsCurrent judges begin rest u c
+abbrev pub Matches : {A B : Type 0} → (B → List Pair → List ℕ → Type 0) → ℕ → List ℕ → Option Unclosed
+    → Option (Current A B) → Type 0
+Matches Sees begin rest None None = Unit {0}
+Matches Sees begin rest None (Some c) = ⊥
+Matches Sees begin rest (Some u) None = ⊥
+Matches Sees begin rest (Some u) (Some c) = IsCurrent Sees begin rest u c
 
 -- of a text of which this was reported: a row of each record that ended and what else is kept, where the next
 -- record begins, and what is kept of it
-pub record HasRead {A L : Type 0} (judges : Bool) (Keeps : L → List Placed → Type 0) (text : List ℕ) (told : Told)
-    (r : Reading A L) : Type 0 where
+pub record HasRead {A B L : Type 0} (Sees : B → List Pair → List ℕ → Type 0) (Keeps : L → List Placed → Type 0)
+    (text : List ℕ) (told : Told) (r : Reading A L B) : Type 0 where
   pub records : List Placed
   pub front : List ℕ
   pub rest : List ℕ
@@ -70,7 +57,7 @@ pub record HasRead {A L : Type 0} (judges : Bool) (Keeps : L → List Placed →
   pub rows_are : r.rows ≡ map row_of records
   pub beside : Keeps r.beside records
   pub begin_is : r.begin ≡ length front
-  pub current : Matches judges (length front) rest told.unclosed r.current
+  pub current : Matches Sees (length front) rest told.unclosed r.current
 
 -- a list goes on with more
 abbrev pub Extends : {X : Type 0} → List X → List X → Type 0
@@ -85,14 +72,14 @@ abbrev pub IsLeft : {L : Type 0} → (L → List Placed → Type 0) → List Pla
 IsLeft Keeps was l = (more : List Placed) × Keeps l (was ++ more)
 
 -- the decoder took this text, and what it reported was kept
-pub record Stands {A L : Type 0} (judges : Bool) (Keeps : L → List Placed → Type 0) (text : List ℕ) (d : State)
-    (r : Reading A L) : Type 0 where
+pub record Stands {A B L : Type 0} (Sees : B → List Pair → List ℕ → Type 0) (Keeps : L → List Placed → Type 0)
+    (text : List ℕ) (d : State) (r : Reading A L B) : Type 0 where
   pub told : Told
   pub is_at : IsAt 0 text told d
-  pub has : HasRead judges Keeps text told r
+  pub has : HasRead Sees Keeps text told r
 
 -- the row of the record that is being read
-abbrev pub row_by : {A : Type 0} → ℕ → Current A → Row
+abbrev pub row_by : {A B : Type 0} → ℕ → Current A B → Row
 row_by begin c = record {
   offset = begin;
   block_start = c.block_start;
@@ -169,16 +156,17 @@ abbrev pub IsBetween : State → Type 0
 IsBetween d = (at : ℕ) (taken : List ℕ) (told : Told) → IsAt at taken told d → Finishes at taken told (Ok tt)
 
 -- the front of a piece is taken, and what lies in it is kept; or it is refused, and what was kept stays
-pub record TakesFront {A L : Type 0} (judges : Bool) (Keeps : L → List Placed → Type 0) (piece : List ℕ)
-    (d : State) (r : Reading A L) (after : State) (now : Reading A L) (answer : Result ℕ Fault) : Type 0 where
-  pub history : (was : List Placed) (text : List ℕ) → Stands judges (Since Keeps was) text d r
-      → MatchResult answer (λ took. Stands judges (Since Keeps was) (text ++ take took piece) after now)
+pub record TakesFront {A B L : Type 0} (Sees : B → List Pair → List ℕ → Type 0) (Keeps : L → List Placed → Type 0)
+    (piece : List ℕ) (d : State) (r : Reading A L B) (after : State) (now : Reading A L B) (answer : Result ℕ Fault)
+    : Type 0 where
+  pub history : (was : List Placed) (text : List ℕ) → Stands Sees (Since Keeps was) text d r
+      → MatchResult answer (λ took. Stands Sees (Since Keeps was) (text ++ take took piece) after now)
       (StaysRefused (text ++ piece))
-  pub begins : (was : List Placed) (text : List ℕ) → Stands judges (Since Keeps was) text d r
+  pub begins : (was : List Placed) (text : List ℕ) → Stands Sees (Since Keeps was) text d r
       → MatchResult answer (λ took. BeginsSince text r.begin now.begin) (WantsSince text piece r.begin)
-  pub left : (was : List Placed) (text : List ℕ) → Stands judges (Since Keeps was) text d r
+  pub left : (was : List Placed) (text : List ℕ) → Stands Sees (Since Keeps was) text d r
       → OnErr answer (IsLeft Keeps was now.beside)
-  pub stops : (was : List Placed) (text : List ℕ) → Stands judges (Since Keeps was) text d r
+  pub stops : (was : List Placed) (text : List ℕ) → Stands Sees (Since Keeps was) text d r
       → IfErr answer (Stops (text ++ piece) now.rows)
   pub rows : Extends r.rows now.rows
   pub taken : (at : ℕ) (taken : List ℕ) (told : Told) → IsAt at taken told d → MatchResult answer

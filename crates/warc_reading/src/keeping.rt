@@ -1,5 +1,5 @@
 //! What is kept of records besides their rows: nothing in a listing; in an archive, what finds them and joins them.
-ghost use Rattle.std.specs.Prelude.{◌≡◌, Bool, true, false, None, List, [], ◌∷◌, ◌++◌, ◌<◌, length, take, OnErr, OnOk};
+ghost use Rattle.std.specs.Prelude.{◌≡◌, Bool, true, None, List, [], ◌∷◌, ◌++◌, ◌<◌, length, take, OnErr, OnOk};
 ghost use Rattle.warc_field.specs.Area.{Pair};
 ghost use Rattle.warc_quick.specs.Quick.{Says};
 ghost use Rattle.warc_quick.specs.declared.head.QuickHead.{QuickHead};
@@ -10,6 +10,7 @@ ghost use Rattle.warc_reading.specs.Indexed.{AreOf, place_of};
 ghost use Rattle.warc_reading.specs.Judging.{IsNextOf, IsNextPlain};
 ghost use Rattle.warc_reading.specs.Row.{Placed};
 
+use crate::block::{NoBlock, TakeBlock};
 use std::alloc::{AllocError, Allocator};
 use warc_field::Fields;
 use warc_index::{AloneRecord, Index, RecordIndex, UnorderedIndex};
@@ -17,7 +18,6 @@ use warc_order::{EntryList, HasEntries, Order, Unordered};
 use warc_quick::{QuickHead, QuickRecord, type_alone};
 use warc_record::{Typed, type_head};
 use warc_segment::{Parts, Place};
-use warc_value::Verdict;
 
 /// How many bytes a read asks for, where nothing else is said.
 const PIECE: usize = 65_536;
@@ -27,12 +27,8 @@ pub trait Keep<A: Allocator> {
     /// It is what is kept of these records.
     ghost keeps: { Self → List Placed → Type 0 };
 
-    /// Blocks are judged by their digests as they are read.
-    ghost judges: { Bool };
-
-    /// Whether blocks are judged as they are read.
-    fn judges() -> bool
-        ensures { result ≡ judges };
+    /// What takes the bytes of a block as they come.
+    type Block: TakeBlock;
 
     /// A record with such a plain head is kept without its fields.
     ghost takes: { QuickHead → Bool };
@@ -42,8 +38,7 @@ pub trait Keep<A: Allocator> {
         ensures { result ≡ takes head.now };
 
     /// Keeps what is needed of the next record, by its position, the fields of its good head, where its block begins,
-    /// how long it is, and what was found of it: `Unchecked` where blocks aren't judged. If memory is refused, it keeps
-    /// what it kept of the records before.
+    /// how long it is, and what took its bytes. If memory is refused, it keeps what it kept of the records before.
     fn keep(
         &mut self,
         alloc: A,
@@ -51,10 +46,10 @@ pub trait Keep<A: Allocator> {
         fields: &Fields<A>,
         block_start: u64,
         block_len: u64,
-        verdict: Verdict,
+        block: Self::Block,
     ) -> Result<(), AllocError>
         ensures ok { (records : List Placed) (p : Placed) → keeps self.old records → position ≡ length records →
-            IsNextOf judges p fields.now block_start block_len verdict →
+            IsNextOf p fields.now block_start block_len → Self.Block.has_seen block fields.now p.content.block →
             OnOk result (keeps self.new (records ++ p ∷ [])) }
         ensures err { (records : List Placed) → keeps self.old records → position ≡ length records →
             OnErr result (keeps self.new records) };
@@ -79,6 +74,11 @@ pub trait Keep<A: Allocator> {
     fn truncate(&mut self, count: usize)
         ensures { (records : List Placed) → keeps self.old records → keeps self.new (take count records) };
 
+    /// Whether it is asked of each plain head whether it is faultless. If not, `QuickHead::is_faultless` is false.
+    fn checks_heads() -> bool {
+        false
+    }
+
     /// How many bytes a read asks for.
     fn piece_len() -> usize
         ensures { 0 < result }
@@ -94,13 +94,9 @@ pub struct RowsAlone;
 impl<A: Allocator> Keep<A> for RowsAlone {
     ghost keeps = { λ _ _. Unit {0} };
 
-    ghost judges = { false };
+    type Block = NoBlock;
 
     ghost takes = { λ _. true };
-
-    fn judges() -> bool {
-        false
-    }
 
     fn takes(_head: &QuickHead<'_>) -> bool {
         true
@@ -113,7 +109,7 @@ impl<A: Allocator> Keep<A> for RowsAlone {
         _fields: &Fields<A>,
         _block_start: u64,
         _block_len: u64,
-        _verdict: Verdict,
+        _block: NoBlock,
     ) -> Result<(), AllocError> {
         Ok(())
     }
@@ -291,13 +287,9 @@ impl<A: Allocator + Copy> RecordLookup<Unordered<A>, A> {
 impl<O: EntryList, A: Allocator + Copy> Keep<A> for RecordLookup<O, A> {
     ghost keeps = { λ l records. AreOf records l.index l.parts };
 
-    ghost judges = { false };
+    type Block = NoBlock;
 
     ghost takes = { λ head. head.is_alone };
-
-    fn judges() -> bool {
-        false
-    }
 
     fn takes(head: &QuickHead<'_>) -> bool {
         head.is_alone
@@ -310,7 +302,7 @@ impl<O: EntryList, A: Allocator + Copy> Keep<A> for RecordLookup<O, A> {
         fields: &Fields<A>,
         block_start: u64,
         block_len: u64,
-        _verdict: Verdict,
+        _block: NoBlock,
     ) -> Result<(), AllocError> {
         add_head(
             alloc,

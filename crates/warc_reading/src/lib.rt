@@ -2,14 +2,16 @@
 //! head is read again by its row.
 #![tactic(auto)]
 
+mod block;
 mod keeping;
 mod reading;
 mod rereading;
 mod rows;
 mod spare_fields;
 
+pub use block::{BlockDigest, NoBlock, TakeBlock};
 pub use keeping::{Keep, Lookup, RecordLookup, RowsAlone, UnorderedLookup};
-pub use reading::{plain_verdict, read_front, read_on};
+pub use reading::{read_front, read_on};
 pub use rereading::{
     Reread, RereadFault, buffer_for, good_head_in, head_buffer, head_in, read_again, reread_good,
     reread_head, reread_text,

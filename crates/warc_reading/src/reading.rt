@@ -1,11 +1,9 @@
 //! Reads the good records of a source as a stream, and keeps a row of each, and what else is needed.
 ghost use Rattle.std.specs.Prelude.{◌≡◌, ◌≢◌, ℕ, ◌+◌, ◌-◌, ◌<◌, ◌≤◌, ◌^◌, List, [], ◌∷◌, ◌++◌, length, min, take, Some, None, IfOk, IfErr, OnErr, OnOk, MatchResult, is_err, IfSome, true};
-ghost use Rattle.warc_value.specs.Digests.{verdict_of};
 ghost use Rattle.warc_record.specs.Heads.{head_fault};
-ghost use Rattle.warc_record.specs.Readings.{digest_wanted};
 ghost use Rattle.warc_reading.specs.Archive.{IsArchiveOf};
 ghost use Rattle.warc_reading.specs.Fronts.{AreFrontRows, IsLongestFront, reach_of};
-ghost use Rattle.warc_reading.specs.Judging.{IsNextOf, IsNextPlain, judged_by, verdict_on};
+ghost use Rattle.warc_reading.specs.Judging.{IsNextOf, IsNextPlain};
 ghost use Rattle.warc_reading.specs.Growing.{Grows, grown};
 ghost use Rattle.warc_reading.specs.Opening.{Opens};
 ghost use Rattle.warc_reading.specs.Row.{Placed};
@@ -17,9 +15,10 @@ ghost use Rattle.warc_frame.specs.Seen.{GoesOn, IfHeld, InOrder};
 ghost use Rattle.warc_frame.specs.Told.{Told};
 ghost use Rattle.warc_field.specs.Area.{Pair};
 ghost use Rattle.warc_quick.specs.Quick.{IsQuickRecord};
-ghost use Rattle.warc_reading.specs.Stream.{Extends, HasSeen, IsBetween, WantsSince, IsHead, IsKeptOf, IsLeft, Since, Stands, StaysRefused, Stops, TakesFront, plain_row, row_by};
+ghost use Rattle.warc_reading.specs.Stream.{Extends, IsBetween, WantsSince, IsHead, IsKeptOf, IsLeft, Since, Stands, StaysRefused, Stops, TakesFront, plain_row, row_by};
 ghost use Rattle.warc_reading.specs.declared.reading.Current.{Current as Kept};
 
+use crate::block::TakeBlock;
 use crate::keeping::{Keep, RowsAlone};
 use crate::rows::{Row, Rows};
 use crate::spare_fields::SpareFields;
@@ -28,89 +27,30 @@ use warc_field::Fields;
 use warc_frame::{Decoder, Event, Fault, FaultKind, MAX_ARCHIVE, ReadFault, Source};
 use warc_quick::{QuickRecord, judged_record, quick_record};
 use warc_record::{GoodHead, judge_head};
-use warc_value::{Running, Verdict, Wanted};
 
-/// The digest that a block is judged by, and the digest of the block's bytes so far.
+/// The record that is being read: what its head says, where its block lies, and what took the bytes of it so far.
 #[derive(Drop)]
-struct BlockDigest {
-    wanted: Wanted,
-    running: Running,
-}
-
-impl BlockDigest {
-    /// No byte of the block is there yet.
-    fn new(wanted: Wanted) -> BlockDigest
-        ensures wanted { result.wanted ≡ wanted }
-        ensures seen { HasSeen result [] }
-    {
-        BlockDigest {
-            wanted,
-            running: Running::new(),
-        }
-    }
-
-    /// Takes the block's next bytes. If no digest is wanted, it takes no time.
-    fn update(&mut self, part: &[u8])
-        ensures wanted { self.new.wanted ≡ self.old.wanted }
-        ensures seen { (bytes : List ℕ) → HasSeen self.old bytes → HasSeen self.new (bytes ++ part.now) }
-    {
-        if let Wanted::Sha1(_) = self.wanted {
-            self.running.update(part);
-        }
-    }
-
-    /// How the block compares with the digest that is wanted.
-    fn verdict(self) -> Verdict
-        ensures { (bytes : List ℕ) → HasSeen self bytes → result ≡ verdict_of self.wanted bytes }
-    {
-        let BlockDigest { wanted, running } = self;
-        running.verdict(&wanted)
-    }
-}
-
-/// How the block of a record that was read in place compares with the digest that its head asks for.
-pub fn plain_verdict(found: &QuickRecord<'_>) -> Verdict
-    ensures { (p : Placed) (start : ℕ) → IsNextPlain p found.now start → result ≡ verdict_on p }
-{
-    let mut digest = BlockDigest::new(found.head.wanted());
-    digest.update(found.block);
-    digest.verdict()
-}
-
-/// The digest by which the block after a head is judged, where blocks are judged; else none.
-fn wanted_of<A: Allocator>(head: &GoodHead<A>, judges: bool) -> Wanted
-    ensures { result ≡ judged_by judges (digest_wanted head.now) }
-{
-    if judges {
-        head.wanted()
-    } else {
-        Wanted::Unchecked
-    }
-}
-
-/// The record that is being read: what its head says, and where its block lies.
-#[derive(Drop)]
-struct Current<A: Allocator> {
+struct Current<A: Allocator, B> {
     head: GoodHead<A>,
     block_start: u64,
     block_len: u64,
-    digest: BlockDigest,
+    block: B,
 }
 
 /// What was read so far: a row of each record that ended and what else is kept of it, the offset at which the next
 /// record begins, and that record, once its head is there.
 #[derive(Drop)]
-struct Reading<A: Allocator, L> {
+struct Reading<A: Allocator, L, B> {
     rows: Rows<A>,
     beside: L,
     begin: u64,
-    current: Option<Current<A>>,
+    current: Option<Current<A, B>>,
     spare: SpareFields<A>,
 }
 
-impl<A: Allocator + Copy, L: Keep<A> + Drop> Reading<A, L> {
+impl<A: Allocator + Copy, B: TakeBlock, L: Keep<A, Block = B> + Drop> Reading<A, L, B> {
     /// The records of these rows were read.
-    fn behind(rows: Rows<A>, beside: L) -> Reading<A, L>
+    fn behind(rows: Rows<A>, beside: L) -> Reading<A, L, B>
         ensures rows { result.rows ≡ rows }
         ensures beside { result.beside ≡ beside }
         ensures limit { result.begin ≤ max_archive }
@@ -147,18 +87,18 @@ impl<A: Allocator + Copy, L: Keep<A> + Drop> Reading<A, L> {
         ensures rows { self.new.rows ≡ self.old.rows }
         ensures beside { self.new.beside ≡ self.old.beside }
         ensures begin { self.new.begin ≡ self.old.begin }
-        ensures current { OnOk result ((c : Kept A) × (self.new.current ≡ Some c) × IsHead L.judges fields c
-            × HasSeen c.digest []
+        ensures current { OnOk result ((c : Kept A B) × (self.new.current ≡ Some c) × IsHead fields c
+            × B.has_seen c.block fields []
             × (c.block_start ≡ block_start) × (c.block_len ≡ block_len)) }
         ensures fault { IfErr result (λ kind. head_fault fields ≡ Some kind) }
     {
         let head = judge_head(fields)?;
-        let digest = BlockDigest::new(wanted_of(&head, L::judges()));
+        let block = B::begin(&head);
         self.current = Some(Current {
             head,
             block_start,
             block_len,
-            digest,
+            block,
         });
         Ok(())
     }
@@ -168,13 +108,13 @@ impl<A: Allocator + Copy, L: Keep<A> + Drop> Reading<A, L> {
         ensures rows { self.new.rows ≡ self.old.rows }
         ensures beside { self.new.beside ≡ self.old.beside }
         ensures begin { self.new.begin ≡ self.old.begin }
-        ensures current { (c : Kept A) → self.old.current ≡ Some c → (d : Kept A) × (self.new.current ≡ Some d)
+        ensures current { (c : Kept A B) → self.old.current ≡ Some c → (d : Kept A B) × (self.new.current ≡ Some d)
             × (d.head ≡ c.head) × (d.block_start ≡ c.block_start) × (d.block_len ≡ c.block_len)
-            × (d.digest.wanted ≡ c.digest.wanted)
-            × ((bytes : List ℕ) → HasSeen c.digest bytes → HasSeen d.digest (bytes ++ part.now)) }
+            × ((fields : List Pair) (bytes : List ℕ) → B.has_seen c.block fields bytes
+            → B.has_seen d.block fields (bytes ++ part.now)) }
     {
         if let Some(current) = &mut self.current {
-            current.digest.update(part);
+            current.block.take_part(part);
         }
     }
 
@@ -182,14 +122,13 @@ impl<A: Allocator + Copy, L: Keep<A> + Drop> Reading<A, L> {
     fn end_record(&mut self, alloc: A, end: u64) -> Result<(), AllocError>
         ensures begin { OnOk result (self.new.begin ≡ end) }
         ensures current { self.new.current ≡ None }
-        ensures row { (c : Kept A) → self.old.current ≡ Some c →
+        ensures row { (c : Kept A B) → self.old.current ≡ Some c →
             OnOk result (self.new.rows ≡ self.old.rows ++ row_by self.old.begin c ∷ []) }
         ensures extends { Extends self.old.rows self.new.rows }
         ensures untouched { OnErr result (self.new.rows ≡ self.old.rows) }
-        ensures beside { (c : Kept A) (bytes : List ℕ) (records : List Placed) (p : Placed) →
-            self.old.current ≡ Some c → HasSeen c.digest bytes → L.keeps self.old.beside records →
-            length self.old.rows ≡ length records →
-            IsNextOf L.judges p c.head c.block_start c.block_len (verdict_of c.digest.wanted bytes) →
+        ensures beside { (c : Kept A B) (records : List Placed) (p : Placed) → self.old.current ≡ Some c →
+            L.keeps self.old.beside records → length self.old.rows ≡ length records →
+            IsNextOf p c.head c.block_start c.block_len → B.has_seen c.block c.head p.content.block →
             OnOk result (L.keeps self.new.beside (records ++ p ∷ [])) }
         ensures left { (records : List Placed) → L.keeps self.old.beside records →
             length self.old.rows ≡ length records → OnErr result (L.keeps self.new.beside records) }
@@ -199,9 +138,8 @@ impl<A: Allocator + Copy, L: Keep<A> + Drop> Reading<A, L> {
                 head,
                 block_start,
                 block_len,
-                digest,
+                block,
             } = current;
-            let verdict = digest.verdict();
             let texts = head.texts();
             let position = self.rows.len();
             self.rows.push(&Row {
@@ -220,7 +158,7 @@ impl<A: Allocator + Copy, L: Keep<A> + Drop> Reading<A, L> {
                 head.fields(),
                 block_start,
                 block_len,
-                verdict,
+                block,
             ) {
                 Ok(()) => {}
                 Err(refused) => {
@@ -279,13 +217,13 @@ impl<A: Allocator + Copy, L: Keep<A> + Drop> Reading<A, L> {
 }
 
 /// The record that a piece begins with, if it can be read in place: the decoder stands between records, the head is
-/// plain, and the record ends within the piece and within the limit of an archive. Where blocks are judged, it is asked
-/// too whether the head is faultless.
+/// plain, and the record ends within the piece and within the limit of an archive. It may be asked too whether the head
+/// is faultless.
 #[inline(always)]
 fn plain_record<'a, A: Allocator + Copy>(
     decoder: &Decoder<A>,
     piece: &'a [u8],
-    judges: bool,
+    checks_heads: bool,
 ) -> Option<QuickRecord<'a>>
     ensures found { IfSome result (IsQuickRecord piece.now) }
     ensures between { IfSome result (λ _. IsBetween decoder.now) }
@@ -294,7 +232,7 @@ fn plain_record<'a, A: Allocator + Copy>(
     if decoder.finish().is_err() {
         return None;
     }
-    let found = if judges {
+    let found = if checks_heads {
         judged_record(piece)?
     } else {
         quick_record(piece)?
@@ -310,7 +248,7 @@ fn plain_record<'a, A: Allocator + Copy>(
 fn take_plain<A: Allocator + Copy, L: Keep<A> + Drop>(
     alloc: A,
     decoder: &mut Decoder<A>,
-    reading: &mut Reading<A, L>,
+    reading: &mut Reading<A, L, L::Block>,
     found: &QuickRecord<'_>,
     piece: &[u8],
 ) -> Result<usize, Fault>
@@ -318,7 +256,7 @@ fn take_plain<A: Allocator + Copy, L: Keep<A> + Drop>(
     requires found { IsQuickRecord piece.now found.now }
     requires between { IsBetween decoder.old }
     requires limit { decoder.old.position + found.now.len ≤ max_archive }
-    ensures { TakesFront L.judges L.keeps piece.now decoder.old reading.old decoder.new reading.new result }
+    ensures { TakesFront L.Block.has_seen L.keeps piece.now decoder.old reading.old decoder.new reading.new result }
 {
     let begin = decoder.position();
     let end = begin + found.len as u64;
@@ -336,11 +274,11 @@ fn take_plain<A: Allocator + Copy, L: Keep<A> + Drop>(
 fn take_event<A: Allocator + Copy, L: Keep<A> + Drop>(
     alloc: A,
     decoder: &mut Decoder<A>,
-    reading: &mut Reading<A, L>,
+    reading: &mut Reading<A, L, L::Block>,
     piece: &[u8],
 ) -> Result<usize, Fault>
     requires { 0 < length piece.now }
-    ensures { TakesFront L.judges L.keeps piece.now decoder.old reading.old decoder.new reading.new result }
+    ensures { TakesFront L.Block.has_seen L.keeps piece.now decoder.old reading.old decoder.new reading.new result }
 {
     let _begin = decoder.position();
     let (took, event) = decoder.step(piece)?;
@@ -368,13 +306,13 @@ fn take_event<A: Allocator + Copy, L: Keep<A> + Drop>(
 fn take_front<A: Allocator + Copy, L: Keep<A> + Drop>(
     alloc: A,
     decoder: &mut Decoder<A>,
-    reading: &mut Reading<A, L>,
+    reading: &mut Reading<A, L, L::Block>,
     piece: &[u8],
 ) -> Result<usize, Fault>
     requires { 0 < length piece.now }
-    ensures { TakesFront L.judges L.keeps piece.now decoder.old reading.old decoder.new reading.new result }
+    ensures { TakesFront L.Block.has_seen L.keeps piece.now decoder.old reading.old decoder.new reading.new result }
 {
-    if let Some(found) = plain_record(decoder, piece, L::judges()) {
+    if let Some(found) = plain_record(decoder, piece, L::checks_heads()) {
         if L::takes(&found.head) {
             return take_plain(alloc, decoder, reading, &found, piece);
         }
@@ -387,21 +325,22 @@ fn take_front<A: Allocator + Copy, L: Keep<A> + Drop>(
 fn take_piece<A: Allocator + Copy, L: Keep<A> + Drop>(
     alloc: A,
     decoder: &mut Decoder<A>,
-    reading: &mut Reading<A, L>,
+    reading: &mut Reading<A, L, L::Block>,
     piece: &[u8],
 ) -> Result<(), Fault>
     ensures history { (was : List Placed) (text : List ℕ)
-        → Stands L.judges (Since L.keeps was) text decoder.old reading.old
-        → MatchResult result (λ _. Stands L.judges (Since L.keeps was) (text ++ piece.now) decoder.new reading.new)
+        → Stands L.Block.has_seen (Since L.keeps was) text decoder.old reading.old
+        → MatchResult result
+        (λ _. Stands L.Block.has_seen (Since L.keeps was) (text ++ piece.now) decoder.new reading.new)
         (StaysRefused (text ++ piece.now)) }
     ensures memory { (was : List Placed) (text : List ℕ)
-        → Stands L.judges (Since L.keeps was) text decoder.old reading.old
+        → Stands L.Block.has_seen (Since L.keeps was) text decoder.old reading.old
         → IfErr result (WantsSince text piece.now reading.old.begin) }
     ensures left { (was : List Placed) (text : List ℕ)
-        → Stands L.judges (Since L.keeps was) text decoder.old reading.old
+        → Stands L.Block.has_seen (Since L.keeps was) text decoder.old reading.old
         → OnErr result (IsLeft L.keeps was reading.new.beside) }
     ensures stops { (was : List Placed) (text : List ℕ)
-        → Stands L.judges (Since L.keeps was) text decoder.old reading.old
+        → Stands L.Block.has_seen (Since L.keeps was) text decoder.old reading.old
         → IfErr result (Stops (text ++ piece.now) reading.new.rows) }
     ensures rows { Extends reading.old.rows reading.new.rows }
     ensures taken { (at : ℕ) (taken : List ℕ) (told : Told) → IsAt at taken told decoder.old → MatchResult result
@@ -434,7 +373,7 @@ fn read_through<S: Source, A: Allocator + Copy, L: Keep<A> + Drop>(
     alloc: A,
     source: &mut S,
     buf: &mut [u8],
-    reading: &mut Reading<A, L>,
+    reading: &mut Reading<A, L, L::Block>,
 ) -> Result<(), Fault>
     requires room { 0 < length buf.old }
     requires limit { reading.old.begin ≤ max_archive }

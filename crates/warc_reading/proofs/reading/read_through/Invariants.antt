@@ -10,7 +10,7 @@ invariant-reading g l = record {
   taken : List ℕ;
   told : Told;
   is_at : IsAt l.fn.reading.begin taken told l.decoder;
-  stands : (bytes : List ℕ) (is : IsKeptOf g.L.Keep.keeps bytes (l.fn.reading.rows, l.fn.reading.beside)) → Stands g.L.Keep.judges (Since g.L.Keep.keeps is.listed.are.records) (bytes ++ taken) l.decoder l.reading;
+  stands : (bytes : List ℕ) (is : IsKeptOf g.L.Keep.keeps bytes (l.fn.reading.rows, l.fn.reading.beside)) → Stands g.L.Block.TakeBlock.has_seen (Since g.L.Keep.keeps is.listed.are.records) (bytes ++ taken) l.decoder l.reading;
   rows : Extends l.fn.reading.rows l.reading.rows;
   given : HasGivenFrom l.fn.reading.begin
       (g.S.Source.seen l.fn.source)

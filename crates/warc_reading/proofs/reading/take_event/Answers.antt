@@ -58,12 +58,12 @@ returns-in-Ok-kept g c = record {
         | in-Part w ↦
             part_stands text piece stands.told c.step.new.self took c.in_ok-took.event takes old new stands.has w.in-Part.from w.in-Part.to w.in-Part.is
             (ap (λ r. r.rows) w.reading-is ∙ w.take_part.ensures.rows) (ap (λ r. r.beside) w.reading-is ∙ w.take_part.ensures.beside) (ap (λ r. r.begin) w.reading-is ∙ w.take_part.ensures.begin)
-            (λ k is. let (e, now, typed, start, len, wanted, seen) = w.take_part.ensures.current k is in (e, ap (λ r. r.current) w.reading-is ∙ now, typed, start, len, wanted, seen))
+            (λ k is. let (e, now, typed, start, len, seen) = w.take_part.ensures.current k is in (e, ap (λ r. r.current) w.reading-is ∙ now, typed, start, len, seen))
         | in-End+in-Ok w ↦
             end_stands text piece stands.told c.step.new.self took c.in_ok-took.event takes old new stands.has w.in-End.is
             (ap (λ r. r.begin) w.reading-is ∙ w.in-Ok.ensures.begin ∙ here) (ap (λ r. r.current) w.reading-is ∙ w.end_record.ensures.current)
             (λ k is. ap (λ r. r.rows) w.reading-is ∙ w.in-Ok.ensures.row k is)
-            (λ k bytes records p is seen kept size next. since_more g.L.Keep.keeps was old.beside new.beside records p kept (rw w.reading-is (w.in-Ok.ensures.beside k bytes records p is seen kept.0 size next)))
+            (λ k records p is kept size next seen. since_more g.L.Keep.keeps was old.beside new.beside records p kept (rw w.reading-is (w.in-Ok.ensures.beside k records p is kept.0 size next seen)))
         | in-End+in-Err w ↦ cc (sym c.in-Ok-kept.is ∙ w.kept-is)
       ];
   begins = λ was text stands.

@@ -22,7 +22,7 @@ pub taking-init : goal.taking-init
 taking-init g c = record {
   within = omega arith;
   stands = λ was text is.
-      let P : List ℕ → Type 0 = λ t. Stands g.L.Keep.judges (Since g.L.Keep.keeps was) t c.args.decoder.now c.args.reading.now in
+      let P : List ℕ → Type 0 = λ t. Stands g.L.Block.TakeBlock.has_seen (Since g.L.Keep.keeps was) t c.args.decoder.now c.args.reading.now in
       subst P (sym (append-nil text)) is;
   begins = λ was text is. inl refl;
   rows = extends_none c.args.reading.now.rows;
@@ -83,7 +83,7 @@ taking-preserved g c =
     record {
       within = omega (arith, size, c.in_ok-from.ensures.within, c.taking-test.true, c.taking.invariant.within);
       stands = λ was text is.
-          let P : List ℕ → Type 0 = λ t. Stands g.L.Keep.judges (Since g.L.Keep.keeps was) t c.take_front.new.decoder c.take_front.new.reading in
+          let P : List ℕ → Type 0 = λ t. Stands g.L.Block.TakeBlock.has_seen (Since g.L.Keep.keeps was) t c.take_front.new.decoder c.take_front.new.reading in
           subst P (behind text piece from took) (c.in_ok-from.ensures.history was (text ++ take from piece) (c.taking.invariant.stands was text is));
       begins = λ was text is.
           begins_behind text (take from piece) _ _ _ (c.taking.invariant.begins was text is) (c.in_ok-from.ensures.begins was (text ++ take from piece) (c.taking.invariant.stands was text is));
@@ -97,7 +97,7 @@ taking-preserved g c =
 
 pub returns-clause-history : goal.returns-clause-history
 returns-clause-history g c = λ was text is.
-    let P : List ℕ → Type 0 = λ t. Stands g.L.Keep.judges (Since g.L.Keep.keeps was) t c.taking.decoder c.taking.reading in
+    let P : List ℕ → Type 0 = λ t. Stands g.L.Block.TakeBlock.has_seen (Since g.L.Keep.keeps was) t c.taking.decoder c.taking.reading in
     subst P (ap (λ x. text ++ x) (take_all c.taking.from c.args.piece.now (omega (arith, c.taking-test.false)))) (c.taking.invariant.stands was text is)
 
 pub returns-clause-rows : goal.returns-clause-rows

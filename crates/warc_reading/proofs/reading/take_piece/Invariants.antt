@@ -9,9 +9,9 @@ use Rattle.warc_reading.proofs.reading.take_piece.Given as goal
 abbrev pub invariant-taking : goal.invariant-taking
 invariant-taking g l = record {
   within : l.from ≤ length l.piece;
-  stands : (was : List Placed) (text : List ℕ) → Stands g.L.Keep.judges (Since g.L.Keep.keeps was) text l.initial.decoder l.initial.reading
-      → Stands g.L.Keep.judges (Since g.L.Keep.keeps was) (text ++ take l.from l.piece) l.decoder l.reading;
-  begins : (was : List Placed) (text : List ℕ) → Stands g.L.Keep.judges (Since g.L.Keep.keeps was) text l.initial.decoder l.initial.reading → BeginsSince text l.initial.reading.begin l.reading.begin;
+  stands : (was : List Placed) (text : List ℕ) → Stands g.L.Block.TakeBlock.has_seen (Since g.L.Keep.keeps was) text l.initial.decoder l.initial.reading
+      → Stands g.L.Block.TakeBlock.has_seen (Since g.L.Keep.keeps was) (text ++ take l.from l.piece) l.decoder l.reading;
+  begins : (was : List Placed) (text : List ℕ) → Stands g.L.Block.TakeBlock.has_seen (Since g.L.Keep.keeps was) text l.initial.decoder l.initial.reading → BeginsSince text l.initial.reading.begin l.reading.begin;
   rows : Extends l.initial.reading.rows l.reading.rows;
   taken : (at : ℕ) (taken : List ℕ) (told : Told) → IsAt at taken told l.initial.decoder → (now : Told) × IsAt at (taken ++ take l.from l.piece) now l.decoder;
 }

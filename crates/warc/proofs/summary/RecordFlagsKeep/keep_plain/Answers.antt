@@ -3,5 +3,5 @@ use Rattle.warc.proofs.summary.RecordFlagsKeep.keep_plain.Goals as goal
 
 pub returns-clause-ok : goal.returns-clause-ok
 returns-clause-ok g c = λ records p alone is position next.
-    flags_more c.add.result c.args.self.now c.add.new.self records p c.plain_verdict.result is
-    (alone_is_no_segment p.content.fields (next.says.alone alone)) (c.plain_verdict.ensures p c.args._block_start next) c.add.ensures.ok
+    flags_more c.add.result c.args.self.now c.add.new.self records p c.plain_stated.result is
+    (alone_is_no_segment p.content.fields (next.says.alone alone)) (c.plain_stated.ensures p c.args._block_start next) c.add.ensures.ok

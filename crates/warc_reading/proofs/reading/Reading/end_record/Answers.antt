@@ -1,8 +1,8 @@
-use Rattle.std.proofs.Common.{rules, ◌≡◌, [], ◌∷◌, ◌++◌, Option, Some, ap, sym, subst, ◌∙◌}
-use Rattle.warc_value.specs.Digests.{verdict_of}
+use Rattle.std.proofs.Common.{rules, ◌≡◌, List, [], ◌∷◌, ◌++◌, Option, Some, ap, sym, subst, ◌∙◌}
+use Rattle.warc_field.specs.Area.{Pair}
 use Rattle.warc_reading.specs.Judging.{IsNextOf}
 use Rattle.warc_reading.specs.Row.{Row}
-use Rattle.warc_reading.specs.Stream.{HasSeen, row_by}
+use Rattle.warc_reading.specs.Stream.{row_by}
 use Rattle.warc_reading.specs.declared.reading.Current.{Current as Kept}
 use Rattle.warc_reading.proofs.GrowLemmas.{extends_front, extends_same}
 use Rattle.warc_reading.proofs.reading.Reading.end_record.Goals.{in-Some+in_ok-push+in-Ok, in_default}
@@ -11,8 +11,8 @@ use Rattle.warc_reading.proofs.reading.Reading.end_record.Goals as goal
 pub returns-clause-row : goal.returns-clause-row
 returns-clause-row g c = elim c.match-take.branch [
   | in-Some+in_ok-push+in-Ok w ↦ λ kept is.
-      let same : ◌≡◌ {A = Kept g.row.A.Denot} w.in-Some.current kept = let e : ◌≡◌ {A = Option (Kept g.row.A.Denot)} (Some w.in-Some.current) (Some kept) = w.in-Some.ensures.value ∙ is in cc in
-      let row = ap (λ (x : Kept g.row.A.Denot). row_by c.args.self.now.begin x) same in
+      let same : ◌≡◌ {A = Kept g.row.A.Denot g.row.B.Denot} w.in-Some.current kept = let e : ◌≡◌ {A = Option (Kept g.row.A.Denot g.row.B.Denot)} (Some w.in-Some.current) (Some kept) = w.in-Some.ensures.value ∙ is in cc in
+      let row = ap (λ (x : Kept g.row.A.Denot g.row.B.Denot). row_by c.args.self.now.begin x) same in
       let texts = w.texts-texts.ensures in
       ap (λ r. r.rows) w.self-is ∙ w.in_ok-push.ensures.ok
       ∙ rw (texts.kind, texts.date, texts.id, texts.target, texts.truncated) (ap (λ (r : Row). c.args.self.now.rows ++ r ∷ []) row)
@@ -27,18 +27,18 @@ returns-clause-extends g c = elim c.match-take.branch [
 
 pub returns-clause-beside : goal.returns-clause-beside
 returns-clause-beside g c = elim c.match-take.branch [
-  | in-Some+in_ok-push+in-Ok w ↦ λ kept bytes records p is seen keeps count next.
-      let same : ◌≡◌ {A = Kept g.row.A.Denot} w.in-Some.current kept = let e : ◌≡◌ {A = Option (Kept g.row.A.Denot)} (Some w.in-Some.current) (Some kept) = w.in-Some.ensures.value ∙ is in cc in
-      let taken : HasSeen w.in-Some.current.digest bytes = subst (λ (x : Kept g.row.A.Denot). HasSeen x.digest bytes) (sym same) seen in
-      let P : Kept g.row.A.Denot → Type 0 = λ x. IsNextOf g.L.Keep.judges p x.head x.block_start x.block_len (verdict_of x.digest.wanted bytes) in
+  | in-Some+in_ok-push+in-Ok w ↦ λ kept records p is keeps count next seen.
+      let same : ◌≡◌ {A = Kept g.row.A.Denot g.row.B.Denot} w.in-Some.current kept = let e : ◌≡◌ {A = Option (Kept g.row.A.Denot g.row.B.Denot)} (Some w.in-Some.current) (Some kept) = w.in-Some.ensures.value ∙ is in cc in
+      let P : Kept g.row.A.Denot g.row.B.Denot → Type 0 = λ x. IsNextOf p x.head x.block_start x.block_len in
+      let S : Kept g.row.A.Denot g.row.B.Denot → Type 0 = λ x. g.B.TakeBlock.has_seen x.block x.head p.content.block in
+      let F : List Pair → Type 0 = λ fields. g.B.TakeBlock.has_seen w.in-Some.current.block fields p.content.block in
       let here = subst P (sym same) next in
       let now = w.in-Ok.ensures.ok records p keeps (w.len-position.ensures ∙ count) (record {
         fields_are = w.fields.ensures.fields ∙ here.fields_are;
         good = here.good;
         start_is = here.start_is;
         len_is = here.len_is;
-        verdict_is = w.verdict-verdict.ensures bytes taken ∙ here.verdict_is;
-      }) in
+      }) (subst F (sym w.fields.ensures.fields) (subst S (sym same) seen)) in
       subst (λ r. g.L.Keep.keeps r.beside (records ++ p ∷ [])) (sym w.self-is) now
   | in_default w ↦ search rules
 ]
