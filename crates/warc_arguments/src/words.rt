@@ -490,9 +490,10 @@ const FIXITY_NOTES: &str =
     "Every block is compared with the block digest that its head states. A line for
 each one that isn't good has four columns, with a tab between two: the
 record's position from 0, 'bad' or 'unchecked', its id without brackets, and
-the digest as the head states it; '-' for none. A block is unchecked if no
-digest is stated or it isn't SHA-1 in base32. The last line counts all
-records: 'records 60 good 58 bad 0 unchecked 2'.
+the digest as the head states it; '-' for none. MD5, SHA-1, SHA-256, SHA-384
+and SHA-512 are checked, in hexadecimal and in base32. A block is unchecked if
+its head states none of these. The last line counts all records:
+'records 60 good 58 bad 0 unchecked 2'.
 
 Exit status: 0 all blocks are good; 1 some block is bad; 2 the archive is
 refused, and nothing was written; 3 see 'warc --help'; 4 none is bad, and some
@@ -522,7 +523,7 @@ the fault, with --all a line for each damage, and then how much was written:
 'warc: salvaged 59 records, 14352 bytes'; of a good archive
 'warc: good 60 records, 15000 bytes'.
 
-Exit status: 0 the archive is good; 2 it isn't, and its good records were
+Exit status: 0 the archive is good; 2 it isn't, and these records were
 written; 3 a read or memory failed (F13, F14), and the records before it were
 written, or see 'warc --help'. There is no status 1.
 
