@@ -9,7 +9,7 @@ use Rattle.warc_reading.specs.Archive.{IsArchiveOf}
 use Rattle.warc_reading.specs.Row.{Row}
 use Rattle.warc.specs.Taking.{IsInRecord, record_len}
 
--- positions of some of so many records, in their order, each once
+-- positions of some of a number of records, in their order, each once
 pub record ArePositions (count : ℕ) (positions : List ℕ) : Type 0 where
   pub ascending : IsStrictlyIncreasing positions
   pub below : All (λ p. p < count) positions

@@ -33,8 +33,8 @@ abbrev pub GivesClosed : {A : Type 0} → Bool → List Row → Indexes → Part
 GivesClosed except rows index parts once =
     GivesPositions (λ all given. AreWantedClosed except all once given) rows index parts
 
--- how many records go the way of the named ones, of so many records, named ones and written ones: they are written
--- beside them, or left out besides
+-- how many records go the way of the named ones, by the numbers of all records, of the named and of the written ones:
+-- they are written beside the named ones, or left out besides
 abbrev pub beside : Bool → ℕ → ℕ → ℕ → ℕ
 beside false count named written = written - named
 beside true count named written = count - named - written

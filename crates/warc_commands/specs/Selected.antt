@@ -23,7 +23,7 @@ pub record AreTheNamed (count : ℕ) (named positions : List ℕ) : Type 0 where
   pub are : ArePositions count positions
   pub each : (p : ℕ) → Contains positions p ↔ Contains named p
 
--- the positions of what is written, of so many records: the named ones, or all others
+-- the positions of what is written, of a number of records: the named ones, or all others
 abbrev pub AreWanted : Bool → ℕ → List ℕ → List ℕ → Type 0
 AreWanted false count named chosen = AreTheNamed count named chosen
 AreWanted true count named chosen = AreOthers count named chosen

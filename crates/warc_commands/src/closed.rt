@@ -129,8 +129,8 @@ fn close<S: Source, A: Allocator + Copy>(
     archive.closed(positions)
 }
 
-/// How many records are written beside the named ones, or left out besides, of so many records, named ones and written
-/// ones.
+/// How many records are written beside the named ones, or left out besides, by the numbers of all records, of the named
+/// and of the written ones.
 fn count_beside(count: usize, named: usize, written: usize, except: bool) -> usize
     ensures { result ≡ beside except count named written }
 {
