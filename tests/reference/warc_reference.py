@@ -59,6 +59,7 @@ FOLD = re.compile(rb"\r\n[ \t]+")
 LINE_END = re.compile(rb"\r\n(?![ \t])")
 UUID_ID = re.compile(rb"urn:uuid:[0-9a-f]{8}(-[0-9a-f]{4}){3}-[0-9a-f]{12}", re.IGNORECASE)
 SHA1 = re.compile(rb"sha1:([a-z2-7]{32})", re.IGNORECASE)
+STATED = re.compile(rb"(md5|sha-?(?:1|256|384|512)):(.*)", re.IGNORECASE | re.DOTALL)
 DATE = re.compile(rb"(\d{4})(?:-(\d\d)(?:-(\d\d)(?:T(\d\d):(\d\d)(?::(\d\d)(?:\.(\d{1,9}))?)?Z)?)?)?")
 STATUS_LINE = re.compile(rb"HTTP/1\.[01] (\d{3})(?: [\t\x20-\x7e\x80-\xff]*)?")
 MEDIA_TYPE = re.compile(rb"[!#$%&'*+\-.^_`|~0-9A-Za-z]+/[!#$%&'*+\-.^_`|~0-9A-Za-z]+")
@@ -152,6 +153,33 @@ def sha1_text(block: bytes) -> bytes:
     return base64.b32encode(hashlib.sha1(block).digest())
 
 
+def decoded(text: bytes, length: int) -> Optional[bytes]:
+    """The digest of this many bytes that a text in capitals states, in hexadecimal or in base32."""
+    is_padded = b"=" in text
+    padded = text if is_padded else text + b"=" * (-len(text) % 8)
+    is_hexadecimal = len(text) == 2 * length and not is_padded
+    try:
+        digest = base64.b16decode(text) if is_hexadecimal else base64.b32decode(padded)
+    except ValueError:
+        return None
+    # Python passes over bits that are left over, so the digest is written again.
+    written = base64.b32encode(digest)
+    texts = (base64.b16encode(digest), written, written.rstrip(b"="))
+    return digest if len(digest) == length and text in texts else None
+
+
+def stated_verdict(value: Optional[bytes], data: bytes) -> str:
+    """How bytes compare with the digest that a value states: `good`, `bad` or `unchecked`."""
+    match = STATED.fullmatch(value or b"")
+    if match is None:
+        return "unchecked"
+    state = hashlib.new(match.group(1).decode().lower().replace("-", ""), data)
+    stated = decoded(match.group(2).upper(), state.digest_size)
+    if stated is None:
+        return "unchecked"
+    return "good" if stated == state.digest() else "bad"
+
+
 def is_utf8(value: bytes) -> bool:
     try:
         value.decode("utf-8")
@@ -213,12 +241,16 @@ class Record:
         return None if value is None else id_of(value)
 
     def digest_verdict(self) -> str:
-        """`good`, `bad` or `unchecked`."""
+        """`good`, `bad` or `unchecked`, by SHA-1 in base32 alone, as findings and replays judge."""
         value = self.first("WARC-Block-Digest")
         match = SHA1.fullmatch(value) if value is not None else None
         if match is None:
             return "unchecked"
         return "good" if match.group(1).upper() == sha1_text(self.block) else "bad"
+
+    def stated_verdict(self) -> str:
+        """`good`, `bad` or `unchecked`, by whatever digest is stated."""
+        return stated_verdict(self.first("WARC-Block-Digest"), self.block)
 
     def canonical(self, version: Optional[bytes] = None, change: Optional[Change] = None) -> bytes:
         lines = [version or self.version]
@@ -708,7 +740,7 @@ def fixity_command(archive: Archive) -> Answer:
     lines = []
     counts = {"good": 0, "bad": 0, "unchecked": 0}
     for record in archive.records:
-        verdict = record.digest_verdict()
+        verdict = record.stated_verdict()
         counts[verdict] += 1
         if verdict != "good":
             stated = record.first("WARC-Block-Digest") or b"-"
@@ -817,7 +849,7 @@ def dates_of(records: List[Record]) -> Tuple[bytes, bytes]:
 
 def summary_command(archive: Archive) -> Answer:
     records = archive.records
-    verdicts = [record.digest_verdict() for record in records]
+    verdicts = [record.stated_verdict() for record in records]
     kinds = [record.kind or "other" for record in records]
     values = [("records", len(records)), ("bytes", len(archive.data))]
     values += [(kind, kinds.count(kind)) for kind in (*KINDS, "other")]

@@ -179,6 +179,18 @@ def some_date(chance: random.Random) -> str:
     return chance.choice(DATES)
 
 
+def other_digest(chance: random.Random, block: bytes) -> str:
+    """A block digest of any algorithm, in hexadecimal or in base32, whose padding may be wrong."""
+    names = ("md5", "sha1", "sha-1", "sha256", "SHA-256", "sha384", "sha-384", "sha512", "Sha-512", "sha224")
+    name = chance.choice(names)
+    digest = hashlib.new(name.lower().replace("-", ""), block).digest()
+    if yes(chance, 2):
+        return "%s:%s" % (name, random_case(chance, digest.hex()))
+    text = base64.b32encode(digest).decode().rstrip("=")
+    padding = chance.choice((0, 0, -len(text) % 8, -len(text) % 8, 1, 8))
+    return "%s:%s" % (name, random_case(chance, text) + "=" * padding)
+
+
 def some_digest(chance: random.Random, block: bytes) -> str:
     """A block digest: good, bad, of another kind, or none that can be checked."""
     good = sha1_text(block)
@@ -192,10 +204,12 @@ def some_digest(chance: random.Random, block: bytes) -> str:
             sha1_text(block + b"x"),
             good[:-1],
             good + "A",
-            "sha1:" + hashlib.sha1(block).hexdigest(),
-            "sha256:" + hashlib.sha256(block).hexdigest(),
             "",
             "sha1:",
+            other_digest(chance, block),
+            other_digest(chance, block),
+            other_digest(chance, block)[:-1],
+            other_digest(chance, block + b"x"),
             "sha1: " + good[5:],
             good + "\tx",
             "md5:x",
