@@ -65,6 +65,8 @@ size_t warc_rt_body(warc_handle *handle, size_t position, warc_answer *answer, w
 size_t warc_rt_list(warc_handle *handle, uint8_t *text, size_t text_length, warc_problem *problem);
 size_t warc_rt_check(warc_handle *handle, uint8_t *text, size_t text_length, warc_problem *problem);
 size_t warc_rt_fixity(const uint8_t *bytes, size_t length, uint8_t *text, size_t text_length, warc_problem *problem);
+size_t warc_rt_pieces(const uint8_t *bytes, size_t length, warc_piece *pieces, size_t pieces_length,
+                      warc_problem *problem);
 bool warc_rt_rewrite(const uint8_t *bytes, size_t length, uint64_t start, uint8_t *part, size_t room, uint64_t *filled,
                      warc_problem *problem);
 bool warc_rt_convert(const uint8_t *bytes, size_t length, uint64_t start, uint8_t *part, size_t room, uint64_t *filled,
@@ -221,6 +223,16 @@ void warc_close(warc_archive *archive) {
 size_t warc_count(const warc_archive *archive) { return archive != NULL ? archive->count : 0; }
 
 size_t warc_length(const warc_archive *archive) { return archive != NULL ? archive->length : 0; }
+
+/* ---- Pieces */
+
+size_t warc_pieces(const uint8_t *bytes, size_t length, warc_piece *pieces, size_t pieces_length,
+                   warc_problem *problem) {
+    warc_problem none;
+    if (problem == NULL) problem = &none;
+    if (!begin(fits(bytes, length, 1) && fits(pieces, pieces_length, sizeof *pieces), problem)) return 0;
+    return warc_rt_pieces(bytes_or_nothing(bytes), length, room_or_nothing(pieces), pieces_length, problem);
+}
 
 /* ---- Records */
 

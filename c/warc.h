@@ -17,8 +17,8 @@
  *
  * TEXTS are bytes with a length, and end with no zero byte. A call that gives a text writes as many bytes as the buffer
  * has room for, and answers the length of the whole text: if that is more, call again with a larger buffer. A buffer of
- * length 0 asks for the length alone. Calls that give spans or positions do the same, in elements. What is in a buffer
- * after what was written, and after a problem, stays as it was.
+ * length 0 asks for the length alone. Calls that give spans, positions or pieces do the same, in elements. What is in a
+ * buffer after what was written, and after a problem, stays as it was.
  *
  * PROBLEMS. A call that fails sets `*problem` and answers 0, false or WARC_UNCHECKED; one that succeeds sets it to {0}.
  * A problem has a code, listed below, and warc_problem_text gives its text, as the program `warc` prints it. `problem`
@@ -44,24 +44,27 @@
  * MEMORY comes from malloc, realloc and free. If it runs out, the answer is WARC_FAULT_MEMORY or WARC_NO_MEMORY, and
  * the archive stays as it was. An archive keeps rows and an index, and no block: 300 bytes for each record of a crawl
  * by wget. It also keeps the text of warc_list, warc_check or warc_fixity that it gave last, until it gives another or
- * grows, so that the second call for a text copies it; and some 200 KiB once warc_field_at was called.
+ * grows, so that the second call for a text copies it; and some 200 KiB once warc_field_at was called. warc_pieces
+ * takes 256 KiB, and the memory of one head, while it runs.
  *
  * TIME. warc_open reads each byte once, warc_grow each new one, warc_open_front each byte twice, and none hashes
- * anything. A block is hashed where its verdict is asked for: by warc_verdict_at that of one record, by warc_check and
- * warc_fixity those of all records whose digests can be checked, by warc_replay and warc_body_at those that are joined.
+ * anything. warc_pieces hashes nothing either; it reads each byte of damage, and more than once where heads seem to
+ * begin in it (docs/SPEED.md). A block is hashed where its verdict is asked for: by warc_verdict_at that of one record,
+ * by warc_check and warc_fixity those of all records whose digests can be checked, by warc_replay and warc_body_at
+ * those that are joined.
  *
  * PROVED. A call over an archive is one call of a library function whose contract says what is answered and what is put
  * into the buffers: put_row, verdict_at, put_captures, put_replay, put_body, put_list, put_check or grow_lent of the
  * crate warc_lent, or count of warc. Around it the archive is taken out of its handle and put back, and a problem
- * becomes numbers. warc_head_at and warc_block_at take theirs from the row. warc_open, warc_open_front, warc_field_at,
- * warc_http_at, warc_http_field_at, warc_fixity, warc_problem_text and warc_abi_version call functions over bytes that
- * state their contracts themselves; warc_open answers true only for bytes that spell good records, and otherwise gives
- * their first fault, or says that memory ran out. warc_rewrite, warc_convert, warc_split, warc_select and warc_make are
- * one call of write_lent, split_lent, select_lent or make_lent each, whose contract says what goes to a sink; that a
- * descriptor takes these bytes is write's matter, and warc.c puts the parts together. No contract says that a handle
- * holds the archive that was opened: contracts see no value of a struct that C keeps (docs/PROMISES.md). What this page
- * demands of the caller isn't checked by anybody, and warc.c, which checks pointers, keeps texts and finds fields in
- * what was put, isn't proved.
+ * becomes numbers. warc_head_at and warc_block_at take theirs from the row. warc_open, warc_open_front, warc_pieces,
+ * warc_field_at, warc_http_at, warc_http_field_at, warc_fixity, warc_problem_text and warc_abi_version call functions
+ * over bytes that state their contracts themselves; warc_open answers true only for bytes that spell good records, and
+ * otherwise gives their first fault, or says that memory ran out. warc_rewrite, warc_convert, warc_split, warc_select
+ * and warc_make are one call of write_lent, split_lent, select_lent or make_lent each, whose contract says what goes to
+ * a sink; that a descriptor takes these bytes is write's matter, and warc.c puts the parts together. No contract says
+ * that a handle holds the archive that was opened: contracts see no value of a struct that C keeps (docs/PROMISES.md).
+ * What this page demands of the caller isn't checked by anybody, and warc.c, which checks pointers, keeps texts and
+ * finds fields in what was put, isn't proved.
  */
 #ifndef WARC_H
 #define WARC_H
@@ -176,6 +179,27 @@ size_t warc_count(const warc_archive *archive);
 /* How many bytes the records have, from offset 0 on: all that the archive was opened over, or those of the good
  * front; 0 for a null pointer. */
 size_t warc_length(const warc_archive *archive);
+
+/* ---- Pieces of bytes, which may be damaged */
+
+/* A piece: a run of good records, or damage, which are bytes at none of which a good record begins that lies whole in
+ * the bytes. Of a run `count` is how many records it has, at least 1, and `fault` is {0}. Of damage `count` is 0, and
+ * `fault` says why no good record begins with its first byte: WARC_FAULT_VERSION to WARC_FAULT_TRUNCATED, at an offset
+ * in the bytes that may lie beyond the damage. */
+typedef struct {
+    uint64_t offset;
+    uint64_t length;
+    uint64_t count;
+    warc_problem fault;
+} warc_piece;
+
+/* The pieces of these bytes, in order. They follow one another without gap or overlap from offset 0 to the end, and
+ * runs and damage come in turn: an archive is one piece, and no bytes have none. The bytes of all runs, joined, are an
+ * archive of their records. Answers how many pieces there are; if that is more than `pieces_length`, only the first
+ * ones are written. 0 without bytes, and with a problem: WARC_FAULT_MEMORY, or WARC_FAULT_TOO_LONG for bytes that go on
+ * at offset 2^48. With a problem the pieces before it are written, as far as there is room. */
+size_t warc_pieces(const uint8_t *bytes, size_t length, warc_piece *pieces, size_t pieces_length,
+                   warc_problem *problem);
 
 /* ---- Records */
 

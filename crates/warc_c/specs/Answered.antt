@@ -6,11 +6,13 @@ use Rattle.warc_reading.specs.Archive.{IsArchiveOf}
 use Rattle.warc_reading.specs.Row.{Row}
 use Rattle.warc_lent.specs.Fronts.{IsGoodFront}
 use Rattle.warc_lent.specs.Heads.{PutsFields, PutsHttp}
+use Rattle.warc_lent.specs.Pieces.{PutsPieceNumbers}
 use Rattle.warc_lent.specs.Problems.{fault_numbers, problem_numbers}
 use Rattle.warc_lent.specs.Texts.{IsRefusedFor, PutsFixity}
 use Rattle.warc_lent.specs.declared.heads.FieldNumbers.{FieldNumbers}
 use Rattle.warc_lent.specs.declared.heads.HttpFieldNumbers.{HttpFieldNumbers}
 use Rattle.warc_lent.specs.declared.heads.HttpNumbers.{HttpNumbers}
+use Rattle.warc_lent.specs.declared.pieces.PieceNumbers.{PieceNumbers}
 use Rattle.warc_lent.specs.declared.problem.Numbers.{Numbers}
 use Rattle.warc_lent.specs.declared.problem.Problem.{Problem}
 
@@ -52,6 +54,13 @@ pub record AnswersFront (bytes : List ℕ) (end : ℕ) (before after : Numbers) 
   pub fault : Option Fault
   pub front : IsGoodFront bytes end fault
   pub reported : IsFaultReported fault before after
+
+-- the pieces of bytes are put, and their number is answered, or a problem is reported
+pub record AnswersPieces (bytes : List ℕ) (answer : ℕ) (old new : List PieceNumbers) (before after : Numbers)
+    : Type 0 where
+  pub result : Result ℕ Problem
+  pub puts : PutsPieceNumbers bytes result old new
+  pub answered : IsAnswered result answer before after
 
 -- the fields of a head of a record are put, and their number is answered, or a problem is reported
 pub record AnswersFields (head : List ℕ) (answer : ℕ) (lengths : List FieldNumbers) (texts : List ℕ)

@@ -8,6 +8,7 @@
 mod bodies;
 mod heads;
 mod open;
+mod pieces;
 mod problems;
 mod rows;
 mod texts;

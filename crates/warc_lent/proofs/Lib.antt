@@ -2,5 +2,6 @@ mod BodyLemmas
 pub mod BufferLemmas
 mod FrontLemmas
 mod HeadLemmas
+mod PieceLemmas
 pub mod TextLemmas
 mod WritingLemmas

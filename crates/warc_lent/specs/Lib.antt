@@ -4,6 +4,7 @@ pub mod Captures
 pub mod Fronts
 pub mod Growing
 pub mod Heads
+pub mod Pieces
 pub mod Problems
 pub mod Rows
 pub mod Texts

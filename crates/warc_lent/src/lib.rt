@@ -1,5 +1,5 @@
-//! What callers in other languages ask of an archive over bytes that they lend: problems as numbers, rows, captures and
-//! bodies as numbers and texts in their buffers, and texts that they take whole.
+//! What callers in other languages ask of an archive over bytes that they lend: problems and pieces as numbers, rows,
+//! captures and bodies as numbers and texts in their buffers, and texts that they take whole.
 #![tactic(auto)]
 
 mod bodies;
@@ -8,6 +8,7 @@ mod captures;
 mod fronts;
 mod growing;
 mod heads;
+mod pieces;
 mod problem;
 mod rows;
 mod texts;
@@ -19,6 +20,7 @@ pub use captures::put_captures;
 pub use fronts::good_front;
 pub use growing::{begins_alike, grow_lent};
 pub use heads::{FieldNumbers, HttpFieldNumbers, HttpNumbers, put_fields, put_http};
+pub use pieces::{PieceNumbers, put_pieces};
 pub use problem::{Numbers, Problem};
 pub use rows::{
     RowNumbers, flag_of, put_row, put_row_texts, row_numbers, verdict_at, verdict_number,
