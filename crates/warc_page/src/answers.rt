@@ -6,27 +6,17 @@ ghost use Rattle.warc_reading.specs.Archive.{contents};
 ghost use Rattle.warc_reading.specs.Indexed.{AreOf, IsIndexed, indexed_record};
 ghost use Rattle.warc_reading.specs.Row.{Placed};
 ghost use Rattle.warc_lent.specs.Bodies.{PutsAt, PutsReplay};
-ghost use Rattle.warc_page.specs.Shown.{EndsWith, PutsChosen, Replies};
+ghost use Rattle.warc_page.specs.Shown.{PutsChosen, Replies};
 
 use crate::archive::PageArchive;
-use crate::ending::{end_by, ended};
-use crate::shapes::{DONE, PageOutcome};
+use crate::ending::{end_by, end_with};
+use crate::shapes::PageOutcome;
 use std::alloc::Allocator;
 use warc::Archive;
 use warc_frame::Source;
 use warc_heap::{Heap, Memory};
 use warc_lent::{AnswerNumbers, Problem, SpanNumbers, put_body, put_replay};
 use warc_value::read_date;
-
-/// How a call ends: with a number of spans, or with a problem.
-fn end_with<A: Allocator>(alloc: A, answer: Result<usize, Problem>, text: &mut [u8]) -> PageOutcome
-    ensures { EndsWith answer result text.new }
-{
-    match answer {
-        Ok(count) => ended(DONE, count),
-        Err(problem) => end_by(alloc, problem, text),
-    }
-}
 
 /// Puts the body that the capture at a position gives: what is said of it, and its spans.
 fn body_at<S: Source, A: Allocator + Copy, B: Allocator>(

@@ -1,8 +1,8 @@
 //! How a call ends.
 ghost use Rattle.std.specs.Prelude.{◌≡◌, length};
-ghost use Rattle.warc_page.specs.Shown.{EndsBy};
+ghost use Rattle.warc_page.specs.Shown.{EndsBy, EndsWith};
 
-use crate::shapes::{MEMORY, PageOutcome, REFUSED};
+use crate::shapes::{DONE, MEMORY, PageOutcome, REFUSED};
 use std::alloc::Allocator;
 use warc_frame::FaultKind;
 use warc_lent::{Problem, problem_text, put_text};
@@ -38,5 +38,19 @@ pub(crate) fn end_by<A: Allocator>(alloc: A, problem: Problem, out: &mut [u8]) -
     match problem_text(alloc, problem) {
         Ok(text) => ended(REFUSED, put_text(text.as_slice(), out)),
         Err(_) => ended(MEMORY, 0),
+    }
+}
+
+/// How a call ends: with a number of spans or pieces, or with a problem.
+pub(crate) fn end_with<A: Allocator>(
+    alloc: A,
+    answer: Result<usize, Problem>,
+    text: &mut [u8],
+) -> PageOutcome
+    ensures { EndsWith answer result text.new }
+{
+    match answer {
+        Ok(count) => ended(DONE, count),
+        Err(problem) => end_by(alloc, problem, text),
     }
 }

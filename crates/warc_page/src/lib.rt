@@ -12,6 +12,7 @@ mod findings;
 mod front;
 mod judging;
 mod open;
+mod pieces;
 mod shapes;
 
 pub use answers::{page_body, page_replay};
@@ -20,4 +21,5 @@ pub use findings::page_findings;
 pub use front::page_front;
 pub use judging::page_verdict;
 pub use open::page_open;
+pub use pieces::{page_pieces, page_problem};
 pub use shapes::{PageFront, PageOutcome};
