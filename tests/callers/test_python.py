@@ -785,6 +785,181 @@ class Writing(unittest.TestCase):
             self.assertEqual((run.stdout, os.path.getsize(f"{folder}/a")), (b"5000\n", 5000))
 
 
+class Pieces(unittest.TestCase):
+    FIRST, SECOND, THIRD = (stored("HTTP/1.1 200 OK", b"abc" * number, number=number) for number in (1, 2, 3))
+
+    def seen(self, file: Any, **how: bool) -> List[Tuple[int, int, int, Optional[str]]]:
+        """The pieces of a file. They are the same over a mapping and in memory."""
+        found = zogwedu.pieces(file, **how)
+        return [(it.offset, it.length, it.count, None if it.fault is None else it.fault.text) for it in found]
+
+    def salvaged(self, file: Any) -> Tuple[bytes, zogwedu.Salvaged]:
+        """What is written of a file, and what is said of it."""
+        out = io.BytesIO()
+        salvaged = zogwedu.salvage(file, out)
+        self.assertEqual(
+            (salvaged.length, len(zogwedu.Archive(out.getvalue()))), (len(out.getvalue()), salvaged.records)
+        )
+        return out.getvalue(), salvaged
+
+    def test_an_archive_is_one_piece(self) -> None:
+        with open(CRAWL, "rb") as file:
+            whole = file.read()
+        for mapped in (True, False):
+            self.assertEqual(self.seen(CRAWL, mmap=mapped), [(0, len(whole), 18, None)])
+        self.assertEqual(self.salvaged(CRAWL), (whole, zogwedu.Salvaged(18, len(whole), [])))
+
+    def test_damage_between_good_records(self) -> None:
+        first, second = len(self.FIRST), len(self.SECOND)
+        data = self.FIRST + self.SECOND.replace(b"Length: ", b"Length: x") + self.THIRD + b"\0\0"
+        end = first + second + 1 + len(self.THIRD)
+        wanted = [
+            (0, first, 1, None),
+            (first, second + 1, 0, f"F6 Length at {first}"),
+            (first + second + 1, len(self.THIRD), 1, None),
+            (end, 2, 0, f"F1 Version at {end}"),
+        ]
+        self.assertEqual(self.seen(io.BytesIO(data)), wanted)
+        with tempfile.TemporaryDirectory() as folder:
+            with open(f"{folder}/a.warc", "wb") as file:
+                file.write(data)
+            self.assertEqual(self.seen(f"{folder}/a.warc"), wanted)
+            good, salvaged = self.salvaged(f"{folder}/a.warc")
+        self.assertEqual((good, salvaged.records), (self.FIRST + self.THIRD, 2))
+        self.assertEqual([(it.offset, it.length) for it in salvaged.damage], [(first, second + 1), (end, 2)])
+        fault = salvaged.damage[0].fault
+        assert fault is not None
+        self.assertEqual((fault.name, fault.code, fault.offset), ("F6 Length", 6, first))
+
+    def test_the_field_that_is_absent_is_named(self) -> None:
+        data = self.FIRST.replace(b"WARC-Date", b"WARC-Data")
+        self.assertEqual(self.seen(io.BytesIO(data)), [(0, len(data), 0, "F4 Missing WARC-Date at 0")])
+
+    def test_no_bytes_and_no_good_record(self) -> None:
+        zeros = b"\0" * 5000
+        self.assertEqual(self.seen(io.BytesIO()), [])
+        self.assertEqual(self.seen(io.BytesIO(zeros)), [(0, 5000, 0, "F1 Version at 0")])
+        for data, damages in ((b"", 0), (zeros, 1)):
+            good, salvaged = self.salvaged(io.BytesIO(data))
+            self.assertEqual((good, salvaged.records, len(salvaged.damage)), (b"", 0, damages))
+        with tempfile.NamedTemporaryFile() as file:
+            self.assertEqual(self.seen(file.name), [])
+
+    def test_more_pieces_than_the_first_buffer_holds(self) -> None:
+        data = (self.FIRST + b"damage") * 100
+        found = self.seen(io.BytesIO(data))
+        self.assertEqual((len(found), sum(length for _, length, _, _ in found)), (200, len(data)))
+        self.assertEqual({(length, count) for _, length, count, _ in found}, {(len(self.FIRST), 1), (6, 0)})
+        good, salvaged = self.salvaged(io.BytesIO(data))
+        self.assertEqual((good, salvaged.records, len(salvaged.damage)), (self.FIRST * 100, 100, 100))
+
+    def test_a_compressed_file(self) -> None:
+        packed = gzip.compress(self.FIRST + b"damage" + self.THIRD)
+        self.assertEqual([count for _, _, count, _ in self.seen(io.BytesIO(packed))], [1, 0, 1])
+        self.assertEqual(self.salvaged(io.BytesIO(packed))[0], self.FIRST + self.THIRD)
+        out = io.BytesIO()
+        for torn in (packed[:-1], packed + b"x"):
+            with self.assertRaises(zogwedu.CompressedError):
+                zogwedu.pieces(io.BytesIO(torn))
+            with self.assertRaises(zogwedu.CompressedError):
+                zogwedu.salvage(io.BytesIO(torn), out)
+        self.assertEqual(out.getvalue(), b"")
+
+    def test_outputs_of_any_kind(self) -> None:
+        large = stored("HTTP/1.1 200 OK", bytes(range(256)) * 10000, number=4)
+        data, wanted = self.FIRST + b"damage" + large, self.FIRST + large
+        with tempfile.TemporaryDirectory() as folder:
+            with open(f"{folder}/a", "wb") as out:
+                out.write(b"front")
+                zogwedu.salvage(io.BytesIO(data), out)
+                out.write(b"back")
+            with open(f"{folder}/a", "rb") as file:
+                self.assertEqual(file.read(), b"front" + wanted + b"back")
+            with gzip.open(f"{folder}/b.gz", "wb") as packed:
+                zogwedu.salvage(io.BytesIO(data), packed)
+            with gzip.open(f"{folder}/b.gz", "rb") as file:
+                self.assertEqual(file.read(), wanted)
+            with open(f"{folder}/c", "wb", buffering=0) as out:
+                zogwedu.salvage(io.BytesIO(data), out.fileno())
+            self.assertEqual(os.path.getsize(f"{folder}/c"), len(wanted))
+            with open(f"{folder}/d", "w", encoding="utf-8") as text, self.assertRaises(TypeError):
+                zogwedu.salvage(io.BytesIO(data), text)
+
+    def test_the_file_that_is_read_is_not_written(self) -> None:
+        data = self.FIRST + b"damage" + self.THIRD
+        with tempfile.TemporaryDirectory() as folder:
+            path = f"{folder}/a"
+            with open(path, "wb") as file:
+                file.write(data)
+            os.symlink(path, f"{folder}/symbolic")
+            os.link(path, f"{folder}/hard")
+            for source, mode in itertools.product((path, f"{folder}/symbolic", f"{folder}/hard"), ("r+b", "ab")):
+                with open(path, mode) as out:
+                    for target in (out, out.fileno()):
+                        with self.assertRaises(ValueError):
+                            zogwedu.salvage(source, target)
+            with open(path, "rb") as read, open(path, "r+b") as out, self.assertRaises(ValueError):
+                zogwedu.salvage(read, out)
+            with open(path, "rb") as read:
+                self.assertEqual(read.read(), data)
+            with gzip.open(path, "ab") as packed, self.assertRaises(ValueError):
+                zogwedu.salvage(path, packed)
+
+    def test_a_failed_write_says_how_much_went_out(self) -> None:
+        with open("/dev/full", "wb", buffering=0) as full, self.assertRaises(zogwedu.WriteFailed) as raised:
+            zogwedu.salvage(CRAWL, full)
+        self.assertEqual((raised.exception.sent, raised.exception.code), (0, 208))
+        small = Full(1000)
+        with self.assertRaises(zogwedu.WriteFailed) as raised:
+            zogwedu.salvage(CRAWL, small)
+        self.assertEqual((raised.exception.sent, len(small.taken)), (1000, 1000))
+        read, write = os.pipe()
+        os.close(read)
+        with self.assertRaises(zogwedu.WriteFailed):
+            zogwedu.salvage(CRAWL, write)
+        os.close(write)
+
+    def test_no_mapping_is_left(self) -> None:
+        def is_mapped() -> bool:
+            with open("/proc/self/maps", encoding="utf-8", errors="replace") as maps:
+                return "crawl.warc" in maps.read()
+
+        class Keeping(io.RawIOBase):
+            """Takes what is written, and keeps it."""
+
+            kept: List[Any] = []
+
+            def write(self, piece: Any) -> int:
+                self.kept.append(piece)
+                return len(piece)
+
+        zogwedu.pieces(CRAWL)
+        zogwedu.salvage(CRAWL, Keeping())
+        self.assertFalse(is_mapped())
+        with open(CRAWL, "rb") as file:
+            self.assertEqual(b"".join(Keeping.kept), file.read())
+
+    def test_memory_that_runs_out(self) -> None:
+        code = (
+            "import io, resource, sys, zogwedu\n"
+            "source = io.BytesIO(sys.stdin.buffer.read())\n"
+            "pages = int(open('/proc/self/statm').read().split()[0])\n"
+            "resource.setrlimit(resource.RLIMIT_AS, (pages * resource.getpagesize(),) * 2)\n"
+            "try:\n"
+            "    zogwedu.salvage(source, sys.stdout.buffer)\n"
+            "except zogwedu.Refused as error:\n"
+            "    print(error)\n"
+        )
+        run = subprocess.run(
+            [sys.executable, "-c", code],
+            input=self.FIRST,
+            env={**os.environ, "MALLOC_MMAP_THRESHOLD_": "65536", "MALLOC_ARENA_MAX": "1"},
+            capture_output=True,
+            check=True,
+        )
+        self.assertEqual(run.stdout, b"F14 Memory at 0\n")
+
+
 class Package(unittest.TestCase):
     def test_a_missing_library_is_an_import_error(self) -> None:
         for path in ("/nowhere/libwarc.so", "/usr/lib/x86_64-linux-gnu/libc.so.6"):

@@ -31,7 +31,9 @@ A read of a mapped file that fails kills the process by SIGBUS: where the file b
 network fails. `Archive.open(path, mmap=False)` reads the file into memory.
 
 `Archive` opens, lists, checks, replays and writes; `Record` is one of its records, with `Headers` and `Http`; `Body` is
-what a replay gives; `make` writes a new record. The exceptions are all a `WarcError`:
+what a replay gives; `make` writes a new record. `pieces` gives the runs of good records of a damaged file, and the
+damage between them, each a `Piece`; `salvage` writes all good records, and says by `Salvaged` what was left out. The
+exceptions are all a `WarcError`:
 
 - `Refused`: the archive is refused, F1 to F14 at an offset.
 - `CompressedError`: the file is compressed, and damaged or torn at the offset of a member.
@@ -46,6 +48,7 @@ undoing of codings (`decoded=True`) are not.
 """
 from ._archive import Archive, Body, Finding, Fixity, Record, UnfitBlock
 from ._heads import Headers, Http
+from ._pieces import Piece, Salvaged, pieces, salvage
 from ._problems import (
     Changed,
     Closed,
@@ -74,14 +77,18 @@ __all__ = [
     "NoBody",
     "NoRecord",
     "NotMade",
+    "Piece",
     "Record",
     "Refused",
+    "Salvaged",
     "Undecodable",
     "UnfitBlock",
     "ViewsAlive",
     "WarcError",
     "WriteFailed",
     "make",
+    "pieces",
+    "salvage",
 ]
 __version__ = "0.2.0"
 

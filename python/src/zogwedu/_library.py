@@ -25,6 +25,10 @@ class Problem(c.Structure):
     _fields_ = [("code", U32), ("detail", U32), ("number", U64)]
 
 
+class CPiece(c.Structure):
+    _fields_ = [("offset", U64), ("length", U64), ("count", U64), ("fault", Problem)]
+
+
 class Row(c.Structure):
     _fields_ = [
         ("offset", U64),
@@ -114,6 +118,7 @@ def _calls() -> Any:
         "check": (SIZE, [POINTER, POINTER, SIZE, problem]),
         "list": (SIZE, [POINTER, POINTER, SIZE, problem]),
         "fixity": (SIZE, [POINTER, POINTER, SIZE, problem]),
+        "pieces": (SIZE, [POINTER, SIZE, c.POINTER(CPiece), SIZE, problem]),
         "rewrite": (c.c_bool, write),
         "convert": (c.c_bool, write),
         "split": (c.c_bool, [POINTER, SIZE, U64, *write[2:]]),
@@ -175,6 +180,11 @@ def error_of(problem: Problem, answer: Optional[Answer] = None, sent: int = 0) -
     return {NO_RECORD: NoRecord, CHANGED: Changed}.get(code, WarcError)(text, code)
 
 
+def fault_of(problem: Problem) -> Optional[Refused]:
+    """The exception for a fault, if there is one."""
+    return Refused(problem_text(problem), problem.code, problem.number) if problem.code else None
+
+
 class Lent:
     """Bytes at an address that stays the same until they are given back."""
 
@@ -220,8 +230,7 @@ class Opened:
             is_open = lib.warc_open(*bytes_of, c.byref(problem))
         if not is_open:
             raise error_of(problem)
-        if fault.code:
-            self.fault = Refused(problem_text(fault), fault.code, fault.number)
+        self.fault = fault_of(fault)
         self._at = at.value
 
     def _open(self) -> int:
@@ -383,6 +392,19 @@ class Opened:
     def select(self, file: int, positions: List[int], except_: bool, closed: bool) -> None:
         """Writes the records at positions, or all others, to a file descriptor; with what they need, if `closed`."""
         self.write(lib.warc_select, file, (U64 * len(positions))(*positions), len(positions), except_, closed)
+
+
+def pieces(lent: Lent) -> List[CPiece]:
+    """The pieces of bytes, asked for again if there are more than the buffer has room for."""
+    room = 64
+    while True:
+        found, problem = (CPiece * room)(), Problem()
+        count = lib.warc_pieces(lent.address, lent.length, found, room, c.byref(problem))
+        if problem.code:
+            raise error_of(problem)
+        if count <= room:
+            return list(found[:count])
+        room = count
 
 
 def written(ask: Any) -> None:

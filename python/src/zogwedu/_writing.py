@@ -4,11 +4,13 @@ import os
 import tempfile
 import uuid as uuids
 from datetime import datetime, timezone
-from typing import Any, Callable, Optional, Union
+from functools import partial
+from typing import Any, Callable, Iterable, Optional, Union
 
 from . import _library as library
 from ._problems import WriteFailed
 
+Bytes = Union[bytes, memoryview]
 Text = Union[str, bytes]
 Output = Any  # a binary file object, or the number of a file descriptor
 PIECE = 1 << 20
@@ -36,6 +38,20 @@ def _descriptor(out: Output) -> Optional[int]:
     return out.fileno() if type(raw) is io.FileIO else None
 
 
+def _put(piece: Bytes, put: Callable[[Bytes], Optional[int]], sent: int) -> int:
+    """Writes a piece after what was sent, and gives how many bytes are sent then."""
+    while piece:
+        try:
+            taken = put(piece)
+        except OSError as error:
+            raise WriteFailed(f"write failed: {error}", library.WRITE_FAILED, sent) from error
+        if not taken:
+            raise WriteFailed("write failed: nothing was taken", library.WRITE_FAILED, sent)
+        sent += taken
+        piece = piece[taken:]
+    return sent
+
+
 def _copy(source: Any, out: Output) -> None:
     """Writes what a file has to an object, in pieces."""
     sent = 0
@@ -43,31 +59,41 @@ def _copy(source: Any, out: Output) -> None:
         piece = source.read(PIECE)
         if not piece:
             return
-        while piece:
-            try:
-                taken = out.write(piece)
-            except OSError as error:
-                raise WriteFailed(f"write failed: {error}", library.WRITE_FAILED, sent) from error
-            if not taken:
-                raise WriteFailed("write failed: nothing was taken", library.WRITE_FAILED, sent)
-            sent += taken
-            piece = piece[taken:]
+        sent = _put(piece, out.write, sent)
+
+
+def _begin(out: Output) -> Optional[int]:
+    """The descriptor of an output, if it is written by that: then what its object holds back is written before."""
+    if isinstance(out, io.TextIOBase):
+        raise TypeError("an archive is written to a binary file: open it with mode 'wb'")
+    file = _descriptor(out)
+    if file is not None and not isinstance(out, int):
+        out.flush()
+    return file
 
 
 def write_to(out: Output, write: Callable[[int], None]) -> None:
     """Has something written to a file: by its descriptor, or to a file without a name and from there in pieces."""
-    if isinstance(out, io.TextIOBase):
-        raise TypeError("an archive is written to a binary file: open it with mode 'wb'")
-    file = _descriptor(out)
-    if file is None:
-        with tempfile.TemporaryFile() as through:
-            write(through.fileno())
-            through.seek(0, os.SEEK_SET)
-            _copy(through, out)
+    file = _begin(out)
+    if file is not None:
+        write(file)
         return
-    if not isinstance(out, int):
-        out.flush()
-    write(file)
+    with tempfile.TemporaryFile() as through:
+        write(through.fileno())
+        through.seek(0, os.SEEK_SET)
+        _copy(through, out)
+
+
+def write_parts(out: Output, parts: Iterable[memoryview]) -> None:
+    """Writes parts one after another: to a file by its descriptor, or to an object in copies, which it may keep."""
+    file, sent = _begin(out), 0
+    for part in parts:
+        for begin in range(0, len(part), PIECE):
+            piece = part[begin : begin + PIECE]
+            if file is None:
+                sent = _put(bytes(piece), out.write, sent)
+            else:
+                sent = _put(piece, partial(os.write, file), sent)
 
 
 def make(
