@@ -82,10 +82,23 @@ fn report(out: &mut impl Write, archive: &Archive<'_>) -> Result<(), Box<dyn err
     (0..archive.len()).try_for_each(|position| put_heads(out, archive, position))
 }
 
+/// The lines of `warc pieces`, made of pieces.
+fn put_pieces(out: &mut impl Write, bytes: &[u8]) -> Result<(), Box<dyn error::Error>> {
+    writeln!(out, "== pieces")?;
+    for piece in zogwedu::pieces(bytes)? {
+        match piece.fault {
+            Some(fault) => writeln!(out, "damage\t{}\t{}\t{fault}", piece.offset, piece.bytes.len())?,
+            None => writeln!(out, "records\t{}\t{}\t{}", piece.offset, piece.bytes.len(), piece.count)?,
+        }
+    }
+    Ok(())
+}
+
 fn main() -> Result<(), Box<dyn error::Error>> {
     let path = std::env::args_os().nth(1).ok_or("usage: report ARCHIVE")?;
     let bytes = std::fs::read(path)?;
     let mut out = io::BufWriter::new(io::stdout().lock());
+    put_pieces(&mut out, &bytes)?;
     match Archive::open(&bytes) {
         Ok(archive) => report(&mut out, &archive)?,
         Err(error) => writeln!(out, "== refused\n{error}")?,

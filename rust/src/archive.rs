@@ -157,7 +157,7 @@ pub struct Archive<'a> {
     bytes: &'a [u8],
 }
 
-fn check_version() -> Result<(), Error> {
+pub(crate) fn check_version() -> Result<(), Error> {
     if raw::abi_version() == raw::ABI_VERSION {
         Ok(())
     } else {
@@ -168,6 +168,13 @@ fn check_version() -> Result<(), Error> {
 /// A number of the library as one of this machine.
 fn usize_of(number: u64) -> Result<usize, Error> {
     usize::try_from(number).map_err(|_| Error::changed())
+}
+
+/// A part of bytes.
+pub(crate) fn part_of(bytes: &[u8], offset: u64, length: u64) -> Result<&[u8], Error> {
+    let start = usize_of(offset)?;
+    let end = start.checked_add(usize_of(length)?).ok_or_else(Error::changed)?;
+    bytes.get(start..end).ok_or_else(Error::changed)
 }
 
 impl<'a> Archive<'a> {
@@ -255,9 +262,7 @@ impl<'a> Archive<'a> {
 
     /// A part of the bytes.
     fn slice(&self, offset: u64, length: u64) -> Result<&'a [u8], Error> {
-        let start = usize_of(offset)?;
-        let end = start.checked_add(usize_of(length)?).ok_or_else(Error::changed)?;
-        self.bytes.get(start..end).ok_or_else(Error::changed)
+        part_of(self.bytes, offset, length)
     }
 
     /// The fields of the head of the record at a position.

@@ -20,7 +20,8 @@
 //!
 //! An [`Archive`] borrows its bytes, which are a mapped file or any other memory. Heads, blocks and bodies are slices
 //! of them: nothing is copied. An archive is refused as a whole if any of its records is damaged, with the first fault
-//! and its offset; [`Archive::open_front`] opens the records before that.
+//! and its offset; [`Archive::open_front`] opens the records before that, and [`pieces`] gives all runs of good records
+//! and the damage between them.
 //!
 //! A read of a mapped file that fails kills the process by SIGBUS: where the file became shorter, and where its disk or
 //! network fails. `std::fs::read` reads a file into memory.
@@ -30,11 +31,13 @@
 mod archive;
 mod error;
 mod heads;
+mod pieces;
 mod raw;
 mod writing;
 
 pub use archive::{Archive, Body, Record, Records, Verdict};
 pub use error::{Error, ErrorKind};
 pub use heads::{Fields, Headers, Http};
+pub use pieces::{pieces, Piece};
 pub use writing::{convert, make, rewrite, split, Draft, WriteError};
 pub use writing::{select, select_closed, select_others, select_others_closed};

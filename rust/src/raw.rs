@@ -47,6 +47,15 @@ pub struct Answer {
 }
 
 #[repr(C)]
+#[derive(Clone, Copy, Default)]
+pub struct Piece {
+    pub offset: u64,
+    pub length: u64,
+    pub count: u64,
+    pub fault: Problem,
+}
+
+#[repr(C)]
 struct CArchive {
     hidden: [u8; 0],
 }
@@ -152,6 +161,13 @@ extern "C" {
     fn warc_list(archive: *mut CArchive, text: *mut u8, length: usize, problem: *mut Problem) -> usize;
     fn warc_check(archive: *mut CArchive, text: *mut u8, length: usize, problem: *mut Problem) -> usize;
     fn warc_fixity(archive: *mut CArchive, text: *mut u8, length: usize, problem: *mut Problem) -> usize;
+    fn warc_pieces(
+        bytes: *const u8,
+        length: usize,
+        pieces: *mut Piece,
+        pieces_length: usize,
+        problem: *mut Problem,
+    ) -> usize;
     fn warc_rewrite(bytes: *const u8, length: usize, file: c_int, sent: *mut u64, problem: *mut Problem) -> bool;
     fn warc_convert(bytes: *const u8, length: usize, file: c_int, sent: *mut u64, problem: *mut Problem) -> bool;
     fn warc_split(
@@ -380,6 +396,14 @@ impl Drop for Handle<'_> {
         // SAFETY: the archive is open or null, and isn't used again.
         unsafe { warc_close(self.archive) }
     }
+}
+
+/// The pieces of bytes. Answers how many there are.
+pub fn pieces(bytes: &[u8], out: &mut [Piece]) -> Result<usize, Problem> {
+    let (pieces, room, mut problem) = (out.as_mut_ptr(), out.len(), Problem::default());
+    // SAFETY: each pointer leads to as many elements as are said.
+    let count = unsafe { warc_pieces(bytes.as_ptr(), bytes.len(), pieces, room, &mut problem) };
+    checked(count, problem)
 }
 
 /// How many bytes went out, and why no more did.

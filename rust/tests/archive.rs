@@ -58,6 +58,33 @@ fn faults_have_kinds_texts_and_offsets() {
 }
 
 #[test]
+fn pieces_are_runs_and_damage() {
+    let second = front(9);
+    let parts = [&CRAWL[..second], b"\0\0\0", &CRAWL[second..], &CRAWL[..100]].concat();
+    let found = zogwedu::pieces(&parts).unwrap();
+    let faults = found.iter().map(|piece| piece.fault.map(|fault| fault.to_string()));
+    let version = format!("F1 Version at {second}");
+    let end = format!("F11 Truncated at {}", parts.len());
+    assert_eq!(faults.collect::<Vec<_>>(), [None, Some(version), None, Some(end)]);
+    assert_eq!(found.iter().map(|piece| piece.count).collect::<Vec<_>>(), [9, 0, 9, 0]);
+    assert_eq!(found.iter().map(|piece| piece.bytes).collect::<Vec<_>>().concat(), parts);
+    let good: Vec<_> = found.iter().filter(|piece| piece.fault.is_none()).map(|piece| piece.bytes).collect();
+    assert_eq!(good.concat(), CRAWL);
+    assert_eq!(zogwedu::pieces(b"").unwrap(), []);
+    assert_eq!(zogwedu::pieces(CRAWL).unwrap().len(), 1);
+}
+
+#[test]
+fn more_pieces_than_the_first_buffer_holds() {
+    let record = &CRAWL[..front(1)];
+    let parts = [record, b"damage"].concat().repeat(100);
+    let found = zogwedu::pieces(&parts).unwrap();
+    assert_eq!(found.len(), 200);
+    assert!(found.iter().step_by(2).all(|piece| piece.bytes == record && piece.count == 1));
+    assert!(found.iter().skip(1).step_by(2).all(|piece| piece.bytes == b"damage" && piece.fault.is_some()));
+}
+
+#[test]
 fn grows_or_stays() {
     let front = front(9);
     let mut archive = Archive::open(&CRAWL[..front]).unwrap();
