@@ -1,7 +1,7 @@
 #!/usr/bin/env python3
-"""Compares what the program, C, Python and Rust give of archives: list, check, fixity, the verdict on each block, and
-each body by position and by URI and date. Compares what C, Python and Rust give of heads, which the program doesn't
-print.
+"""Compares what the program, C, Python and Rust give of archives: pieces, list, check, fixity, the verdict on each
+block, and each body by position and by URI and date. Compares what C, Python and Rust give of heads, which the program
+doesn't print.
 
 Usage: compare.py WARC C_REPORT RUST_REPORT ARCHIVE..
 
@@ -57,10 +57,11 @@ def verdicts_text(fixity: bytes, count: int) -> bytes:
 
 def program_report(warc: str, path: str) -> bytes:
     """The report of an archive, made by the program."""
+    pieces = b"== pieces\n" + run(warc, "pieces", "--", path)[0]
     listed, message, status = run(warc, "list", "--", path)
     if status:
-        return b"== refused\n" + unnamed(message)
-    parts = [b"== list\n", listed, b"== rows\n", listed]
+        return pieces + b"== refused\n" + unnamed(message)
+    parts = [pieces, b"== list\n", listed, b"== rows\n", listed]
     fixity = run(warc, "fixity", "--", path)[0]
     parts += [b"== check\n", run(warc, "check", "--", path)[0], b"== fixity\n", fixity]
     with zogwedu.Archive.open(path, mmap=False) as archive:

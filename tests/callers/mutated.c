@@ -1,7 +1,7 @@
 /* mutated COUNT SEED ARCHIVE..: asks COUNT changed archives everything that warc.h has, for valgrind to watch.
  *
- * Each is made of one of the archives by a few random changes, in memory of exactly its length. Archives are opened,
- * grown, opened as far as they are good, written anew and closed. Prints how many opened. */
+ * Each is made of one of the archives by a few random changes, in memory of exactly its length. Its pieces are found,
+ * and archives are opened, grown, opened as far as they are good, written anew and closed. Prints how many opened. */
 #include <fcntl.h>
 #include <stdio.h>
 #include <stdlib.h>
@@ -153,6 +153,31 @@ static void ask_all(warc_archive *archive, const text *of) {
     for (size_t position = 0; position < count && position < 50; position++) ask_record(archive, position, of);
 }
 
+/* Asks for the pieces of bytes, in room for some of them. They follow one another to the end, runs and damage in turn,
+ * and each run opens as an archive of as many records. */
+static void ask_pieces(const text *it) {
+    warc_archive *archive;
+    warc_problem problem;
+    size_t count = warc_pieces(it->bytes, it->length, NULL, 0, &problem), room = below(count + 2);
+    warc_piece *pieces = malloc(room ? room * sizeof *pieces : 1);
+    uint64_t end = 0;
+    if (pieces == NULL) exit(9);
+    if (problem.code || warc_pieces(it->bytes, it->length, pieces, room, &problem) != count || problem.code) abort();
+    for (size_t i = 0; i < count && i < room; i++) {
+        bool is_run = pieces[i].count != 0;
+        if (pieces[i].offset != end || pieces[i].length == 0 || pieces[i].length > it->length - end) abort();
+        if (is_run == (pieces[i].fault.code != 0) || pieces[i].fault.code > WARC_FAULT_TRUNCATED) abort();
+        if (i && is_run == (pieces[i - 1].count != 0)) abort();
+        end += pieces[i].length;
+        if (!is_run) continue;
+        if (!warc_open(&archive, it->bytes + pieces[i].offset, (size_t)pieces[i].length, &problem)) abort();
+        if (warc_count(archive) != pieces[i].count) abort();
+        warc_close(archive);
+    }
+    if (room >= count && end != it->length) abort();
+    free(pieces);
+}
+
 /* What is null or too long is a problem, and no crash. */
 static void ask_wrongly(void) {
     warc_archive *archive;
@@ -169,6 +194,11 @@ static void ask_wrongly(void) {
     if (warc_verdict_at(NULL, 0, &problem) != WARC_UNCHECKED || problem.code != WARC_BAD_ARGUMENT) abort();
     if (warc_count(NULL) || warc_length(NULL) || warc_problem_text(NULL, NULL, 0)) abort();
     if (warc_list(NULL, NULL, 0, &problem) || problem.code != WARC_BAD_ARGUMENT) abort();
+    if (warc_pieces(NULL, 1, NULL, 0, &problem) || problem.code != WARC_BAD_ARGUMENT) abort();
+    if (warc_pieces(&byte, 1, NULL, 1, &problem) || problem.code != WARC_BAD_ARGUMENT) abort();
+    if (warc_pieces(&byte, (size_t)PTRDIFF_MAX + 1, NULL, 0, &problem) || problem.code != WARC_BAD_ARGUMENT) abort();
+    if (warc_pieces(NULL, 0, NULL, 0, &problem) || problem.code) abort();
+    if (warc_pieces(&byte, 1, NULL, 0, NULL) != 1) abort();
     if (warc_rewrite(NULL, 1, 1, &sent, &problem) || problem.code != WARC_BAD_ARGUMENT || sent) abort();
     if (warc_split(NULL, 0, 0, 1, NULL, &problem) || problem.code != WARC_BAD_ARGUMENT) abort();
     if (warc_select(NULL, 0, NULL, 1, false, false, 1, &sent, &problem)) abort();
@@ -266,6 +296,7 @@ int main(int argc, char **argv) {
         warc_problem problem;
         text it = changed();
         warc_archive *archive = opened(&it, &problem);
+        ask_pieces(&it);
         if (below(8) == 0) write_anew(&it, file);
         if (archive != NULL) {
             are_open++;

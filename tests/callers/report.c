@@ -149,11 +149,28 @@ static void print_heads(warc_archive *archive) {
     }
 }
 
+/* The lines of `warc pieces`, made of pieces: asked for their number first, and then for all. */
+static void print_pieces(void) {
+    warc_problem problem;
+    size_t count = warc_pieces(bytes, length, NULL, 0, &problem);
+    warc_piece *pieces = malloc((count + 1) * sizeof *pieces);
+    printf("== pieces\n");
+    if (problem.code || pieces == NULL || warc_pieces(bytes, length, pieces, count, &problem) != count) exit(2);
+    for (size_t i = 0; i < count; i++) {
+        printf("%s\t%llu\t%llu\t", pieces[i].count ? "records" : "damage", (unsigned long long)pieces[i].offset,
+               (unsigned long long)pieces[i].length);
+        if (pieces[i].count) printf("%llu\n", (unsigned long long)pieces[i].count);
+        else print_problem(&pieces[i].fault);
+    }
+    free(pieces);
+}
+
 int main(int argc, char **argv) {
     warc_archive *archive;
     warc_problem problem;
     if (argc != 2 || map_file(argv[1])) return 9;
     if (warc_abi_version() != WARC_ABI_VERSION) return 9;
+    print_pieces();
     if (!warc_open(&archive, bytes, length, &problem)) {
         printf("== refused\n");
         print_problem(&problem);

@@ -59,14 +59,22 @@ def heads_text(record: zogwedu.Record) -> bytes:
     return b"".join(parts)
 
 
+def piece_text(piece: zogwedu.Piece) -> str:
+    """The line of `warc pieces`, made of a piece."""
+    if piece.fault is None:
+        return f"records\t{piece.offset}\t{piece.length}\t{piece.count}\n"
+    return f"damage\t{piece.offset}\t{piece.length}\t{piece.fault}\n"
+
+
 def report(path: str, **how: bool) -> bytes:
     """The whole report of an archive."""
+    pieces = "== pieces\n" + "".join(map(piece_text, zogwedu.pieces(path, **how)))
     try:
         archive = zogwedu.Archive.open(path, **how)
     except zogwedu.Refused as error:
-        return f"== refused\n{error}\n".encode()
+        return f"{pieces}== refused\n{error}\n".encode()
     with archive:
-        parts = [b"== list\n", archive.list_text(), b"== rows\n", *map(row_text, archive)]
+        parts = [pieces.encode(), b"== list\n", archive.list_text(), b"== rows\n", *map(row_text, archive)]
         parts += [b"== check\n", *map(finding_text, archive.check()), b"== fixity\n", fixity_text(archive.fixity())]
         parts += [b"== verdicts\n", *(f"{record.position} {record.verdict}\n".encode() for record in archive)]
         for record in archive:
