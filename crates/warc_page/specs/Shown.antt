@@ -3,15 +3,15 @@
 use Rattle.std.specs.Prelude.{◌≡◌, ◌⊎◌, ℕ, List, length, map, Option, Some, None, Result, Ok, Err, ⊤}
 use Rattle.std.specs.List.{flat_map}
 use Rattle.warc_value.specs.Dates.{Instant}
-use Rattle.warc_value.specs.Digests.{verdict_of}
+use Rattle.warc_fixity.specs.Judged.{stated_verdict}
 use Rattle.warc_frame.specs.Count.{capped}
 use Rattle.warc_frame.specs.Reading.{Head, any_fields, head_of}
 use Rattle.warc_frame.specs.declared.fault.Fault.{Fault}
-use Rattle.warc_record.specs.Readings.{digest_wanted}
 use Rattle.warc_index.specs.Captures.{Indexed, chosen_of}
 use Rattle.warc_index.specs.declared.unfound.Unfound.{Unfound}
 use Rattle.warc_reading.specs.Archive.{IsArchiveOf}
 use Rattle.warc_reading.specs.Row.{Row}
+use Rattle.warc.specs.Fixity.{digest_value}
 use Rattle.warc.specs.Front.{AreRowsOfFront}
 use Rattle.warc_lent.specs.Buffers.{HoldsFront}
 use Rattle.warc_lent.specs.Problems.{problem_text}
@@ -93,7 +93,7 @@ abbrev pub PutsChosen : List Indexed → List ℕ → Option Instant → AnswerN
 PutsChosen all uri None old new = new ≡ old
 PutsChosen all uri (Some moment) old new = IsChosenPut (chosen_of all uri moment) old new
 
--- how a block compares with the digest that a head asks for, or 3
+-- how a block compares with the digest that a head states, or 3
 abbrev pub IsVerdictOn : List ℕ → List ℕ → ℕ → Type 0
 IsVerdictOn text block number = (number ≡ 3) ⊎ ((head : Head) × (head_of any_fields text ≡ Ok head)
-    × (number ≡ verdict_number (verdict_of (digest_wanted head.fields) block)))
+    × (number ≡ verdict_number (stated_verdict (digest_value head.fields) block)))
