@@ -60,16 +60,20 @@ function hearForms() {
 }
 
 // The position of the last record that begins at an offset or before it.
-function positionAt(/** @type {number} */ offset) {
-  let low = 0, high = room.rows.count - 1;
-  while (low < high) {
-    const middle = (low + high + 1) >> 1;
-    if (room.rows.row(middle).offset <= offset)
-      low = middle;
-    else
-      high = middle - 1;
+const positionAt = (/** @type {number} */ offset) =>
+    lastOf(room.rows.count, (position) => room.rows.offset(position) <= offset);
+
+// A click on the strip opens the record there, or says which damage is there.
+function clickStrip(/** @type {MouseEvent} */ event) {
+  const {size: length} = room.file, pixel = length / byId('strip').clientWidth, mark = LEAST_MARK * pixel;
+  const at = event.offsetX * pixel, number = room.damages.between(at - mark, at > length - mark ? length : at);
+  if (number === null) {
+    if (room.rows.count) openRecord(positionAt(at));
+    return;
   }
-  return low;
+  const damage = room.damages.at(number), line = make('p', {}, ...damageLine(damage)).textContent;
+  const which = `${(number + 1).toLocaleString('en')} of ${room.damages.count.toLocaleString('en')}`;
+  say(`Damage ${which}: ${line}. ${plain(inWords(damage.fault)[1])}`);
 }
 
 // The list and the plots.
@@ -80,10 +84,7 @@ function hearList() {
   body().addEventListener('scroll', () => requestAnimationFrame(drawRows), {passive: true});
   body().addEventListener('click', () => byId('list').focus({preventScroll: true}));
   byId('fold').addEventListener('click', () => foldPlots(!byId('plots').hidden));
-  byId('strip').addEventListener('click', (/** @type {MouseEvent} */ event) => {
-    const part = event.offsetX / byId('strip').clientWidth;
-    if (room.rows.count) openRecord(positionAt(part * room.file.size));
-  });
+  byId('strip').addEventListener('click', clickStrip);
 }
 
 /**

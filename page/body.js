@@ -75,7 +75,7 @@ function noBody(reason, uri) {
  * @param {Subject} it
  */
 function wordsBefore(it) {
-  const {answer, given, row} = it, words = [];
+  const {answer, given, row} = it, words = answer ? damageNote() : [];
   if (it.note) words.push(note(it.note));
   if (!room.holds && isCapture(row)) words.push(note(`${notReplayed()} The block is shown as it is stored.`));
   if (given !== row) {

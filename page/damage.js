@@ -1,6 +1,13 @@
 // What is said of an archive that is damaged, or that can't be read or decompressed.
 'use strict';
 
+const DAMAGES_AT_ONCE = 100;  // lines
+const MOST_OPEN = 10;         // damages whose lines aren't folded
+const MOST_MEANINGS = 2;      // numbers of faults whose meanings aren't folded
+const REFUSED_WHOLE = 'Nothing is repaired. The program refuses the whole archive.';
+const ORDER = 'A position counts good records, as in what `warc salvage --all` writes; an offset is one in the file.';
+const OF_DAMAGED = 'the answer comes from the good records. A later capture, or a record that this one leads to, may ' +
+    'have been in bytes that are damaged or missing.';
 const PLAIN_NAME = /^[A-Za-z0-9][\w.-]*$/;  // a name that a shell takes as it is
 
 /**
@@ -49,48 +56,98 @@ function packedAdvice({kind, name}) {
 function packedNodes() {
   const {damage, names, parts, end, rows} = room;
   const [short, long] = PACKED_WORDS[damage.kind](damage, damage.offset.toLocaleString('en'));
-  const shownPart = `What comes before it is shown: ${many(rows.count, 'record')}, ${size(end)} decompressed.`;
-  const part = end ? `${shownPart} Nothing is skipped, and nothing is repaired.` : 'No record comes before it.';
+  const whole = room.damages.count ? 'What is good of the bytes before it' : 'What comes before it';
+  const part = `${whole} is shown: ${many(rows.count, 'record')}, ${size(end)} decompressed. Nothing is repaired.`;
   const left = names.length - parts.length;
   const after = left ? ` ${many(left, 'file')} after it ${left === 1 ? 'isn’t' : 'aren’t'} opened.` : '';
   return [
     make('h2', {}, make('bdi', {}, plainly(damage.name)), ` ${short}`),
     make('p', {}, `${long} `, ...packedAdvice(damage)),
-    make('p', {}, `${part}${after}`),
+    make('p', {}, `${end ? part : 'No record comes before it.'}${after}`),
   ];
 }
 
 // A file without a record that can be read: why.
 function unreadableNodes() {
-  const {fault} = room, [, ...words] = inWords(fault);
-  const why = make('p', {}, 'It has no record that is whole. ', ...prose(words.join(' ')));
+  const {fault, unsought} = room, [, ...words] = inWords(fault);
+  const none = unsought ? `No record comes before the fault. ${notSought()} ` : 'It has no record that is whole. ';
+  const why = make('p', {}, none, ...prose(words.join(' ')));
   return [make('h2', {}, `This file can’t be read: ${fault}`), why];
 }
 
-// A damaged record: where and why, and what is shown.
-function faultNodes() {
-  const {fault, end, file, rows} = room, [name, meaning, advice] = inWords(fault);
-  const field = /(?:Missing|Repeated) (\S+)/.exec(fault)?.[1], offset = Number(/ at (\d+)$/.exec(fault)?.[1] ?? 0);
-  const bytes = `at byte ${offset.toLocaleString('en')} of ${file.size.toLocaleString('en')}`;
-  const {name: last, start} = room.parts[fileAt(end)];
-  const upTo =
-      isOfFiles() ? `up to byte ${(end - start).toLocaleString('en')} of ${plainly(last)}` : 'before the damage';
-  const part = `Its good part is shown: ${many(rows.count, 'record')}, ${size(end)}, ${upTo}.`;
-  return [
-    make('h2', {}, `This archive is damaged: ${fault}`),
-    make(
-        'p', {}, make('b', {}, field ? `${name} ${field}` : name), `, ${bytes}${placeInFile(offset)}. `,
-        ...prose(`${meaning} ${advice}`)),
-    make('p', {}, `${part} Nothing is skipped, and nothing is repaired. The program refuses the whole archive.`),
-  ];
+/**
+ * Where a damage is, and why no record begins there.
+ * @param {Damage} damage
+ */
+function damageLine({place, length, fault}) {
+  const bytes = room.unsought ? 'All bytes' : many(length, 'byte');
+  return [`${bytes} from byte ${place.toLocaleString('en')} on${placeInFile(place)}: `, make('b', {}, fault)];
 }
 
-// A button that saves the good part, which is uncompressed.
-function savingGoodPart() {
-  const {end, file} = room, name = nameWhenJoined();
-  const save = () => download(file.slice(0, end), `good-part-of-${name}`);
-  return make('div', {className: 'actions'}, button('button', save, {}, 'Save the good part'));
+// What the faults of all damages mean, and what to do: once for each number.
+function faultMeanings() {
+  const numbers = new Set([...room.damages.faults.values()].map(numberOf));
+  const words = [...numbers].map((number) => {
+    const [name, meaning, advice] = inWords(number);
+    return make('p', {}, make('b', {}, `${number} ${name}`), ': ', ...prose(`${meaning} ${advice}`));
+  });
+  if (words.length <= MOST_MEANINGS) return words;
+  return [make('details', {}, make('summary', {}, `What the faults mean, and what to do (${words.length})`), ...words)];
 }
+
+// A line for each damage: the first ones, and more of them as the reader wants them.
+function damageList() {
+  const {damages} = room, list = make('ul', {className: 'plain-list', tabIndex: 0, 'aria-label': 'Damages'});
+  const more = button('button quiet', () => add(), {});
+  const add = () => {
+    const first = list.childElementCount, last = Math.min(damages.count, first + DAMAGES_AT_ONCE);
+    for (let number = first; number < last; number += 1) list.append(make('li', {}, ...damageLine(damages.at(number))));
+    const next = Math.min(DAMAGES_AT_ONCE, damages.count - last);
+    more.hidden = !next;
+    more.textContent = `Show ${next.toLocaleString('en')} more of ${many(damages.count, 'damage')}`;
+  };
+  add();
+  const title = make('summary', {}, `Where the damages are (${damages.count.toLocaleString('en')})`);
+  return make('details', {open: damages.count <= MOST_OPEN}, title, list, more);
+}
+
+const notSought = () => `Nobody looked for good records after it: ${plainly(room.unsought)}.`;
+
+// What is shown of a damaged archive.
+function shownPart() {
+  const {rows, end, damages, unsought, file} = room, shown = `${many(rows.count, 'record')}, ${size(end)}`;
+  if (unsought) {
+    const {name, start} = room.parts[fileAt(end)], byte = (end - start).toLocaleString('en');
+    const upTo = isOfFiles() ? `up to byte ${byte} of ${plainly(name)}` : 'before the damage';
+    return make('p', {}, `Its good part is shown: ${shown}, ${upTo}. ${notSought()} ${REFUSED_WHOLE}`);
+  }
+  const bad = `${many(damages.length, 'byte')} of ${file.size.toLocaleString('en')}`;
+  const all = `All good records are shown: ${shown}. ${bad} ${damages.length === 1 ? 'is' : 'are'} damaged.`;
+  return make('p', {}, `${all} ${REFUSED_WHOLE} `, ...prose(ORDER));
+}
+
+// A damaged archive: where and why, and what is shown.
+function faultNodes() {
+  const {fault, damages} = room, isOne = damages.count === 1;
+  const title = isOne ? fault : `${many(damages.count, 'damage')}, the first is ${fault}`;
+  const where = isOne ? make('p', {}, ...damageLine(damages.at(0)), '.') : damageList();
+  return [make('h2', {}, `This archive is damaged: ${title}`), shownPart(), ...faultMeanings(), where];
+}
+
+// A button that saves the good records, which are uncompressed.
+function savingGoodRecords() {
+  const {runs, rows} = room, save = () => saveRecords(runs.ranges(0, runs.length), 'good-records', rows.count);
+  return make('div', {className: 'actions'}, button('button', save, {}, 'Save the good records'));
+}
+
+// The mark of an answer, and of a record, if the archive is damaged.
+function damageMark() {
+  const isMarked = room.damages.count > 0 || room.damage !== null;
+  return isMarked ? [make('b', {className: 'of-damaged', title: OF_DAMAGED}, 'damaged archive')] : [];
+}
+
+// The same in words, beside an answer.
+const damageNote = () => damageMark().map((mark) => note(mark, `: ${OF_DAMAGED}`));
 
 // What is wrong with the archive, once it is listed.
 function showDamage() {
@@ -100,5 +157,5 @@ function showDamage() {
   if (place.hidden) return;
   const packed = damage ? packedNodes() : [], faulty = fault && end ? faultNodes() : [];
   const unreadable = fault && !end ? unreadableNodes() : [];
-  place.replaceChildren(...packed, ...unreadable, ...faulty, end ? savingGoodPart() : '');
+  place.replaceChildren(...packed, ...unreadable, ...faulty, end ? savingGoodRecords() : '');
 }

@@ -108,6 +108,54 @@ function listLine(row) {
   return `${numbers}${latin.decode(row.id)}\t${row.target.length ? latin.decode(row.target) : '-'}\n`;
 }
 
+const DAMAGE_NUMBERS = 4;
+
+// The damages of a file, in order.
+class Damages {
+  /** @param {{damages: Float64Array, faults: Map<number, string>}} pieces */
+  constructor({damages, faults}) {
+    this.numbers = damages;
+    this.faults = faults;
+    this.count = damages.length / DAMAGE_NUMBERS;
+    this.length = 0;  // bytes
+    for (let at = 1; at < damages.length; at += DAMAGE_NUMBERS) this.length += damages[at];
+  }
+
+  static none() {
+    return new Damages({damages: new Float64Array(), faults: new Map()});
+  }
+
+  /** @param {number} number */
+  place(number) {
+    return this.numbers[number * DAMAGE_NUMBERS];
+  }
+
+  /** @param {number} number */
+  end(number) {
+    return this.place(number) + this.numbers[number * DAMAGE_NUMBERS + 1];
+  }
+
+  /**
+   * One damage, with the text of its fault.
+   * @param {number} number
+   * @returns {Damage}
+   */
+  at(number) {
+    const [place, length, kind, faultAt] = this.numbers.subarray(number * DAMAGE_NUMBERS);
+    return {place, length, fault: this.faults.get(kind).replace(/ at \d+$/, ` at ${faultAt}`)};
+  }
+
+  /**
+   * The number of the damage that has a byte between two places of the file; null if none has one.
+   * @param {number} from
+   * @param {number} to
+   */
+  between(from, to) {
+    const number = lastOf(this.count, (it) => this.place(it) <= to);
+    return this.count && this.place(number) <= to && this.end(number) > from ? number : null;
+  }
+}
+
 const MOST_REMEMBERED = 128 * MEGABYTE;  // bytes of bodies
 
 // The library in its worker. Answers are remembered.

@@ -12,7 +12,9 @@ const TONES = new Map(Object.entries({
   request: 8,
 }));
 const OTHER_TONE = 5;
-const STRIP = 28;  // pixels
+const STRIP = 28;      // pixels
+const LEAST_MARK = 3;  // pixels of a damage
+const ABOUT_STRIP = 'The file from beginning to end, each record as wide as it is long, coloured by its type';
 const BUCKETS = 60;
 const MOST_BARS = 100;
 
@@ -85,6 +87,7 @@ function drawNumbers() {
     ...verdicts,
     ['findings', findings ? findings.length : '…'],
   ];
+  if (room.damages.count) numbers.push([room.damages.count === 1 ? 'damage' : 'damages', room.damages.count]);
   const day = (/** @type {number} */ time) => dateText(time).slice(0, 10);
   const span = counts.first <= counts.last ? `${day(counts.first)} to ${day(counts.last)}` : '';
   const cells = numbers.map(
@@ -136,7 +139,7 @@ class StripPen {
   fill(name, from, to, top = 0, least = 0.6) {
     this.pen.fillStyle = this.colour(name);
     const width = Math.max(least, (to - from) / this.length * this.wide - 0.4);
-    this.pen.fillRect(from / this.length * this.wide, top, width, STRIP - top);
+    this.pen.fillRect(Math.min(from / this.length * this.wide, this.wide - width), top, width, STRIP - top);
   }
 
   /** @param {Piece} piece */
@@ -160,7 +163,22 @@ function drawStrip(isNew = true) {
     room.drawn = 0;
   }
   for (; room.drawn < pieces.length; room.drawn += 1) pen.draw(pieces[room.drawn]);
-  if (room.fault) pen.fill('--bad', room.end, pen.length);
+  drawDamages(pen);
+  const {count} = room.damages, marked = `${many(count, 'damage')} marked over the whole height, in red`;
+  byId('of-strip').textContent = count ? ` ${marked}.` : '';
+  byId('strip').setAttribute('aria-label', count ? `${ABOUT_STRIP}; ${marked}` : ABOUT_STRIP);
+}
+
+// A mark for each damage where it lies. Of those that fall on the same pixels one is drawn.
+/** @param {StripPen} pen */
+function drawDamages(pen) {
+  const {damages} = room, pixel = pen.length / pen.wide;
+  for (let number = 0, drawn = -1; number < damages.count; number += 1) {
+    const end = damages.end(number);
+    if (end <= drawn) continue;
+    pen.fill('--bad', damages.place(number), end, 0, LEAST_MARK);
+    drawn = Math.max(end, damages.place(number) + pixel);
+  }
 }
 
 // ---------------------------------------------------------------- bars

@@ -208,7 +208,8 @@ function titleOf(row) {
   const name = seen(row.target) || plainly(`${row.kind} ${latin.decode(row.id)}`);
   const facts = `Record ${row.position}, ${plainly(row.kind)}, ${plainly(row.date)}, ${size(row.blockLength)}, digest `;
   const file = isOfFiles() ? [', in ', make('bdi', {}, plainly(room.parts[fileAt(row.offset)].name))] : [];
-  const sub = [facts, verdictOf(row), row.truncated ? ', marked as truncated' : '', ...file];
+  const damaged = damageMark().flatMap((mark) => [', of a ', mark]);
+  const sub = [facts, verdictOf(row), row.truncated ? ', marked as truncated' : '', ...file, ...damaged];
   return make('header', {}, closing(), make('h2', {}, make('bdi', {}, name)), make('div', {className: 'sub'}, ...sub));
 }
 
@@ -398,9 +399,12 @@ const rowFacts = (row, stated) => [
  * @returns {[string, string][]}
  */
 function answerFacts(answer) {
-  if (answer?.reason) return [['No body', `${answer.reason}. ${plain(inWords(answer.reason)[1])}`]];
+  /** @type {[string, string][]} */
+  const damaged = damageMark().length ? [['Damaged archive', OF_DAMAGED]] : [];
+  if (answer?.reason) return [['No body', `${answer.reason}. ${plain(inWords(answer.reason)[1])}`], ...damaged];
   if (!answer?.body) return [];
   return [
+    ...damaged,
     ['Chosen', `record ${answer.chosen}`],
     ['Given', `record ${answer.given}${answer.given === answer.chosen ? '' : ', where the revisit leads'}`],
     ['Status', answer.status === null ? '–' : String(answer.status)],
@@ -458,5 +462,5 @@ async function openAsOf(uri, date, isFocused, isBack = false) {
   drawRows();
   const sub = make('div', {className: 'sub'}, `as of ${plainly(date)}`);
   const header = make('header', {}, closing(), make('h2', {}, make('bdi', {}, seen(uri))), sub);
-  showPanel(isFocused, header, make('div', {className: 'panel'}, noBody(answer.reason, uri)));
+  showPanel(isFocused, header, make('div', {className: 'panel'}, ...damageNote(), noBody(answer.reason, uri)));
 }

@@ -33,6 +33,9 @@ function emptyRoom(file, names) {
     rows: new Rows(),
     counts: new Counts(),
     fault: '',
+    runs: Runs.one(0),
+    damages: Damages.none(),
+    unsought: '',
     end: 0,
     holds: false,
     listed: false,
@@ -191,8 +194,14 @@ const REPORTS = {
     soon();
   },
 
-  listed({fault, end, holds}) {
-    Object.assign(room, {fault, end, holds, listed: true, listedIn: performance.now() - room.began});
+  seeking({fault}) {
+    say(`${fault}. Looking for good records after it…`);
+    showProgress(-1);
+  },
+
+  listed({fault, pieces, end, holds}) {
+    const known = {runs: new Runs(pieces.runs), damages: new Damages(pieces), unsought: pieces.why};
+    Object.assign(room, known, {fault, end, holds, listed: true, listedIn: performance.now() - room.began});
     showDamage();
     const looks = holds && Boolean(end || !(fault || room.damage)), words = looks ? ' Looking for findings…' : '';
     const tooLong = holds ? '' : ' This archive is too long to be replayed here.';

@@ -1,8 +1,7 @@
 // Saves the records that the list shows, as one file. Where a record begins is what the library says of it, and a
-// record ends where the next one begins, or the good part of the archive does.
+// record ends where the next one begins, or where its run of good records does.
 'use strict';
 
-const READ_AT_ONCE = MEGABYTE;  // bytes of the archive: ranges that are as close as this are read together
 const OF_SELECTION = 'The file is an archive. A revisit in it may give another reason than here, or the body of ' +
     'another record that fits (the same id, URI and date, or digest), and a segmented record another gap, or a body, ' +
     'if a record that it leads to is left out.';
@@ -11,15 +10,16 @@ const OF_SELECTION = 'The file is an archive. A revisit in it may give another r
 const canSaveShown = () => room.listed && room.end > 0 && Boolean(room.order?.length);
 
 /**
- * Where the bytes of records are, in the archive's order. Those of neighbours are one range.
+ * Where the bytes of records are in the file, in the archive's order. Those of neighbours are one range.
  * @param {number[]} positions
  */
 function rangesOf(positions) {
-  const {rows, end} = room, sorted = [...positions].sort((a, b) => a - b);
+  const {rows, runs} = room, sorted = [...positions].sort((a, b) => a - b);
   /** @type {ByteRange[]} */
   const ranges = [];
   for (const position of sorted) {
-    const from = rows.offset(position), to = position + 1 < rows.count ? rows.offset(position + 1) : end;
+    const from = rows.offset(position), next = position + 1 < rows.count ? rows.offset(position + 1) : Infinity;
+    const to = Math.min(next, runs.endOfRun(from));
     const last = ranges[ranges.length - 1];
     if (last?.to === from)
       last.to = to;
@@ -27,23 +27,6 @@ function rangesOf(positions) {
       ranges.push({from, to});
   }
   return ranges;
-}
-
-/**
- * Ranges in groups, each of one range of any length, or of several that are close together.
- * @param {ByteRange[]} ranges
- */
-function groupsOf(ranges) {
-  /** @type {ByteRange[][]} */
-  const groups = [];
-  for (const range of ranges) {
-    const last = groups[groups.length - 1];
-    if (last && range.to - last[0].from <= READ_AT_ONCE)
-      last.push(range);
-    else
-      groups.push([range]);
-  }
-  return groups;
 }
 
 /**
@@ -60,13 +43,13 @@ async function partOf(file, group) {
 }
 
 /**
- * The bytes of the records that the list shows.
+ * The bytes of ranges of a file, one after another.
  * @param {Blob} file
- * @param {ByteRange[][]} groups
+ * @param {ByteRange[]} ranges
  */
-async function shownBytes(file, groups) {
+async function blobOf(file, ranges) {
   const parts = [];
-  for (const group of groups) parts.push(await partOf(file, group));
+  for (const group of groupsOf(ranges)) parts.push(await partOf(file, group));
   const blob = new Blob(parts);
   await bytesOfFile(file, file.size - 1, file.size);  // a file that has changed isn't read again
   await blob.slice(blob.size - 1).arrayBuffer().catch(() => {
@@ -75,17 +58,26 @@ async function shownBytes(file, groups) {
   return blob;
 }
 
-async function saveShown() {
-  if (!canSaveShown()) return;
-  const {file, order} = room, name = `records-of-${nameWhenJoined()}`, words = many(order.length, 'record');
+/**
+ * Saves records as one file, and says so.
+ * @param {ByteRange[]} ranges where they are
+ * @param {string} name
+ * @param {number} count
+ */
+async function saveRecords(ranges, name, count) {
+  const words = many(count, 'record');
   say(`Reading what is to be saved: ${words}…`);
   try {
-    const bytes = await shownBytes(file, groupsOf(rangesOf(order)));
-    download(bytes, name);
+    const bytes = await blobOf(room.file, ranges);
+    download(bytes, `${name}-of-${nameWhenJoined()}`);
     say(`Given to the browser to be saved: ${words}, ${size(bytes.size)}.`);
   } catch (error) {
     say(`Nothing is saved: ${plainly(whyOf(error))}.`);
   }
+}
+
+async function saveShown() {
+  if (canSaveShown()) await saveRecords(rangesOf(room.order), 'records', room.order.length);
 }
 
 // What is said of saving the records that the list shows now.

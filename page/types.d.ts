@@ -42,6 +42,17 @@ type Part = { name: string; size: number; start: number; isPacked: boolean };
 type PackedDamage = { kind: string; name: string; offset: number; why: string };
 // Some bytes of the archive.
 type ByteRange = { from: number; to: number };
+// What of a file is good: the places where each run begins and ends. The damages between them, four numbers each:
+// place, length, kind of fault, place of the fault. A fault of each kind as a text. How many good records there are.
+// And why all after the first damage counts as damage, where nobody has looked.
+type Pieces = {
+  runs: Float64Array;
+  damages: Float64Array;
+  faults: Map<number, string>;
+  records: number;
+  why?: string;
+};
+type Damage = { place: number; length: number; fault: string };
 type Finding = { position: number | null; number: string; field: string };
 type Capture = { position: number; time: number; date: string; kind: string };
 type Target = { uri: string; place: string };
@@ -148,7 +159,10 @@ interface RoomOfFile {
   rows: Rows;
   counts: Counts;
   fault: string;
-  end: number;
+  runs: Runs;
+  damages: Damages;
+  unsought: string; // why nobody looked for good records after the first damage
+  end: number; // of the good records, one after another
   holds: boolean;
   listed: boolean;
   isOpen: boolean;
@@ -180,4 +194,4 @@ interface Room extends RoomOfFile {
 
 // What a module lists at the front of bytes.
 type Front = { records: number; texts: number; end: number; fault: string; rows: ArrayBuffer; words: ArrayBuffer };
-type JudgeTask = { file: Blob; first: number; start: number; stop: number; rows: ArrayBuffer };
+type JudgeTask = { file: Blob; ranges: ByteRange[]; rows: ArrayBuffer };

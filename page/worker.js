@@ -20,6 +20,10 @@ const SEGMENT = PIECE - MEGABYTE;  // what a helper lists at once, with the rest
 const LEAST_RECORD = 81;           // bytes: no record is shorter
 const DONE = 0;
 const MEMORY = 2;
+// The numbers of a piece: offset, length, records; and of damage the kind of its fault, and the offset of that.
+const PIECE_BYTES = 40;
+const KIND_OF_FAULT = 24;
+const ROOM_OF_PIECES = 4096;     // for how many pieces there is room at first
 const NOWHERE = 2n ** 64n - 1n;  // a position that isn't known
 const SPENT = 1024 * MEGABYTE;   // what the calls of a module are given before it is started anew
 const MOST_HEAP = 8192 * MEGABYTE;
@@ -37,6 +41,7 @@ const SPARE = 64 * MEGABYTE;  // what questions may use of an open archive's mem
 const SPANS = 64;             // for how many parts of a body there is room at first
 const PATIENCE = 60000;       // milliseconds after which a helper counts as lost
 const SLOWEST = 10000;        // bytes that a helper looks through in a millisecond at least
+const TOO_LONG = 'the file is longer than what this page keeps in memory';
 
 /** @type {(number: number, to: number) => number} */
 const round = (number, to) => Math.ceil(number / to) * to;
@@ -189,6 +194,54 @@ class Keeper extends Instance {
     this.isOpen = true;
   }
 
+  // The pieces of the file: runs of good records, and damages.
+  /** @type {(length: number) => Pieces} */
+  pieces(length) {
+    for (let count = ROOM_OF_PIECES;;) {
+      const places = this.lend('pieces', count * PIECE_BYTES);
+      const parts = [this.file, length, places, count, this.reason, TEXT, this.outcome];
+      if (this.call('page_pieces', 4 * MEGABYTE, parts, this.outcome) !== DONE) throw new Error(this.reasonText);
+      const found = this.number(this.outcome + 8);
+      if (found <= count) return this.piecesAt(places, found);
+      count = found;
+    }
+  }
+
+  // The same as they are in the memory, with the text of one fault of each kind.
+  /** @type {(places: number, count: number) => Pieces} */
+  piecesAt(places, count) {
+    const view = new DataView(this.memory.buffer, places, count * PIECE_BYTES);
+    const runs = new Float64Array(2 * count), damages = new Float64Array(4 * count);
+    /** @type {Map<number, number>} */
+    const firsts = new Map();
+    let records = 0, ofRuns = 0, ofDamages = 0;
+    for (let at = 0; at < view.byteLength; at += PIECE_BYTES) {
+      const [offset, length, held, kind, faultAt] =
+          [0, 8, 16, KIND_OF_FAULT, KIND_OF_FAULT + 8].map((place) => Number(view.getBigUint64(at + place, true)));
+      records += held;
+      if (held) {
+        runs.set([offset, offset + length], ofRuns);
+        ofRuns += 2;
+        continue;
+      }
+      damages.set([offset, length, kind, faultAt], ofDamages);
+      ofDamages += 4;
+      if (!firsts.has(kind)) firsts.set(kind, places + at + KIND_OF_FAULT);
+    }
+    const faults = new Map([...firsts].map(([kind, at]) => [kind, this.problem(at)]));
+    return {runs: runs.slice(0, ofRuns), damages: damages.slice(0, ofDamages), faults, records};
+  }
+
+  // The text of a problem, whose numbers are in the memory.
+  /** @type {(at: number) => string} */
+  problem(at) {
+    const heap = this.take(SMALL), parts = [heap, SMALL / UNIT, at, this.reason, TEXT];
+    this.spent += SMALL;
+    const length = Number(this.exports.page_problem(...parts.map(BigInt)));
+    if (!length) throw new Error('out of memory');
+    return text(this.bytes(this.reason, length));
+  }
+
   // The lines that the library writes of its findings.
   /** @type {(length: number, heap: number, records: number) => Uint8Array} */
   findings(length, heap, records) {
@@ -266,8 +319,8 @@ class Judge {
   }
 
   /** @type {(task: JudgeTask) => Promise<Uint8Array>} */
-  async judge({file, start, stop, rows}) {
-    const bytes = await bytesOfFile(file, start, stop), view = new DataView(rows);
+  async judge({file, ranges, rows}) {
+    const bytes = await bytesOfRanges(file, ranges), view = new DataView(rows);
     if (this.instance.spent > MOST_JUDGING) this.instance = new Instance(this.module);
     const [at] = this.instance.put('bytes', bytes, PIECE);
     return Uint8Array.from({length: rows.byteLength / ROW_BYTES}, (_, number) => {
@@ -366,7 +419,7 @@ class Helpers {
   }
 }
 
-// The file as it comes into the memory of a module.
+// The archive as it comes into the memory of a module.
 class Filling {
   /**
    * @param {Archive} archive
@@ -381,12 +434,12 @@ class Filling {
 
   read() {
     const size = this.stop ? PIECE : FIRST_PIECE;
-    const next = this.archive.read(this.stop, Math.min(this.archive.file.size, this.stop + size));
+    const next = this.archive.read(this.stop, Math.min(this.archive.size, this.stop + size));
     next.catch(() => {});  // it is reported when it is waited for
     return next;
   }
 
-  // Takes the next piece, while the one after it is read. Returns whether the file is still wanted.
+  // Takes the next piece, while the one after it is read. Returns whether the archive is still wanted.
   async take() {
     const bytes = await this.next;
     if (this.archive.isOver) return false;
@@ -465,7 +518,8 @@ function placed(fault, start) {
 // One archive, from the opening of its files until others are opened.
 //
 // Its state is 'listing' while its files are joined and its records are found, 'listed' while its blocks are judged and
-// it isn't open for questions, 'open' then, and 'over' once others are opened.
+// it isn't open for questions, 'open' then, and 'over' once others are opened. Of a damaged file it is the good records
+// of all runs, one after another: offsets here are those of that, and the page gets those of the file.
 class Archive {
   /**
    * @param {Desk} desk
@@ -476,16 +530,17 @@ class Archive {
     this.desk = desk;
     this.files = files;
     /** @type {Blob} */
-    this.file = new Blob();  // the archive that they are, once they are joined
+    this.file = new Blob();   // what they are, once they are joined
+    this.runs = Runs.one(0);  // which parts of it are the archive, as far as that is known
     this.number = number;
     this.state = 'listing';
     /** @type {Keeper|null} */
-    this.keeper = null;  // the module that has the good part of the file, if it is short enough
+    this.keeper = null;  // the module that has the good records, if they are short enough
     this.judge = null;   // where this worker judges blocks itself
     this.helpers = this.newHelpers();
     this.records = 0;
     this.textBytes = 0;
-    this.end = 0;  // of the good part
+    this.end = 0;  // of the good records so far
     /** @type {{first: number, start: number, stop: number, rows: ArrayBuffer}[]} */
     this.pieces = [];  // of records that were listed together
   }
@@ -496,6 +551,15 @@ class Archive {
 
   get holds() {
     return this.end <= this.desk.limit;
+  }
+
+  get size() {
+    return this.runs.length;
+  }
+
+  // What a new module is filled with: the good records.
+  get part() {
+    return {file: this.file, runs: this.runs.ends, end: this.end};
   }
 
   // Whether this worker looks for the findings itself, as there is no helper, or no room for a second copy.
@@ -529,19 +593,35 @@ class Archive {
 
   /** @type {(from: number, to: number) => Promise<Uint8Array>} */
   read(from, to) {
-    return bytesOfFile(this.file, from, to);
+    return bytesOfRanges(this.file, this.runs.ranges(from, to));
   }
 
   // Reports the records that were found from an offset on. Returns whether there may be more after the bytes so far.
   /** @type {(found: Front, start: number, stop: number) => boolean} */
   report({records, texts, rows, words, end: length, fault}, start, stop) {
-    const {size} = this.file, end = start + length;
+    const {size} = this, end = start + length;
     if (records) this.pieces.push({first: this.records, start, stop: end, rows: rows.slice(0)});
     this.records += records;
     this.textBytes += texts;
     this.end = end;
-    this.tell({report: 'rows', base: start, count: records, rows, words, read: end, size}, [rows, words]);
+    const base = this.baseOf(rows, start);
+    this.tell({report: 'rows', base, count: records, rows, words, read: end, size}, [rows, words]);
     return !fault || (fault.startsWith('F11 ') && stop < size);
+  }
+
+  // What is added to the offsets of rows that were found from an offset on, so that they are the file's. After damage
+  // each row gets its own.
+  /** @type {(rows: ArrayBuffer, start: number) => number} */
+  baseOf(rows, start) {
+    if (this.runs.isFront) return start;
+    const view = new DataView(rows);
+    for (let at = 0; at < rows.byteLength; at += ROW_BYTES) {
+      const [record, block] = [at, at + 8].map((place) => Number(view.getBigUint64(place, true)) + start);
+      const shift = this.runs.shiftAt(record);
+      view.setBigUint64(at, BigInt(record + shift), true);
+      view.setBigUint64(at + 8, BigInt(block + shift), true);
+    }
+    return 0;
   }
 
   // Joins the files, and reports what they are. Returns whether they are whole.
@@ -549,15 +629,16 @@ class Archive {
     const tell = (/** @type {object} */ progress) => this.tell({report: 'unpacking', ...progress});
     const joining = new Joining(this.files, this.desk.limit, () => this.isOver, tell);
     this.file = await joining.join();
+    this.runs = Runs.one(this.file.size);
     const {parts, damage} = joining;
     this.tell({report: 'joined', file: this.file, parts, damage});
     return !damage;
   }
 
-  // Lists the file piece by piece, as it comes into the memory of a module, from a record's beginning on.
+  // Lists the archive piece by piece, as it comes into the memory of a module, from a record's beginning on.
   /** @type {(filling: Filling, from: number) => Promise<string|null>} */
   async listOn(filling, from) {
-    const {keeper} = filling, {size} = this.file;
+    const {keeper} = filling, {size} = this;
     for (let start = from, length = FIRST_PIECE; start < size;) {
       const stop = Math.min(size, start + length);
       while (filling.stop < stop)
@@ -570,16 +651,68 @@ class Archive {
     return '';
   }
 
+  // Finds the pieces of the file, by a helper if it can be: a file may be made so that this takes long.
+  /** @type {() => Promise<Pieces>} */
+  async findPieces() {
+    const {size} = this, whole = {...this.part, end: size};
+    if (HELPERS >= 2 && size <= MOST_TWICE)
+      return (await this.helpers.ask({seek: whole}, [], PATIENCE + size / SLOWEST)).pieces;
+    this.keeper = null;  // its memory is given back first
+    this.keeper = await filled(this.desk.module, whole);
+    return this.keeper.pieces(size);
+  }
+
+  // Looks for good records after the first damage, and lists them. Returns the pieces of the file; if they can't be
+  // found, the front and one damage, and why.
+  /** @type {(fault: string) => Promise<Pieces|null>} */
+  async listRest(fault) {
+    const {size} = this;
+    if (size > this.desk.limit) return this.frontAlone(fault, TOO_LONG);
+    this.tell({report: 'seeking', fault});
+    try {
+      const pieces = await this.findPieces();
+      return this.isOver || !await this.listRuns(pieces) ? null : pieces;
+    } catch (error) {
+      if (this.size !== size) throw error;
+      return this.frontAlone(fault, whyOf(error));
+    }
+  }
+
+  // Lists the records of the runs that aren't listed. Returns whether they are still wanted.
+  /** @type {(pieces: Pieces) => Promise<boolean>} */
+  async listRuns(pieces) {
+    const runs = new Runs(pieces.runs), front = runs.ends[0] === 0 ? runs.ends[1] : 0;
+    this.helpers.stop();  // their memory is given back
+    this.helpers = this.newHelpers();
+    if (front !== this.end) throw new Error(CHANGED);
+    if (runs.length === front) return true;
+    this.runs = runs;
+    this.keeper = null;
+    const filling = new Filling(this, new Keeper(this.desk.module, this.size));
+    const fault = await this.listOn(filling, this.end);
+    this.keeper = filling.keeper;
+    if (fault || (fault === '' && this.records !== pieces.records)) throw new Error(CHANGED);
+    return fault !== null;
+  }
+
+  // A file whose pieces aren't known: the front, and damage.
+  /** @type {(fault: string, why: string) => Pieces} */
+  frontAlone(fault, why) {
+    const {end, size} = this, place = Number(/ at (\d+)$/.exec(fault)?.[1] ?? end);
+    const damages = fault ? Float64Array.of(end, size - end, 0, place) : new Float64Array();
+    return {runs: Float64Array.of(0, end), damages, faults: new Map([[0, fault]]), records: this.records, why};
+  }
+
   // Lists a long file by helpers. If a segment doesn't end where the next was thought to begin, this worker lists the
   // rest.
   /** @type {(filling: Filling) => Promise<string|null>} */
   async listByHelpers(filling) {
     const segments = new Segments(filling, this.helpers);
-    while (filling.stop < this.file.size && !segments.isBroken) {
+    while (filling.stop < this.size && !segments.isBroken) {
       if (!await filling.take()) return null;
       await segments.handOut();
     }
-    if (!segments.isBroken) segments.hand(this.file.size);
+    if (!segments.isBroken) segments.hand(this.size);
     const isWhole = await segments.whole;
     this.helpers.stop();  // their memory is given back
     this.helpers = this.newHelpers();
@@ -589,8 +722,8 @@ class Archive {
 
   // Lists a file that fits into the module's memory. It is read once.
   async listKept() {
-    const keeper = new Keeper(this.desk.module, this.file.size), filling = new Filling(this, keeper);
-    const isShared = this.file.size >= LEAST_SHARED && HELPERS >= 2;
+    const keeper = new Keeper(this.desk.module, this.size), filling = new Filling(this, keeper);
+    const isShared = this.size >= LEAST_SHARED && HELPERS >= 2;
     const fault = await (isShared ? this.listByHelpers(filling) : this.listOn(filling, 0));
     this.keeper = keeper;
     return fault;
@@ -598,7 +731,7 @@ class Archive {
 
   // Lists a longer file piece by piece.
   async listPieces() {
-    const {size} = this.file;
+    const {size} = this;
     let start = 0, length = FIRST_PIECE, instance = new Instance(this.desk.module);
     while (start < size) {
       const stop = Math.min(size, start + length);
@@ -614,11 +747,11 @@ class Archive {
     return '';
   }
 
-  // The module that has the good part of the file, or a new one if that has spent too much memory.
+  // The module that has the good records, or a new one if that has spent too much memory.
   async full() {
     if (!this.keeper || this.keeper.spent >= this.keeper.most) {
       this.keeper = null;  // its memory is given back first
-      this.keeper = await filled(this.desk.module, this);
+      this.keeper = await filled(this.desk.module, this.part);
     }
     return this.keeper;
   }
@@ -649,11 +782,11 @@ class Archive {
 
   // The findings by a helper, so that questions don't wait for them; of a long archive by this worker.
   async find() {
-    const {file, end, records, heap} = this;
+    const {part, end, records, heap} = this;
     const none = {lines: new Uint8Array()};
     const alone = async () => (this.isOver ? none : {lines: (await this.full()).findings(end, heap, records)});
     const byHelper = () =>
-        this.helpers.ask({find: {file, end, records, heap}}, [], PATIENCE + end / SLOWEST).catch(alone);
+        this.helpers.ask({find: {...part, records, heap}}, [], PATIENCE + end / SLOWEST).catch(alone);
     const {lines} = await (this.isAlone ? alone() : byHelper());
     this.tell({report: 'findings', lines: text(lines)});
   }
@@ -663,8 +796,9 @@ class Archive {
     const waiting = this.pieces.splice(0);
     const goOn = async () => {
       for (let next; !this.isOver && (next = waiting.shift());) {
-        const verdicts = await this.verdicts({file: this.file, ...next});
-        this.tell({report: 'verdicts', first: next.first, verdicts}, [verdicts.buffer]);
+        const {first, start, stop, rows} = next;
+        const verdicts = await this.verdicts({file: this.file, ranges: this.runs.ranges(start, stop), rows});
+        this.tell({report: 'verdicts', first, verdicts}, [verdicts.buffer]);
       }
     };
     await Promise.all(Array.from({length: HELPERS}, goOn));
@@ -696,10 +830,12 @@ class Archive {
   async open() {
     const isWhole = !this.isOver && await this.join();
     if (this.isOver) return;
-    const fault = await (this.file.size <= this.desk.limit ? this.listKept() : this.listPieces());
+    const fault = await (this.size <= this.desk.limit ? this.listKept() : this.listPieces());
     if (this.isOver || fault === null) return;
+    const pieces = await (fault ? this.listRest(fault) : this.frontAlone('', ''));
+    if (this.isOver || !pieces) return;
     this.state = 'listed';
-    this.tell({report: 'listed', fault, end: this.end, holds: this.holds});
+    this.tell({report: 'listed', fault, pieces, end: this.end, holds: this.holds});
     if (this.end === 0 && (fault || !isWhole)) return;
     await this.work();
     if (!this.holds || this.isOver) return;
@@ -709,12 +845,12 @@ class Archive {
   }
 }
 
-// A new module that has the good part of a file.
-/** @type {(module: WebAssembly.Module, part: {file: Blob, end: number}) => Promise<Keeper>} */
-async function filled(module, {file, end}) {
-  const keeper = new Keeper(module, end);
+// A new module that has the bytes of runs of a file, up to an offset.
+/** @type {(module: WebAssembly.Module, part: {file: Blob, runs: Float64Array, end: number}) => Promise<Keeper>} */
+async function filled(module, {file, runs: ends, end}) {
+  const keeper = new Keeper(module, end), runs = new Runs(ends);
   for (let at = 0; at < end; at += PIECE) {
-    const bytes = await bytesOfFile(file, at, Math.min(end, at + PIECE));
+    const bytes = await bytesOfRanges(file, runs.ranges(at, Math.min(end, at + PIECE)));
     keeper.bytes(keeper.file + at, bytes.length).set(bytes);
   }
   return keeper;
@@ -756,7 +892,7 @@ class Desk {
   }
 }
 
-// What a helper does: it lists bytes, judges blocks of a file, or looks for its findings.
+// What a helper does: it lists bytes, judges blocks of a file, or looks for its findings or its pieces.
 class HelperDesk {
   /** @param {WebAssembly.Module} module */
   constructor(module) {
@@ -771,7 +907,7 @@ class HelperDesk {
   }
 
   /** @type {(message: any) => Promise<void>} */
-  async respond({list, find, judge}) {
+  async respond({list, find, judge, seek}) {
     if (list) {
       if (this.lister.spent > SPENT / 2) this.lister = new Instance(this.module);
       const [at] = this.lister.put('bytes', list, PIECE), found = this.lister.front(at, list.length);
@@ -779,7 +915,9 @@ class HelperDesk {
     } else if (judge) {
       const verdicts = await this.judge.judge(judge);
       postMessage({verdicts}, [verdicts.buffer]);
-    } else {
+    } else if (seek)
+      postMessage({pieces: (await filled(this.module, seek)).pieces(seek.end)});
+    else {
       const lines = (await filled(this.module, find)).findings(find.end, find.heap, find.records);
       postMessage({lines}, [lines.buffer]);
     }

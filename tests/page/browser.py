@@ -29,6 +29,7 @@ FLAGS = [
 ]
 
 PATIENCE = 300  # seconds
+CONTROLS = ("button", "textbox", "searchbox", "combobox", "grid", "tab", "tabpanel", "image", "Iframe")
 
 
 class Browser:
@@ -174,6 +175,18 @@ class Browser:
                     }.get(key, 0),
                 },
             )
+
+    def nameless(self) -> list[Any]:
+        """The attributes of each control that has no name for readers who hear the page."""
+        tree = self.ask("Accessibility.getFullAXTree")["nodes"]
+        found = [
+            it["backendDOMNodeId"]
+            for it in tree
+            if it.get("role", {}).get("value") in CONTROLS
+            and not it.get("ignored")
+            and not it.get("name", {}).get("value")
+        ]
+        return [self.ask("DOM.describeNode", {"backendNodeId": it})["node"].get("attributes") for it in found]
 
     def picture(self, path: str, whole: bool = False) -> None:
         data = self.ask("Page.captureScreenshot", {"format": "png", "captureBeyondViewport": whole})["data"]

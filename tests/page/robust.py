@@ -70,7 +70,7 @@ SMALLER = {
     "const LEAST_SHARED = 32 * MEGABYTE;": "const LEAST_SHARED = 4 * MEGABYTE;",
     "const PATIENCE = 60000;": "const PATIENCE = 700;",
 }
-HELPER = "async respond({list, find, judge}) {"
+HELPER = "async respond({list, find, judge, seek}) {"
 SECOND = " this.tasks = (this.tasks ?? 0) + 1; if (this.tasks === 2) "
 DEATHS = {
     "with an error": "{ setTimeout(() => { throw new Error(0); }); return new Promise(() => {}); }",

@@ -32,13 +32,13 @@ NO_BLOB = "const blob = {size: 9, slice: () => ({arrayBuffer: () => Promise.reje
 EVERY_SECOND = "room.order = room.order.filter((it) => it % 2); drawSaving()"
 
 
-def saved(browser: Browser, folder: str) -> tuple[str, bytes]:
-    """The name and the bytes of the file that a click on the button saves."""
+def saved(browser: Browser, folder: str, button: str = BUTTON) -> tuple[str, bytes]:
+    """The name and the bytes of the file that a click on a button saves."""
     into = f"{folder}/saved"
     shutil.rmtree(into, ignore_errors=True)
     os.mkdir(into)
     browser.ask("Browser.setDownloadBehavior", {"behavior": "allow", "downloadPath": into}, session=None)
-    browser.run(f"{BUTTON}.click()")
+    browser.run(f"{button}.click()")
     end = time.monotonic() + SECONDS
     while time.monotonic() < end:
         browser.run("0")  # so that the browser's events are read

@@ -32,6 +32,7 @@ import faithful
 import firefox
 import hostile
 import missing
+import pieces
 import robust
 import selection
 import stations
@@ -140,17 +141,18 @@ def same_as_program(tests: Tests, name: str, archive: str, given: Any = ()) -> N
     browser = tests.opened(*(given or [archive]))
     try:
         out, err, status = tests.warc("list", archive)
+        listed = out
         if status != 0:
             tests.holds(
                 f"warc: {browser.run('room.fault')}\n" in err, f"{name}: fault", (err, browser.run("room.fault"))
             )
-            good = f"{archive}.good"
-            with open(good, "wb") as saved:
-                saved.write(tests.warc("salvage", archive)[0])
-            tests.holds(os.path.getsize(good) == browser.run("room.end"), f"{name}: end of the good part")
-            archive = good
+            damaged, archive = archive, f"{archive}.good"
+            with open(archive, "wb") as saved:
+                saved.write(tests.warc("salvage", damaged, "--all")[0])
+            tests.holds(os.path.getsize(archive) == browser.run("room.end"), f"{name}: length of the good records")
             out = tests.warc("list", archive)[0]
-        tests.holds(lines_of(browser) == out, f"{name}: list", out[:200])
+            listed = pieces.lines_in_file(tests, damaged, out)
+        tests.holds(lines_of(browser) == listed, f"{name}: list", listed[:200])
         verdicts = verdicts_by_program(tests, archive, out.count(b"\n"))
         tests.holds(verdicts_of(browser) == verdicts, f"{name}: verdicts", verdicts[:20])
         tests.holds(
@@ -359,12 +361,12 @@ def in_segments(tests: Tests, folder: str) -> None:
                     (err, browser.run("room.fault")),
                 )
                 with open(f"{archive}.good", "wb") as saved:
-                    saved.write(tests.warc("salvage", archive)[0])
+                    saved.write(tests.warc("salvage", archive, "--all")[0])
                 tests.holds(
                     os.path.getsize(f"{archive}.good") == browser.run("room.end"),
-                    f"segments, {name}: end of the good part",
+                    f"segments, {name}: length of the good records",
                 )
-                out = tests.warc("list", f"{archive}.good")[0]
+                out = pieces.lines_in_file(tests, archive, tests.warc("list", f"{archive}.good")[0])
             tests.holds(lines_of(browser) == out, f"segments, {name}: list", browser.run("room.rows.count"))
             print(f"segments, {name}: {len(data):,} bytes listed in {browser.run('room.listedIn'):.0f} ms", flush=True)
         finally:
@@ -434,23 +436,8 @@ def by_keyboard(tests: Tests, archive: str) -> None:
             "keyboard: / goes to the search",
             browser.run("document.activeElement.id"),
         )
-        tree = browser.ask("Accessibility.getFullAXTree")["nodes"]
-        nameless = [
-            it
-            for it in tree
-            if it.get("role", {}).get("value")
-            in ("button", "textbox", "searchbox", "combobox", "grid", "tab", "tabpanel", "image", "Iframe")
-            and not it.get("ignored")
-            and not it.get("name", {}).get("value")
-        ]
-        tests.holds(
-            not nameless,
-            "each control has a name",
-            [
-                browser.ask("DOM.describeNode", {"backendNodeId": it["backendDOMNodeId"]})["node"].get("attributes")
-                for it in nameless
-            ],
-        )
+        nameless = browser.nameless()
+        tests.holds(not nameless, "each control has a name", nameless)
     finally:
         browser.close()
 
@@ -672,9 +659,9 @@ def main() -> None:
         names = os.environ.get(
             "PAGE_TESTS",
             "building,codings,compare,compressed,damaged,hostile,connections,firefox,burdens,robust,faithful,views,"
-            "keyboard,saved,selection,missing,long,many,segments",
+            "keyboard,saved,selection,pieces,missing,long,many,segments",
         ).split(",")
-        where = stations.crawl(crawled) if {"compare", "views"} & set(names) else ""
+        where = stations.crawl(crawled) if {"compare", "pieces", "views"} & set(names) else ""
         parts: dict[str, Callable[[], None]] = {
             "building": lambda: building.building(tests, folder),
             "codings": lambda: codings.codings(tests),
@@ -691,6 +678,7 @@ def main() -> None:
             "keyboard": lambda: by_keyboard(tests, small),
             "saved": lambda: saved_bytes(tests, folder, small),
             "selection": lambda: selection.selection(tests, folder),
+            "pieces": lambda: pieces.pieces(tests, folder, crawled, same_as_program),
             "missing": lambda: missing.missing(tests),
             "long": lambda: too_long(tests, folder, small),
             "many": lambda: many_rows(tests, folder),
