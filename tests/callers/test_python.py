@@ -17,6 +17,7 @@ import tempfile
 import threading
 import unittest
 from datetime import datetime, timedelta, timezone
+from functools import partial
 from typing import Any, Callable, Dict, Iterable, List, Optional, Set, Tuple, Union
 
 import zogwedu
@@ -919,6 +920,52 @@ class Pieces(unittest.TestCase):
             zogwedu.salvage(CRAWL, write)
         os.close(write)
 
+    def test_what_an_output_holds_back_may_fail_too(self) -> None:
+        with zogwedu.Archive.open(CRAWL) as archive:
+            writes: Tuple[Callable[[Any], Any], ...] = (archive.rewrite, partial(zogwedu.salvage, CRAWL))
+            for write in writes:
+                full = open("/dev/full", "wb")
+                full.write(b"front")
+                with self.assertRaises(zogwedu.WriteFailed) as raised:
+                    write(full)
+                self.assertEqual((raised.exception.sent, raised.exception.code), (0, 208))
+                with self.assertRaises(OSError):
+                    full.close()
+
+    def test_memory_that_runs_out_in_an_output(self) -> None:
+        class Small(io.RawIOBase):
+            """Takes 100 bytes, and then has no memory."""
+
+            taken = 0
+
+            def write(self, piece: Any) -> int:
+                if self.taken:
+                    raise MemoryError
+                self.taken = 100
+                return self.taken
+
+        with zogwedu.Archive.open(CRAWL) as archive:
+            writes: Tuple[Callable[[Any], Any], ...] = (archive.rewrite, partial(zogwedu.salvage, CRAWL))
+            for write in writes:
+                with self.assertRaises(zogwedu.WriteFailed) as raised:
+                    write(Small())
+                self.assertEqual((raised.exception.sent, raised.exception.code), (100, 204))
+
+    def test_a_pipe_that_nobody_reads_ends_no_process(self) -> None:
+        code = (
+            "import os, signal, sys, zogwedu\n"
+            "signal.signal(signal.SIGPIPE, signal.SIG_DFL)\n"
+            "read, write = os.pipe()\n"
+            "os.close(read)\n"
+            "try:\n"
+            "    zogwedu.salvage(sys.argv[1], write)\n"
+            "except zogwedu.WriteFailed as error:\n"
+            "    masked = signal.pthread_sigmask(signal.SIG_BLOCK, ())\n"
+            "    print(error.sent, error.code, masked, signal.sigpending())\n"
+        )
+        run = subprocess.run([sys.executable, "-c", code, CRAWL], capture_output=True, check=False)
+        self.assertEqual((run.returncode, run.stdout), (0, b"0 208 set() set()\n"))
+
     def test_no_mapping_is_left(self) -> None:
         def is_mapped() -> bool:
             with open("/proc/self/maps", encoding="utf-8", errors="replace") as maps:
@@ -971,6 +1018,21 @@ class Package(unittest.TestCase):
             )
             self.assertIn(b"ImportError", done.stderr)
             self.assertIn(b"libwarc.so", done.stderr)
+
+    def test_a_library_without_a_call_is_an_import_error(self) -> None:
+        code = (
+            "import ctypes\n"
+            "class Older(ctypes.CDLL):\n"
+            "    def __getattr__(self, name):\n"
+            "        if name == 'warc_pieces':\n"
+            "            raise AttributeError(name)\n"
+            "        return super().__getattr__(name)\n"
+            "ctypes.CDLL = Older\n"
+            "import zogwedu\n"
+        )
+        done = subprocess.run([sys.executable, "-c", code], capture_output=True, check=False)
+        self.assertIn(b"ImportError", done.stderr)
+        self.assertIn(b"warc_pieces", done.stderr)
 
     def test_each_exception_is_a_warc_error(self) -> None:
         for name in zogwedu.__all__:

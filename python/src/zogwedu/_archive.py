@@ -150,7 +150,8 @@ class Record:
     def verdict(self) -> str:
         """How its block compares with the digest that its head states: "good", "bad" or "unchecked".
 
-        The block is hashed when this is read for the first time; the answer is kept.
+        SHA-1 in base32 is judged alone; `Archive.fixity` judges other digests too. The block is hashed when this is
+        read for the first time; the answer is kept.
         """
         if self._verdict is None:
             self._verdict = VERDICTS[self._archive._use().verdict(self.position)]

@@ -144,6 +144,8 @@ def load() -> Any:
         version = library.warc_abi_version()
         raise ImportError(f"{path} has version {version} of its interface, and this package needs {ABI_VERSION}.")
     for name, (result, arguments) in _calls().items():
+        if not hasattr(library, "warc_" + name):
+            raise ImportError(f"{path} is another libwarc.so than this package needs: it has no warc_{name}.")
         call = getattr(library, "warc_" + name)
         call.restype, call.argtypes = result, arguments
     return library

@@ -47,7 +47,7 @@ def pieces(file: Union["Path", Any], *, mmap: bool = True) -> List[Piece]:
 
     `file` is a path or a binary file object, which is read and decompressed as by `Archive.open`. Raises
     CompressedError if a member is damaged or torn: then nothing is known of what it holds. Raises Refused with F14
-    Memory if memory runs out.
+    Memory if memory runs out in the library, and MemoryError if it runs out in Python.
     """
     with _lent(file, mmap) as lent:
         return _found(lent)
@@ -59,9 +59,9 @@ def salvage(file: Union["Path", Any], out: Output, *, mmap: bool = True) -> Salv
     What is written is an archive: the runs among the pieces of the file, joined. Nothing is mended.
 
     `file` is a path or a binary file object, which is read and decompressed as by `Archive.open`; `out` is written as
-    by `Archive.rewrite`. Raises what `pieces` does, and then nothing is written. Raises ValueError, and writes nothing,
-    if `out` is the file that is read; one that is opened by mode "wb" has been emptied before. Raises WriteFailed,
-    whose `sent` is how many bytes went out, if a write fails. Nothing is synced.
+    by `Archive.rewrite`, but without a temporary file. Raises what `pieces` does, and then nothing is written. Raises
+    ValueError, and writes nothing, if `out` is the file that is read; one that is opened by mode "wb" has been emptied
+    before. Raises WriteFailed, whose `sent` is how many bytes went out, if a write fails. Nothing is synced.
 
     A path is mapped: if another program changes the file while this runs, what is written may not be what was judged,
     and a read that fails kills the process by SIGBUS. `mmap=False` reads the file into memory first, all of it.

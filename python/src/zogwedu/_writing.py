@@ -1,10 +1,10 @@
 """Archives and records written to a file."""
 import io
 import os
+import signal
 import tempfile
 import uuid as uuids
 from datetime import datetime, timezone
-from functools import partial
 from typing import Any, Callable, Iterable, Optional, Union
 
 from . import _library as library
@@ -45,11 +45,29 @@ def _put(piece: Bytes, put: Callable[[Bytes], Optional[int]], sent: int) -> int:
             taken = put(piece)
         except OSError as error:
             raise WriteFailed(f"write failed: {error}", library.WRITE_FAILED, sent) from error
+        except MemoryError as error:
+            text = library.problem_text(library.Problem(library.NO_MEMORY))
+            raise WriteFailed(text, library.NO_MEMORY, sent) from error
         if not taken:
             raise WriteFailed("write failed: nothing was taken", library.WRITE_FAILED, sent)
         sent += taken
         piece = piece[taken:]
     return sent
+
+
+def _write_quietly(file: int, piece: Bytes) -> int:
+    """Writes to a descriptor, and lets no SIGPIPE reach the process, as warc.c does."""
+    was_pending = signal.SIGPIPE in signal.sigpending()
+    old = signal.pthread_sigmask(signal.SIG_BLOCK, ())
+    try:
+        signal.pthread_sigmask(signal.SIG_BLOCK, (signal.SIGPIPE,))
+        return os.write(file, piece)
+    except BrokenPipeError:
+        if not was_pending:
+            signal.sigtimedwait((signal.SIGPIPE,), 0)
+        raise
+    finally:
+        signal.pthread_sigmask(signal.SIG_SETMASK, old)
 
 
 def _copy(source: Any, out: Output) -> None:
@@ -68,7 +86,10 @@ def _begin(out: Output) -> Optional[int]:
         raise TypeError("an archive is written to a binary file: open it with mode 'wb'")
     file = _descriptor(out)
     if file is not None and not isinstance(out, int):
-        out.flush()
+        try:
+            out.flush()
+        except OSError as error:
+            raise WriteFailed(f"write failed: {error}", library.WRITE_FAILED) from error
     return file
 
 
@@ -87,13 +108,13 @@ def write_to(out: Output, write: Callable[[int], None]) -> None:
 def write_parts(out: Output, parts: Iterable[memoryview]) -> None:
     """Writes parts one after another: to a file by its descriptor, or to an object in copies, which it may keep."""
     file, sent = _begin(out), 0
+
+    def put(piece: Bytes) -> Optional[int]:
+        return _write_quietly(file, piece) if file is not None else out.write(bytes(piece))
+
     for part in parts:
         for begin in range(0, len(part), PIECE):
-            piece = part[begin : begin + PIECE]
-            if file is None:
-                sent = _put(bytes(piece), out.write, sent)
-            else:
-                sent = _put(piece, partial(os.write, file), sent)
+            sent = _put(part[begin : begin + PIECE], put, sent)
 
 
 def make(
