@@ -66,7 +66,10 @@ C_PROGRAMS = (
     "tests/callers/threads.c",
 )
 GENERATED = "tests/callers/generated.py"
-CALLERS = tuple(path for path in scripts("tests/callers") if path != GENERATED)
+CALLERS = (
+    *(path for path in scripts("tests/callers") if path != GENERATED),
+    "tests/reference/warc_reference.py",
+)
 SYSTEM = (
     "tests/reference/warc_reference.py",
     "tests/callers/archives.py",

@@ -1,13 +1,14 @@
 #!/usr/bin/env python3
-"""Compares what the program, C, Python and Rust give of archives: pieces, list, check, fixity, the verdict on each
-block, and each body by position and by URI and date. Compares what C, Python and Rust give of heads, which the program
-doesn't print.
+"""Compares what the program, C, Python and Rust give of archives: pieces, list, check, fixity, and each body by
+position and by URI and date. Compares the verdict on each block with that of the second reading, and what C, Python and
+Rust give of heads: the program prints neither.
 
 Usage: compare.py WARC C_REPORT RUST_REPORT ARCHIVE..
 
 WARC is the program; C_REPORT and RUST_REPORT are built of report.c and of rust/examples/report.rs, and RUST_REPORT may
 be `-`. The last line says how many archives were compared; the status is 1 where something differs.
 """
+import os
 import subprocess
 import sys
 import threading
@@ -15,6 +16,9 @@ from typing import Sequence, Tuple, Union
 
 import zogwedu
 from report import body_text, report, to_bytes
+
+sys.path.insert(0, os.path.join(os.path.dirname(os.path.dirname(os.path.abspath(__file__))), "reference"))
+import warc_reference  # noqa: E402
 
 THREADS = 4
 HEADS = b"== fields 0\n"  # what follows is of heads
@@ -48,11 +52,11 @@ def program_replay(warc: str, path: str, target: str, date: str) -> bytes:
     return body
 
 
-def verdicts_text(fixity: bytes, count: int) -> bytes:
-    """The verdict on each record's block, from the lines of `warc fixity`, which name the blocks that aren't good."""
-    columns = [line.split(b"\t") for line in fixity.splitlines()[:-1]]
-    named = {column[0]: column[1] for column in columns}
-    return b"".join(b"%d %s\n" % (number, named.get(b"%d" % number, b"good")) for number in range(count))
+def verdicts_text(path: str) -> bytes:
+    """The verdict on each record's block by SHA-1 in base32 alone. `warc fixity` judges other digests too."""
+    with open(path, "rb") as file:
+        records = warc_reference.Archive(file.read()).records
+    return b"".join(b"%d %s\n" % (it.position, it.digest_verdict().encode()) for it in records)
 
 
 def program_report(warc: str, path: str) -> bytes:
@@ -62,11 +66,11 @@ def program_report(warc: str, path: str) -> bytes:
     if status:
         return pieces + b"== refused\n" + unnamed(message)
     parts = [pieces, b"== list\n", listed, b"== rows\n", listed]
-    fixity = run(warc, "fixity", "--", path)[0]
-    parts += [b"== check\n", run(warc, "check", "--", path)[0], b"== fixity\n", fixity]
+    parts += [b"== check\n", run(warc, "check", "--", path)[0]]
+    parts += [b"== fixity\n", run(warc, "fixity", "--", path)[0]]
     with zogwedu.Archive.open(path, mmap=False) as archive:
         targets = [(record.target, record.date) for record in archive]
-    parts += [b"== verdicts\n", verdicts_text(fixity, len(targets))]
+    parts += [b"== verdicts\n", verdicts_text(path)]
     for position, (target, date) in enumerate(targets):
         parts += [f"== body {position}\n".encode(), program_body(warc, "body", path, str(position))]
         if target:
