@@ -18,7 +18,7 @@
  * TEXTS are bytes with a length, and end with no zero byte. A call that gives a text writes as many bytes as the buffer
  * has room for, and answers the length of the whole text: if that is more, call again with a larger buffer. A buffer of
  * length 0 asks for the length alone. Calls that give spans, positions or pieces do the same, in elements. What is in a
- * buffer after what was written, and after a problem, stays as it was.
+ * buffer after what was written stays as it was. With a problem all of it does, but for warc_pieces.
  *
  * PROBLEMS. A call that fails sets `*problem` and answers 0, false or WARC_UNCHECKED; one that succeeds sets it to {0}.
  * A problem has a code, listed below, and warc_problem_text gives its text, as the program `warc` prints it. `problem`
@@ -45,7 +45,7 @@
  * the archive stays as it was. An archive keeps rows and an index, and no block: 300 bytes for each record of a crawl
  * by wget. It also keeps the text of warc_list, warc_check or warc_fixity that it gave last, until it gives another or
  * grows, so that the second call for a text copies it; and some 200 KiB once warc_field_at was called. warc_pieces
- * takes 256 KiB, and the memory of one head, while it runs.
+ * takes 256 KiB while it runs, and the memory of one head: some 2 MiB for one of 16,000 fields.
  *
  * TIME. warc_open reads each byte once, warc_grow each new one, warc_open_front each byte twice, and none hashes
  * anything. warc_pieces hashes nothing either; it reads each byte of damage, and more than once where heads seem to
@@ -233,7 +233,7 @@ typedef struct {
 bool warc_head_at(warc_archive *archive, size_t position, warc_span *span, warc_problem *problem);
 bool warc_block_at(warc_archive *archive, size_t position, warc_span *span, warc_problem *problem);
 
-/* How a block compares with the digest that its head states. */
+/* How a block compares with the digest that its head states, if that is SHA-1 in base32. Else it is unchecked. */
 enum { WARC_GOOD = 0, WARC_BAD = 1, WARC_UNCHECKED = 2 };
 
 /* How the block of the record at a position compares with its digest: WARC_GOOD, WARC_BAD or WARC_UNCHECKED, the last

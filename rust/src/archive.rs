@@ -14,7 +14,7 @@ pub enum Verdict {
     Good,
     /// It has another one.
     Bad,
-    /// The head states none, or one that can't be computed.
+    /// The head states none, or one that isn't SHA-1 in base32.
     Unchecked,
 }
 
@@ -302,8 +302,9 @@ impl<'a> Archive<'a> {
         }))
     }
 
-    /// How the block of the record at a position compares with the digest that its head states. The block is hashed for
-    /// it, each time anew.
+    /// How the block of the record at a position compares with the digest that its head states. SHA-1 in
+    /// base32 is judged alone, as by [`Archive::check`]; [`Archive::fixity`] judges other digests too. The block is
+    /// hashed for it, each time anew.
     ///
     /// # Errors
     /// [`ErrorKind::NoRecord`]; [`ErrorKind::NoMemory`]; [`ErrorKind::Changed`].

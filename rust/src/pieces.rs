@@ -20,7 +20,7 @@ pub struct Piece<'a> {
 /// An archive is one piece, and no bytes have none. The bytes of all runs, joined, are an archive.
 ///
 /// # Errors
-/// [`ErrorKind::Refused`] with F14 if memory runs out; [`ErrorKind::OtherLibrary`].
+/// [`ErrorKind::Refused`] with F14 if memory runs out in the library; [`ErrorKind::OtherLibrary`].
 ///
 /// [`ErrorKind::Refused`]: crate::ErrorKind::Refused
 /// [`ErrorKind::OtherLibrary`]: crate::ErrorKind::OtherLibrary
