@@ -140,9 +140,9 @@ function savingGoodRecords() {
   return make('div', {className: 'actions'}, button('button', save, {}, 'Save the good records'));
 }
 
-// The mark of an answer, and of a record, if the archive is damaged.
+// The mark of an answer, and of a record, as soon as it is known that the archive is damaged.
 function damageMark() {
-  const isMarked = room.damages.count > 0 || room.damage !== null;
+  const isMarked = room.fault !== '' || room.damage !== null;
   return isMarked ? [make('b', {className: 'of-damaged', title: OF_DAMAGED}, 'damaged archive')] : [];
 }
 

@@ -450,7 +450,8 @@ async function openAsOf(uri, date, isFocused, isBack = false) {
     say(notReplayed());
     return;
   }
-  const [answer] = await room.library.ask([{uri, date}]);
+  const {rows} = room, [answer] = await room.library.ask([{uri, date}]);
+  if (rows !== room.rows) return;  // another file was opened meanwhile
   if (answer.chosen !== null && answer.chosen !== undefined) {
     const note = `As of ${plainly(date)}, the archive chooses this capture of the URI.`;
     await openRecord(answer.chosen, {focus: isFocused ? WHOLE : null, isBack, note});

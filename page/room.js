@@ -195,6 +195,7 @@ const REPORTS = {
   },
 
   seeking({fault}) {
+    room.fault = fault;
     say(`${fault}. Looking for good records after it…`);
     showProgress(-1);
   },
@@ -265,8 +266,11 @@ function judged(position) {
 }
 
 // Why nothing is replayed.
-const notReplayed = () =>
-    (room.isStopped ? 'The library stopped, so nothing is replayed.' : 'This archive is too long to be replayed here.');
+function notReplayed() {
+  if (room.isStopped) return 'The library stopped, so nothing is replayed.';
+  if (!room.listed) return 'This archive is still being read, so nothing is replayed yet.';
+  return 'This archive is too long to be replayed here.';
+}
 
 /**
  * @param {string} lines

@@ -48,10 +48,10 @@ async function partOf(file, group) {
  * @param {ByteRange[]} ranges
  */
 async function blobOf(file, ranges) {
-  const parts = [];
+  const parts = [], starts = room.parts.map(({start}) => start).filter((start) => start < file.size);
   for (const group of groupsOf(ranges)) parts.push(await partOf(file, group));
   const blob = new Blob(parts);
-  await bytesOfFile(file, file.size - 1, file.size);  // a file that has changed isn't read again
+  for (const start of starts) await bytesOfFile(file, start, start + 1);  // a file that has changed isn't read again
   await blob.slice(blob.size - 1).arrayBuffer().catch(() => {
     throw new Error('the browser has no room for it');
   });
@@ -65,11 +65,11 @@ async function blobOf(file, ranges) {
  * @param {number} count
  */
 async function saveRecords(ranges, name, count) {
-  const words = many(count, 'record');
+  const words = many(count, 'record'), called = `${name}-of-${nameWhenJoined()}`;  // others may be opened meanwhile
   say(`Reading what is to be saved: ${words}…`);
   try {
     const bytes = await blobOf(room.file, ranges);
-    download(bytes, `${name}-of-${nameWhenJoined()}`);
+    download(bytes, called);
     say(`Given to the browser to be saved: ${words}, ${size(bytes.size)}.`);
   } catch (error) {
     say(`Nothing is saved: ${plainly(whyOf(error))}.`);

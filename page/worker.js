@@ -686,11 +686,11 @@ class Archive {
     this.helpers = this.newHelpers();
     if (front !== this.end) throw new Error(CHANGED);
     if (runs.length === front) return true;
+    this.keeper = null;  // its memory is given back first
+    const keeper = new Keeper(this.desk.module, runs.length);
     this.runs = runs;
-    this.keeper = null;
-    const filling = new Filling(this, new Keeper(this.desk.module, this.size));
-    const fault = await this.listOn(filling, this.end);
-    this.keeper = filling.keeper;
+    const fault = await this.listOn(new Filling(this, keeper), this.end);
+    this.keeper = keeper;
     if (fault || (fault === '' && this.records !== pieces.records)) throw new Error(CHANGED);
     return fault !== null;
   }

@@ -70,6 +70,9 @@ SEEKS = "(await filled(this.module, seek)).pieces(seek.end)"
 NEVER = {SEEKS: "await new Promise(() => {})"}
 FAILS = {SEEKS: "nowhere"}
 IMPATIENT = {**NEVER, "const PATIENCE = 60000;": "const PATIENCE = 900;"}
+FILLS = "this.file = this.take(length);"
+FULL = {FILLS: f"self.made = (self.made ?? 0) + 1; if (self.made === 2) throw new RangeError('no memory'); {FILLS}"}
+A_CAPTURE = "Array.from({length: room.rows.count}, (_, it) => it).find((it) => isCapture(room.rows.row(it)))"
 Same = Callable[..., None]
 
 
@@ -224,8 +227,7 @@ def marked_answers(tests: Any, folder: str, records: list[bytes]) -> None:
     data = cases(records)
     for name in ("middle", "torn", "whole"):
         browser = tests.opened(save(folder, f"marked-{name}.warc", data.get(name, b"".join(records))))
-        where = "Array.from({length: room.rows.count}, (_, it) => it).find((it) => isCapture(room.rows.row(it)))"
-        told = [browser.run(f"{OPENS}({browser.run(where)}, '{tab}')") for tab in ("Page", "Record head", "Facts")]
+        told = [browser.run(f"{OPENS}({A_CAPTURE}, '{tab}')") for tab in ("Page", "Record head", "Facts")]
         told.append(browser.run(f"{ASKS}('http://nowhere.example/', '9999')"))
         told.append(browser.run(f"{ASKS}('http://127.0.0.1:8765/', '9999')"))
         marks = [MARK in it for it in told]
@@ -295,6 +297,7 @@ def not_found(tests: Any, folder: str, records: list[bytes]) -> None:
         ("long", SMALL_LIMIT, "longer than what this page keeps"),
         ("failing", FAILS, "nowhere is not defined"),
         ("endless", IMPATIENT, "answer"),
+        ("full", FULL, "no memory"),
     ):
         browser = tests.opened(archive, page=variant(tests.page, f"{folder}/{name}.html", changes))
         said, front = browser.run(SAID), b"".join(records[:3])
@@ -321,6 +324,21 @@ def another_archive(tests: Any, folder: str, records: list[bytes]) -> None:
     browser.close()
 
 
+def while_sought(tests: Any, folder: str, records: list[bytes]) -> None:
+    """While pieces are looked for, a record is marked already, and nobody says that the archive is too long."""
+    browser = Browser()
+    browser.go(variant(tests.page, f"{folder}/sought.html", NEVER))
+    browser.give_file("#file", save(folder, "middle.warc", cases(records)["middle"]))
+    browser.until(f"{STATUS}.includes('Looking for good records after it')", 20)
+    told = browser.run(f"{OPENS}({A_CAPTURE}, 'Page')")
+    tests.holds(MARK in told, "pieces: a record is marked while they are looked for", told)
+    tests.holds("too long" not in told and "still being read" in told, "pieces: why nothing is replayed yet", told)
+    browser.run("openAsOf(typed('http://127.0.0.1:8765/'), '9999', true)")
+    said = browser.run(STATUS)
+    tests.holds("still being read" in said, "pieces: why no question is answered yet", said)
+    browser.close()
+
+
 def pieces(tests: Any, folder: str, crawled: str, same: Same) -> None:
     """All of them."""
     records = records_of(tests, f"{TOP}/examples/crawl.warc")
@@ -331,3 +349,4 @@ def pieces(tests: Any, folder: str, crawled: str, same: Same) -> None:
     many_damages(tests, folder)
     not_found(tests, folder, records)
     another_archive(tests, folder, records)
+    while_sought(tests, folder, records)

@@ -123,6 +123,22 @@ def another_file(tests: Any, folder: str) -> None:
         browser.close()
 
 
+def late_answer(tests: Any, folder: str) -> None:
+    """Another file is opened while a question waits: the answer, which is the first archive's, isn't shown in it."""
+    site = Site()
+    site.add("a", "a page")
+    first = site.save(f"{folder}/asked.warc")
+    for uri in ("a", "nowhere"):
+        browser = tests.opened(first)
+        ask = f"openAsOf(typed('{SITE}/{uri}'), '9999', true).catch((error) => {{ window.wrong = String(error); }})"
+        browser.run(f"{ask}; openFiles([new File([], 'other.warc')])")
+        browser.until("room.isOpen && room.findings !== null", 20)
+        time.sleep(0.5)
+        seen = browser.run("[document.getElementById('record').hidden, window.wrong ?? '']")
+        tests.holds(seen == [True, ""], f"an answer that comes late, on {uri}", seen)
+        browser.close()
+
+
 def dying_worker(tests: Any, folder: str) -> None:
     """The worker dies at a question: the page says so, and a file can be opened again in a new one."""
     asked = "const answers = await archive.ask(questions);"
@@ -222,5 +238,7 @@ def seen_by_use(tests: Any, folder: str) -> None:
 
 def robust(tests: Any, folder: str) -> None:
     """All of them."""
-    for part in (clobbered, many_kinds, dying_helpers, another_file, dying_worker, changed_file, seen_by_use):
+    for part in (clobbered, many_kinds, dying_helpers, another_file, late_answer):
+        part(tests, folder)
+    for part in (dying_worker, changed_file, seen_by_use):
         part(tests, folder)

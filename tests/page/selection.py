@@ -29,6 +29,7 @@ NAMES = {
 SMALL_LIMIT = {"const LIMIT = 2 * 1024 ** 3;": "const LIMIT = 5000;"}
 MAKES_BLOB = "const blob = new Blob(parts);"
 NO_BLOB = "const blob = {size: 9, slice: () => ({arrayBuffer: () => Promise.reject(new Error('x'))})};"
+MEANWHILE = f"({{click() {{ {BUTTON}.click(); openFiles([new File([], 'other.warc')]); }}}})"
 EVERY_SECOND = "room.order = room.order.filter((it) => it % 2); drawSaving()"
 
 
@@ -166,11 +167,28 @@ def changed_file(tests: Any, folder: str, records: list[bytes]) -> None:
     browser.until(f"{STATUS}.includes('has changed on disk')", 10)
     tests.holds("Nothing is saved" in browser.run(STATUS), "selection: of a file that has changed")
     browser.close()
+    parts = [save(folder, f"changed-{name}.warc", b"".join(records)) for name in "abc"]
+    browser = tests.opened(*parts)
+    os.utime(parts[1], (1_000_000_000, 1_000_000_000))
+    browser.run(f"{BUTTON}.click()")
+    browser.until(f"!{STATUS}.startsWith('Reading')", 10)
+    said = browser.run(STATUS)
+    tests.holds("has changed on disk" in said, "selection: of three files, the second of which has changed", said)
+    browser.close()
     page = variant(tests.page, f"{folder}/full.html", {MAKES_BLOB: NO_BLOB})
     browser = tests.opened(save(folder, "full.warc", b"".join(records)), page=page)
     browser.run(f"{BUTTON}.click()")
     browser.until(f"{STATUS}.includes('no room')", 10)
     tests.holds("Nothing is saved" in browser.run(STATUS), "selection: in a browser without room")
+    browser.close()
+
+
+def another_file(tests: Any, folder: str, records: list[bytes]) -> None:
+    """Another file is opened while records are saved: what is saved has the name of the archive that they are of."""
+    browser = tests.opened(save(folder, "one.warc", b"".join(records)))
+    got, data = saved(browser, folder, MEANWHILE)
+    wanted = ("records-of-one.warc", True)
+    tests.holds((got, data == b"".join(records)) == wanted, "selection: another file meanwhile", (got, len(data)))
     browser.close()
 
 
@@ -194,6 +212,6 @@ def many_records(tests: Any, folder: str) -> None:
 def selection(tests: Any, folder: str) -> None:
     """All of them."""
     records = records_of(tests, f"{TOP}/examples/crawl.warc")
-    for part in (all_records, some_records, no_records, hostile_names, changed_file):
+    for part in (all_records, some_records, no_records, hostile_names, changed_file, another_file):
         part(tests, folder, records)
     many_records(tests, folder)
