@@ -1,8 +1,8 @@
 #!/usr/bin/env bash
-# Compares what the program, C, Python and Rust give of the archives of the suites and of a crawl, has valgrind watch
-# the library over 10,000 damaged archives and the thread sanitizer over threads, installs the wheel, runs the examples
-# and the samples of the pages, and opens a mapped file of 5 GB. Needs gcc; valgrind, hypothesis, cargo, zlib.h and what
-# makes wheels are used where they are.
+# Compares what the program, C, Python and Rust give of the archives of the suites and of a crawl, compares the pieces
+# of cut and changed ones with those of the second reading, has valgrind watch the library over 10,000 damaged archives
+# and the thread sanitizer over threads, installs the wheel, runs the examples and the samples of the pages, and opens a
+# mapped file of 5 GB. Needs gcc; valgrind, hypothesis, cargo, zlib.h and what makes wheels are used where they are.
 #
 # CALLERS_COUNT is the number of damaged archives, CALLERS_SEED their seed, CALLERS_EXAMPLES the number that hypothesis
 # makes.
@@ -40,6 +40,7 @@ elif /usr/bin/python3 -c 'import hypothesis' 2> /dev/null; then
 else
     echo "no hypothesis: no archives are generated"
 fi
+python3 tests/callers/cuts.py
 python3 tests/callers/test_wheel.py
 python3 tests/callers/test_examples.py
 python3 tests/callers/test_samples.py
