@@ -1,7 +1,7 @@
 #!/usr/bin/env python3
 """Compares what the program, C, Python and Rust give of archives: pieces, list, check, fixity, and each body by
-position and by URI and date. Compares the verdict on each block with that of the second reading, and what C, Python and
-Rust give of heads: the program prints neither.
+position and by URI and date. Compares the verdict on each block with the second reading's, and what C, Python and Rust
+give of heads: the program prints neither.
 
 Usage: compare.py WARC C_REPORT RUST_REPORT ARCHIVE..
 
