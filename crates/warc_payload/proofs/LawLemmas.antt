@@ -5,7 +5,7 @@ use Rattle.std.proofs.Math.Seq.{take-append-add, drop-append_seam}
 use Rattle.httparse.specs.Grammar.{ResponseHead, ReadsResponse, print_response, status_code}
 use Rattle.httparse.proofs.GrammarLemmas.{response_unique, ReadsResponse-append}
 use Rattle.warc_payload.specs.declared.HeadInfo.{HeadInfo}
-use Rattle.warc_payload.specs.Coding.{is_coded}
+use Rattle.warc_payload.specs.Coding.{is_coded, is_transfer_coded}
 use Rattle.warc_payload.specs.Head.{IsInfoOf, front_of}
 use Rattle.warc_payload.specs.Laws.{AtMostOneHead, AtMostOneInfo, FrontTellsHead, FrontTellsNoHead, AtMostOneBody, NoBodyWhereCoded}
 
@@ -13,23 +13,23 @@ pub at_most_one_head : AtMostOneHead
 at_most_one_head text head other rest more x y = response_unique text head other rest more x.reads y.reads
 
 -- an info by its parts
-info_by : ℕ → ℕ → Bool → HeadInfo
-info_by status head_len coded = record { status = status; head_len = head_len; coded = coded }
+info_by : ℕ → ℕ → Bool → Bool → HeadInfo
+info_by status head_len coded transfer = record { status = status; head_len = head_len; coded = coded; transfer_coded = transfer }
 
-info_parts : (info : HeadInfo) → info ≡ info_by info.status info.head_len info.coded
+info_parts : (info : HeadInfo) → info ≡ info_by info.status info.head_len info.coded info.transfer_coded
 unfolding info_by
 info_parts info = refl
 
 -- the info that a head gives
 info_of_head : (text : List ℕ) (info : HeadInfo) (head : ResponseHead) → IsInfoOf text info head
-    → info ≡ info_by (status_code head) (length (print_response head)) (is_coded head)
-info_of_head text info head x = info_parts info ∙ rw (x.status, x.head_len, x.coded) refl
+    → info ≡ info_by (status_code head) (length (print_response head)) (is_coded head) (is_transfer_coded head)
+info_of_head text info head x = info_parts info ∙ rw (x.status, x.head_len, x.coded, x.transfer_coded) refl
 
 pub at_most_one_info : AtMostOneInfo
 at_most_one_info text info told head other x y =
     let same : head ≡ other = (at_most_one_head text head other _ _ x.front y.front).0 in
     info_of_head text info head x
-    ∙ (ap (λ h. info_by (status_code h) (length (print_response h)) (is_coded h)) same ∙ sym (info_of_head text told other y))
+    ∙ (ap (λ h. info_by (status_code h) (length (print_response h)) (is_coded h) (is_transfer_coded h)) same ∙ sym (info_of_head text told other y))
 
 -- a head of a front is a head of the whole
 head_of_whole : (n : ℕ) (block : List ℕ) (head : ResponseHead) (rest : List ℕ)
@@ -66,6 +66,7 @@ front_tells_head block info head x =
       head_len = x.head_len;
       status = x.status;
       coded = x.coded;
+      transfer_coded = x.transfer_coded;
     }
 
 pub front_tells_no_head : FrontTellsNoHead

@@ -1,7 +1,7 @@
 -- Values of the definitions, each by computation.
 use Rattle.std.proofs.Common.{◌≡◌, List, [], ◌∷◌, ℕ, true, false, Some, codes, refl}
 use Rattle.httparse.specs.Grammar.{ResponseHead, Field, crlf, is_token_byte, print_response, status_code, trim_ows}
-use Rattle.warc_payload.specs.Coding.{names_coding, is_coded}
+use Rattle.warc_payload.specs.Coding.{names_coding, names_transfer_coding, is_coded, is_transfer_coded}
 use Rattle.warc_payload.specs.Texts.{codings_in, media_type, media_type_in}
 
 chunked : names_coding (codes "transfer-encoding", codes "chunked") ≡ true
@@ -45,6 +45,21 @@ example_coded = refl
 example_identity : is_coded (example (codes "Transfer-Encoding") (codes " identity\t")) ≡ false
 unfolding trim_ows
 example_identity = refl
+
+-- a content coding is no transfer coding
+transfer_chunked : names_transfer_coding (codes "Transfer-encoding", codes "chunked") ≡ true
+transfer_chunked = refl
+
+content_gzip : names_transfer_coding (codes "content-encoding", codes "gzip") ≡ false
+content_gzip = refl
+
+example_transfer : is_transfer_coded (example (codes "TRANSFER-Encoding") (codes " chunked ")) ≡ true
+unfolding trim_ows
+example_transfer = refl
+
+example_content : is_transfer_coded (example (codes "Content-Encoding") (codes " gzip")) ≡ false
+unfolding trim_ows
+example_content = refl
 
 -- media types: what follows doesn't matter
 html_type : media_type (codes "text/html; charset=utf-8") ≡ codes "text/html"

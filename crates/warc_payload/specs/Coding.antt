@@ -20,6 +20,14 @@ is_coding value = not (length value == 0) && not (str_eq_ignore_ascii_case value
 abbrev pub names_coding : List ℕ × List ℕ → Bool
 names_coding field = lists_codings field.0 && is_coding field.1
 
+-- a field names a transfer coding
+abbrev pub names_transfer_coding : List ℕ × List ℕ → Bool
+names_transfer_coding field = str_eq_ignore_ascii_case field.0 (codes "transfer-encoding") && is_coding field.1
+
 -- some field of the head names a coding
 abbrev pub is_coded : ResponseHead → Bool
 is_coded head = list_any (λ f. names_coding (name_and_value f)) head.fields
+
+-- some field of the head names a transfer coding: what follows the head is the form in which the body was sent
+abbrev pub is_transfer_coded : ResponseHead → Bool
+is_transfer_coded head = list_any (λ f. names_transfer_coding (name_and_value f)) head.fields

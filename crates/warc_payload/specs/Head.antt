@@ -1,7 +1,7 @@
 -- The head of an HTTP response (RFC 9112, sections 2 to 5) at the front of a text.
 use Rattle.std.specs.Prelude.{◌≡◌, ℕ, ◌≤◌, List, length, take, drop}
 use Rattle.httparse.specs.Grammar.{ResponseHead, ReadsResponse, print_response, status_code}
-use Rattle.warc_payload.specs.Coding.{is_coded}
+use Rattle.warc_payload.specs.Coding.{is_coded, is_transfer_coded}
 use Rattle.warc_payload.specs.declared.HeadInfo.{HeadInfo}
 
 -- the most bytes of a block in which its head is looked for, and the most field lines of a head
@@ -27,6 +27,7 @@ pub record IsInfoOf (text : List ℕ) (info : HeadInfo) (head : ResponseHead) : 
   pub head_len : info.head_len ≡ length (print_response head)
   pub status : info.status ≡ status_code head
   pub coded : info.coded ≡ is_coded head
+  pub transfer_coded : info.transfer_coded ≡ is_transfer_coded head
 
 -- the part of a block in which a head is looked for
 unfoldable pub front_of : List ℕ → List ℕ

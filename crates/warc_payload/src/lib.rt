@@ -5,7 +5,7 @@ ghost use Rattle.std.specs.Prelude.{◌≡◌, ◌≤◌, ℕ, List, length, All
 ghost use Rattle.std.specs.List.{list_any};
 ghost use Rattle.httparse.specs.Grammar.{ResponseHead};
 ghost use Rattle.httparse.specs.Spans.{IsHeaderWithin, header_bytes};
-ghost use Rattle.warc_payload.specs.Coding.{names_coding};
+ghost use Rattle.warc_payload.specs.Coding.{is_coding, names_coding, names_transfer_coding};
 ghost use Rattle.warc_payload.specs.Head.{HasNoHead, IsInfoOf, front_of, most_head_bytes};
 ghost use Rattle.warc_payload.specs.Texts.{AreHeadTexts};
 
@@ -36,6 +36,8 @@ pub struct HeadInfo {
     pub head_len: usize,
     /// Whether a field says that the body is coded.
     pub coded: bool,
+    /// Whether a field says that a transfer coding was applied, such as `chunked`.
+    pub transfer_coded: bool,
 }
 
 /// There is no whole head of at most 256 field lines at the beginning.
@@ -52,16 +54,34 @@ impl fmt::Display for BadHead {
     }
 }
 
+/// Whether a value names a coding: it is neither empty nor `identity`.
+fn is_coding(value: &[u8]) -> bool
+    ensures { result ≡ is_coding value.now }
+{
+    !value.is_empty() && !value.eq_ignore_ascii_case(b"identity")
+}
+
 /// Whether a field of the text names a coding.
 fn names_coding(text: &[u8], field: &HeaderSpan) -> bool
     requires { IsHeaderWithin (length text.now) field.now }
     ensures { result ≡ names_coding (header_bytes text.now field.now) }
 {
     let name = field.name.of(text);
-    let value = field.value.of(text);
     let lists_codings = name.eq_ignore_ascii_case(b"transfer-encoding")
         || name.eq_ignore_ascii_case(b"content-encoding");
-    lists_codings && !value.is_empty() && !value.eq_ignore_ascii_case(b"identity")
+    lists_codings && is_coding(field.value.of(text))
+}
+
+/// Whether a field of the text names a transfer coding.
+fn names_transfer_coding(text: &[u8], field: &HeaderSpan) -> bool
+    requires { IsHeaderWithin (length text.now) field.now }
+    ensures { result ≡ names_transfer_coding (header_bytes text.now field.now) }
+{
+    field
+        .name
+        .of(text)
+        .eq_ignore_ascii_case(b"transfer-encoding")
+        && is_coding(field.value.of(text))
 }
 
 /// Whether one of the fields names a coding.
@@ -70,6 +90,16 @@ fn any_names_coding(text: &[u8], fields: &[HeaderSpan]) -> bool
     ensures { result ≡ list_any (λ f. names_coding (header_bytes text.now f)) fields.now }
 {
     fields.iter().any(|field| names_coding(text, field))
+}
+
+/// Whether one of the fields names a transfer coding.
+fn any_names_transfer_coding(text: &[u8], fields: &[HeaderSpan]) -> bool
+    requires { All (IsHeaderWithin (length text.now)) fields.now }
+    ensures { result ≡ list_any (λ f. names_transfer_coding (header_bytes text.now f)) fields.now }
+{
+    fields
+        .iter()
+        .any(|field| names_transfer_coding(text, field))
 }
 
 /// The part of a block in which its HTTP head is looked for: its first 65,536 bytes, or all if it is shorter.
@@ -94,6 +124,7 @@ pub fn body_start(text: &[u8]) -> Result<HeadInfo, BadHead>
             status: head.code,
             head_len: head.len,
             coded: any_names_coding(text, &fields[..head.headers]),
+            transfer_coded: any_names_transfer_coding(text, &fields[..head.headers]),
         }),
         _ => Err(BadHead),
     }
@@ -148,6 +179,7 @@ pub fn read_head<A: Allocator + Copy>(alloc: A, text: &[u8]) -> Result<StoredHea
         status: found.code,
         head_len: found.len,
         coded: any_names_coding(text, fields),
+        transfer_coded: any_names_transfer_coding(text, fields),
     };
     let Ok(codings) = codings_in(alloc, text, fields) else {
         return Err(HeadFault::Memory);
