@@ -1,6 +1,6 @@
 -- The digest that a value states, and the verdict by it.
 use Rattle.std.proofs.Common.{◌≡◌, ◌≢◌, ◌↔◌, inl, inr, ℕ, zero, suc, ◌+◌, ◌<◌, ◌≤◌, Bool, true, false, ◌==◌, List, [], ◌∷◌, ◌++◌, length, map, take, drop, get_or, codes, All, Option, Some, None, refl, sym, ap, subst, ◌∙◌, arith, if◌then◌else◌}
-use Rattle.std.specs.Prelude.{position, option_map, option_and_then, IfSome, IsNone, unwrap_or}
+use Rattle.std.specs.Prelude.{position, option_map, option_and_then}
 use Rattle.std.specs.List.{list_all, position_or_len}
 use Rattle.std.specs.Char.{to_ascii_lowercase}
 use Rattle.std.specs.Str.{str_eq_ignore_ascii_case}
@@ -19,11 +19,9 @@ use Rattle.warc_value.specs.declared.hash.Verdict.TheVariants.{Unchecked}
 use Rattle.warc_value.specs.Digests.{wanted_digest, wanted_if_some, verdict_of}
 use Rattle.warc_fixity.specs.declared.names.Algorithm.{Algorithm}
 use Rattle.warc_fixity.specs.declared.names.Algorithm.TheVariants.{Md5, Sha1, Sha256, Sha384, Sha512}
-use Rattle.warc_fixity.specs.declared.judging.Hashing.{Hashing}
-use Rattle.warc_fixity.specs.declared.judging.Hashing.TheVariants as hashing
 use Rattle.warc_fixity.specs.Stated.{algorithm_of, digest_len, States}
 use Rattle.warc_fixity.specs.Decoded.{bits_in, decoded, stated_in, stated_around, stated_digest}
-use Rattle.warc_fixity.specs.Judged.{HashesInto, stated_verdict, verdict_if_stated}
+use Rattle.warc_fixity.specs.Judged.{stated_verdict, verdict_if_stated}
 use Rattle.warc_fixity.proofs.BitLemmas.{is_byte, byte_below, a_byte}
 use Rattle.warc_fixity.proofs.TextLemmas.{IsText, whole_text, length-bits_in}
 use Rattle.warc_fixity.proofs.WritesLemmas.{written_is_decoded, decoded_is_written}
@@ -210,11 +208,7 @@ kept_if value block (wanted.Sha1 digest) is checked =
 pub wanted_verdict_is_kept : (value block : List ℕ) → verdict_of (wanted_digest value) block ≢ Unchecked → verdict_of (wanted_digest value) block ≡ stated_verdict value block
 wanted_verdict_is_kept value block = kept_if value block (wanted_digest value) refl
 
--- ---- a judge begins
-
-pub begun : (o : Option Hashing) (stated : Option Digest) → IfSome o (λ h. HashesInto h stated []) → (IsNone o → stated ≡ None) → HashesInto (unwrap_or o hashing.Unchecked) stated []
-begun None stated some none = none refl
-begun (Some h) stated some none = some
+-- ---- a value is cut at its colon
 
 pub stated_at : (value rest : List ℕ) (k : ℕ) → Some k ≡ position is_colon value → rest ≡ drop (k + 1) value
     → stated_digest value ≡ option_and_then (stated_in rest) (algorithm_of (take k value))
