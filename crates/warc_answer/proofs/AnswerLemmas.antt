@@ -24,7 +24,7 @@ below_stands [] p x e = absurd (cc)
 below_stands (y ∷ xs) zero x e = omega arith
 below_stands (y ∷ xs) (suc p) x e = let lt : p < length xs = below_stands xs p x e in omega arith
 
-stands_below : {A : Type 0} (xs : List A) (p : ℕ) → p < length xs → (x : A) × (slice_get xs p ≡ Some x)
+pub stands_below : {A : Type 0} (xs : List A) (p : ℕ) → p < length xs → (x : A) × (slice_get xs p ≡ Some x)
 stands_below [] p lt = absurd (omega arith)
 stands_below (y ∷ xs) zero lt = (y, refl)
 stands_below (y ∷ xs) (suc p) lt = stands_below xs p (omega arith)

@@ -9,3 +9,5 @@ pub mod GiveLemmas
 pub mod LocatedLemmas
 mod WorkedValues
 pub mod StoredLemmas
+pub mod HashedLemmas
+pub mod HashedLaws

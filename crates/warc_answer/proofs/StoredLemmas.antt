@@ -161,7 +161,7 @@ answered records path content payload there is =
     (record { path_is = refl; stands = slice_get-map read_record records path.given ∙ ap (option_map read_record) there; joined_is = refl })
     (payload, is, refl)
 
-text_there : (records : List Record) (position : ℕ) (content : Record) → slice_get records position ≡ Some content
+pub text_there : (records : List Record) (position : ℕ) (content : Record) → slice_get records position ≡ Some content
     → joined_text (joined_to records content) ≡ joined_text_at records position
 text_there records position content there =
     ap (λ o. option_map_or (λ r. joined_text (joined_to records r)) o []) (sym there)

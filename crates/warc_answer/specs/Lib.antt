@@ -10,3 +10,4 @@ pub mod Stored
 pub mod Seen
 pub mod Judging
 pub mod Located
+pub mod Hashed

@@ -17,7 +17,7 @@ use warc_value::{Running, Verdict, Wanted};
 
 /// The length of the buffer through which blocks are read that are no longer together. Clearing a longer one would take
 /// as long as reading them.
-const SHORT: usize = 512;
+pub(crate) const SHORT: usize = 512;
 
 /// Fills the buffer with the bytes at an offset. It fails where a read does, where the source ends too early, and where
 /// the bytes don't end before offset 2^64.

@@ -1,10 +1,11 @@
 //! Laws over the definitions: functions that do nothing, each with a law as its contract.
 ghost use Rattle.warc_answer.specs.Laws.{AnswersOnce, ConversionKeepsAnswers, FailsBeforeAll, LoopsAreAnswered, LoopsAreReplayed};
 ghost use Rattle.warc_answer.specs.Laws.{PathsEndInside, PlacesAreAsLong, ReasonsAreAnswers};
+ghost use Rattle.warc_answer.specs.Hashed.{EndsAtOnePayload, HasOnePayload, PayloadIsStored};
 ghost use Rattle.warc_answer.specs.Stored.{StoredIsAnswered};
 
 use warc_index::laws::{chain_loops, chosen_is_latest, origins_stand};
-use warc_payload::laws::{at_most_one_body, no_body_where_coded, one_of_three};
+use warc_payload::laws::{at_most_one_body, at_most_one_head, no_body_where_coded, one_of_three};
 use warc_write::laws::converted_says_the_same;
 
 /// For every list of records, URI and moment there is one outcome, a body with what is said of it or a reason, and no
@@ -66,4 +67,20 @@ pub fn loops_are_answered()
 {
     chosen_is_latest();
     chain_loops();
+}
+
+/// Each block has one payload or none, and so has each path that ends at one of the records.
+pub fn has_one_payload()
+    ensures block { HasOnePayload }
+    ensures path { EndsAtOnePayload }
+{
+    at_most_one_head();
+    one_of_three();
+}
+
+/// The payload at the end of a path is what replays find stored there.
+pub fn payload_is_stored()
+    ensures { PayloadIsStored }
+{
+    at_most_one_head();
 }

@@ -4,6 +4,7 @@
 mod answer;
 mod blocks;
 mod body;
+mod hashed;
 pub mod laws;
 mod located;
 mod replay;
@@ -11,6 +12,7 @@ mod stored;
 
 pub use answer::{Answer, Path, Reason, ReplayFault};
 pub use blocks::send_blocks;
+pub use hashed::{PayloadDigest, digest_joined, digest_own};
 pub use located::{Located, Span, locate_joined};
 pub use replay::replay_joined;
 pub use stored::{Stored, judge_joined};
