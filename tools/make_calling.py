@@ -15,7 +15,7 @@ from collections.abc import Iterator
 from shared import TOP, matched, read
 
 PAGE = "crates/warc/CALLING.md"
-SOURCES = ("archives", "reader", "iterating", "fixity", "front", "stated", "summary")
+SOURCES = ("archives", "reader", "iterating", "fixity", "front", "payloads", "stated", "summary")
 CALLER = (
     ("rust", "crates/example_page/src/page.rt"),
     ("antt", "crates/example_page/specs/Page.antt"),

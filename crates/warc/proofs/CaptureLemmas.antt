@@ -34,7 +34,7 @@ use Rattle.warc.specs.declared.outcome.Outcome.{Outcome}
 use Rattle.warc.proofs.ReplayLemmas.{asks_both, path_by_links}
 
 -- what is found in a list with one more element
-appended : {X : Type 0} (xs : List X) (x : X) (k : ℕ) (o : X) → slice_get (xs ++ x ∷ []) k ≡ Some o → (slice_get xs k ≡ Some o) ⊎ ((k ≡ length xs) × (o ≡ x))
+pub appended : {X : Type 0} (xs : List X) (x : X) (k : ℕ) (o : X) → slice_get (xs ++ x ∷ []) k ≡ Some o → (slice_get xs k ≡ Some o) ⊎ ((k ≡ length xs) × (o ≡ x))
 appended [] x zero o is = inr (refl, (let f : x ≡ o = cc is in sym f))
 appended [] x (suc k) o is = absurd (cc is)
 appended (y ∷ ys) x zero o is = inl is

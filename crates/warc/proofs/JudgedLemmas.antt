@@ -9,8 +9,8 @@ use Rattle.warc_frame.specs.Seen.{SeenSource}
 use Rattle.warc_frame.proofs.EffectLemmas.{fails_more, fails_never, reads_none, reads_within}
 use Rattle.warc_reading.specs.Placing.{IsInRow}
 use Rattle.warc_reading.specs.Rereading.{HasTextOf, ReadsRows, row_len}
-use Rattle.warc_reading.specs.Row.{Row}
-use Rattle.warc.specs.Judged.{GivesVerdict, IsVerdictTaken}
+use Rattle.warc_reading.specs.Row.{Placed, Row}
+use Rattle.warc.specs.Judged.{GivesVerdictBy, IsVerdictBy}
 use Rattle.warc.specs.Standing.{IsUntaken}
 use Rattle.warc.specs.Taking.{take_result}
 use Rattle.warc.specs.declared.fault.TakeFault.{TakeFault}
@@ -26,8 +26,8 @@ reads_one_row row has =
     reads_within (λ at in_. record { place = 0; row = row; is = refl; inside = in_ }) (omega (arith, sum_by-cons row_len row [])) has
 
 -- where there is no row there is no record, and nothing is read
-pub takes_no_verdict : (rows : List Row) (i : ℕ) (s : SeenSource) → slice_get rows i ≡ None → GivesVerdict rows i s s (Err NoRecord)
-takes_no_verdict rows i s none = record {
+pub takes_no_verdict : (on : Placed → Verdict) (rows : List Row) (i : ℕ) (s : SeenSource) → slice_get rows i ≡ None → GivesVerdictBy on rows i s s (Err NoRecord)
+takes_no_verdict on rows i s none = record {
   taken = λ bytes held is. absent is.are.records i (ap (λ l. slice_get l i) (sym is.are.rows_are) ∙ none);
   absent = (λ is. none, λ is. refl);
   reads = reads_within (λ at in_. in_) (omega arith) reads_none;
@@ -41,15 +41,15 @@ is_end (Err Read) is e = cc e
 is_end (Err Memory) is e = cc e
 
 -- what giving the verdict on a row's record promises
-pub takes_verdict : HeadsAreRead → (rows : List Row) (i : ℕ) (row : Row) (old new : SeenSource) (r : Result Verdict TakeFault) → slice_get rows i ≡ Some row
-    → ((bytes : List ℕ) → old.holds ≡ Some bytes → (is : HasTextOf row bytes) → IsVerdictTaken (Some is.placed) r)
+pub takes_verdict : (on : Placed → Verdict) → HeadsAreRead → (rows : List Row) (i : ℕ) (row : Row) (old new : SeenSource) (r : Result Verdict TakeFault) → slice_get rows i ≡ Some row
+    → ((bytes : List ℕ) → old.holds ≡ Some bytes → (is : HasTextOf row bytes) → IsVerdictBy on (Some is.placed) r)
     → IfErr r IsUntaken → ReadsRows (row ∷ []) old new → FailsBy (HasTextOf row) (take_result r) old new
-    → GivesVerdict rows i old new r
-takes_verdict law rows i row old new r at given end reads fails = record {
+    → GivesVerdictBy on rows i old new r
+takes_verdict on law rows i row old new r at given end reads fails = record {
   taken = λ bytes held is.
       let (p, there, same) = placed is.are.records i row (sym (ap (λ l. slice_get l i) is.are.rows_are) ∙ at) in
       let can = checkable_archive law bytes rows is rows refl in
-      subst (λ o. IsVerdictTaken o r) (sym there)
+      subst (λ o. IsVerdictBy on o r) (sym there)
       (given bytes held (record { placed = p; short = is.short; has = can.heads i p there; written = can.placed.each i p there; row_is = same }));
   absent = (λ e. absurd (is_end r end e), λ none. let no : Some row ≡ None = sym at ∙ none in absurd (cc no));
   reads = subst (λ o. ReadsRows (option_to_list o) old new) (sym at) reads;

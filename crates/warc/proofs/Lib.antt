@@ -40,3 +40,7 @@ pub mod NeededLemmas
 pub mod StandingLemmas
 pub mod SettledLemmas
 pub mod LeftLemmas
+pub mod PayloadLemmas
+pub mod DigestLemmas
+pub mod ComparedLemmas
+pub mod PayloadTextLemmas

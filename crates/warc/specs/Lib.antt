@@ -31,3 +31,6 @@ pub mod Standings
 pub mod Summary
 pub mod TakeText
 pub mod Taking
+pub mod PayloadVerdicts
+pub mod PayloadText
+pub mod PayloadStates

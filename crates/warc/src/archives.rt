@@ -18,9 +18,11 @@ ghost use Rattle.warc_answer.specs.Answers.{path_from, path_of};
 ghost use Rattle.warc.specs.Locating.{LocatesAt, LocatesFor};
 ghost use Rattle.warc_reading.specs.Growing.{Grows, grown, source_grown, without_source};
 ghost use Rattle.warc_reading.specs.Opening.{Opens};
+ghost use Rattle.warc.specs.PayloadText.{payloads_text};
+ghost use Rattle.warc.specs.PayloadVerdicts.{GivesPayload, JudgesPayloads};
 ghost use Rattle.warc.specs.Replaying.{Replays};
 ghost use Rattle.warc_reading.specs.Row.{Placed};
-ghost use Rattle.warc.specs.Judged.{GivesVerdict};
+ghost use Rattle.warc.specs.Judged.{GivesStated, GivesVerdict};
 ghost use Rattle.warc.specs.Selecting.{AreOthers, ArePositions, Selects, selected_text};
 ghost use Rattle.warc.specs.Taking.{GivesRecord};
 
@@ -29,6 +31,8 @@ use crate::capturing::capture_positions;
 use crate::fault::{BodyFault, ExtractFault, TakeFault};
 use crate::iterating::RowIter;
 use crate::outcome::{Outcome, StoredAt};
+use crate::payload::PayloadVerdict;
+use crate::payloads::Payloads;
 use crate::reader::Listing;
 use crate::replay::{path_from, path_in};
 use std::alloc::{AllocError, Allocator, Global};
@@ -163,6 +167,17 @@ impl<S: Source, A: Allocator + Copy> Archive<S, A> {
         ensures parts { self.new.parts ≡ self.old.parts }
     {
         self.listing.verdict(position)
+    }
+
+    /// How the block of the record at a position compares with the digest that its head states, as a listing gives it.
+    pub fn stated_verdict(&mut self, position: usize) -> Result<Verdict, TakeFault>
+        ensures takes { GivesStated self.old.listing.rows position (S.seen self.old.listing.source)
+            (S.seen self.new.listing.source) result }
+        ensures rows { self.new.listing.rows ≡ self.old.listing.rows }
+        ensures index { self.new.index ≡ self.old.index }
+        ensures parts { self.new.parts ≡ self.old.parts }
+    {
+        self.listing.stated_verdict(position)
     }
 
     /// The position of the first record of any kind with the id that a text holds.
@@ -341,6 +356,48 @@ impl<S: Source, A: Allocator + Copy> Archive<S, A> {
             (captures_text self.now.listing.rows (map outcome_seen outcomes.now)) }
     {
         list_outcomes(&self.listing.rows, outcomes, out)
+    }
+
+    /// How the payload of the record at a position compares with the digest that its first `WARC-Payload-Digest`
+    /// states; `None` if that value is empty, or there is no such field. The payload is that of the record itself: of
+    /// an HTTP response the bytes after the HTTP head as they are stored, of another record the block. Of a revisit it
+    /// is what its replay finds stored, coded or not. The head is read again, and each byte of these blocks at most
+    /// twice. A read that fails, or a source that no longer gives what it gave at opening, is `Read`.
+    pub fn payload_verdict(&mut self, position: usize) -> Result<Option<PayloadVerdict>, TakeFault>
+        ensures gives { GivesPayload self.old.listing.rows self.old.index self.old.parts position
+            (S.seen self.old.listing.source) (S.seen self.new.listing.source) result }
+        ensures rows { self.new.listing.rows ≡ self.old.listing.rows }
+        ensures index { self.new.index ≡ self.old.index }
+        ensures parts { self.new.parts ≡ self.old.parts }
+    {
+        self.listing.payload_verdict(&self.lookup, position)
+    }
+
+    /// How the payload of each record compares with the digest that its head states, as `payload_verdict` judges it.
+    /// Each origin of revisits is read once for each algorithm that they state. `Memory` and `Read` come without a
+    /// verdict.
+    pub fn payloads(&mut self) -> Result<Payloads<A>, OutFault>
+        ensures judges { JudgesPayloads self.old.listing.rows self.old.index self.old.parts
+            (S.seen self.old.listing.source) (S.seen self.new.listing.source) result }
+        ensures rows { self.new.listing.rows ≡ self.old.listing.rows }
+        ensures index { self.new.index ≡ self.old.index }
+        ensures parts { self.new.parts ≡ self.old.parts }
+    {
+        self.listing.payloads(&self.lookup)
+    }
+
+    /// Writes a line for each payload that has a digest and isn't good: the position of its record, `bad` or
+    /// `unchecked`, the bare id, the reason why it is unchecked, `-` for none, and the digest's value, with a tab
+    /// between two; and a last line with the counts. It takes no memory.
+    pub fn list_payloads<W: Sink>(
+        &self,
+        payloads: &Payloads<A>,
+        out: &mut W,
+    ) -> Result<(), OutFault>
+        ensures { SendsText (W.seen out.old) (W.seen out.new) result
+            (payloads_text self.now.listing.rows payloads.now) }
+    {
+        self.listing.list_payloads(payloads, out)
     }
 
     /// The positions of the captures of a URI, each once: by instant, then by position. `Err`: no memory for them.

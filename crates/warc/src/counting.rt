@@ -38,7 +38,7 @@ fn is_kind(one: Kind, other: Kind) -> bool
 }
 
 /// Whether a verdict is another.
-fn is_verdict(one: Verdict, other: Verdict) -> bool
+pub(crate) fn is_verdict(one: Verdict, other: Verdict) -> bool
     ensures { result ≡ is_verdict one other }
 {
     match one {

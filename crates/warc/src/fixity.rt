@@ -153,7 +153,7 @@ impl<A: Allocator + Copy> Keep<A> for Digests<A> {
 }
 
 /// What a verdict is called.
-fn verdict_text(verdict: Verdict) -> &'static [u8]
+pub(crate) fn verdict_text(verdict: Verdict) -> &'static [u8]
     ensures { result.now ≡ verdict_text verdict }
 {
     match verdict {
@@ -213,7 +213,11 @@ fn put_if<W: Sink>(
 }
 
 /// Adds the last line to the output.
-fn put_counts<W: Sink>(counts: Counts, buffer: &mut OutBuffer, out: &mut W) -> Result<(), SendFault>
+pub(crate) fn put_counts<W: Sink>(
+    counts: Counts,
+    buffer: &mut OutBuffer,
+    out: &mut W,
+) -> Result<(), SendFault>
     ensures { Puts (W.seen out.old) (W.seen out.new) buffer.old buffer.new result (counts_line counts) }
 {
     let (mut first, mut second) = (Buffer::new(), Buffer::new());

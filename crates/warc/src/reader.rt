@@ -12,12 +12,14 @@ ghost use Rattle.warc.specs.Listing.{listing};
 ghost use Rattle.warc.specs.Outcomes.{GivesStoredAt, JudgesAt, answer_seen};
 ghost use Rattle.warc.specs.Locating.{LocatesAt, LocatesFor};
 ghost use Rattle.warc.specs.Parts.{GivesPart};
+ghost use Rattle.warc.specs.PayloadText.{payloads_text};
+ghost use Rattle.warc.specs.PayloadVerdicts.{GivesPayload, JudgesPayloads};
 ghost use Rattle.warc_reading.specs.Growing.{Grows, grown, source_grown, without_source};
 ghost use Rattle.warc_reading.specs.Opening.{Opens};
 ghost use Rattle.warc_reading.specs.Stream.{IsKeptOf};
 ghost use Rattle.warc.specs.Replaying.{Replays};
 ghost use Rattle.warc.specs.Heading.{GivesHead};
-ghost use Rattle.warc.specs.Judged.{GivesVerdict};
+ghost use Rattle.warc.specs.Judged.{GivesStated, GivesVerdict};
 ghost use Rattle.warc.specs.Selecting.{AreOthers, ArePositions, Selects, selected_text};
 ghost use Rattle.warc.specs.Taking.{GivesRecord};
 
@@ -25,14 +27,17 @@ use crate::blocks::send_range;
 use crate::bodies::give_body;
 use crate::capturing::judge_all;
 use crate::closing::{closed_positions, standing_positions};
+use crate::comparing::take_payload;
 use crate::copying::Form;
 use crate::fault::{BodyFault, ExtractFault, TakeFault};
 use crate::heading::take_head;
 use crate::iterating::RowIter;
-use crate::judging::take_verdict;
+use crate::judging::{take_stated, take_verdict};
 use crate::locating::{locate_at, locate_for};
 use crate::outcome::{Outcome, StoredAt, judge_at, send_at};
 use crate::part::Part;
+use crate::payload::PayloadVerdict;
+use crate::payloads::{Payloads, judge_payloads, list_payloads};
 use crate::records::take_record;
 use crate::replay::replay_rows;
 use crate::rewriting::{Replacement, write_rows};
@@ -223,6 +228,23 @@ impl<S: Source, A: Allocator + Copy> Listing<S, A> {
         take_verdict(alloc, &mut self.source, &row)
     }
 
+    /// How the block of the record at a position compares with the digest that its head states, in any of five
+    /// algorithms, in hexadecimal or base32. The head is read again, and the block too if a digest is stated; no other
+    /// byte is. A read that fails, or a source that no longer gives what it gave at opening, is `Read`.
+    pub fn stated_verdict(&mut self, position: usize) -> Result<Verdict, TakeFault>
+        ensures takes { GivesStated self.old.rows position (S.seen self.old.source) (S.seen self.new.source) result }
+
+        // The rows stay.
+        ensures rows { self.new.rows ≡ self.old.rows }
+    {
+        head_of_spelled();
+        let alloc = self.rows.allocator();
+        let Some(row) = self.rows.get(position) else {
+            return Err(TakeFault::NoRecord);
+        };
+        take_stated(alloc, &mut self.source, &row)
+    }
+
     /// Writes a part of the record at a position, as the source has it, and answers its length. If there is no record,
     /// the answer is `NoRecord`, and nothing is written. The part isn't kept: it goes through a buffer of 8,192 bytes.
     ///
@@ -326,6 +348,39 @@ impl<S: Source, A: Allocator + Copy> Listing<S, A> {
         ensures rows { self.new.rows ≡ self.old.rows }
     {
         judge_all(&mut self.source, &self.rows, lookup, positions)
+    }
+
+    /// The verdict on the payload of the record at a position.
+    pub(crate) fn payload_verdict(
+        &mut self,
+        lookup: &Lookup<A>,
+        position: usize,
+    ) -> Result<Option<PayloadVerdict>, TakeFault>
+        ensures gives { GivesPayload self.old.rows lookup.now.index lookup.now.parts position (S.seen self.old.source)
+            (S.seen self.new.source) result }
+        ensures rows { self.new.rows ≡ self.old.rows }
+    {
+        take_payload(&mut self.source, &self.rows, lookup, position)
+    }
+
+    /// The verdicts on the payloads of all records.
+    pub(crate) fn payloads(&mut self, lookup: &Lookup<A>) -> Result<Payloads<A>, OutFault>
+        ensures judges { JudgesPayloads self.old.rows lookup.now.index lookup.now.parts (S.seen self.old.source)
+            (S.seen self.new.source) result }
+        ensures rows { self.new.rows ≡ self.old.rows }
+    {
+        judge_payloads(&mut self.source, &self.rows, lookup)
+    }
+
+    /// Writes a line for each payload that has a digest and isn't good.
+    pub(crate) fn list_payloads<W: Sink>(
+        &self,
+        payloads: &Payloads<A>,
+        out: &mut W,
+    ) -> Result<(), OutFault>
+        ensures { SendsText (W.seen out.old) (W.seen out.new) result (payloads_text self.now.rows payloads.now) }
+    {
+        list_payloads(&self.rows, payloads, out)
     }
 
     /// The positions of records and of all that they need.

@@ -1,6 +1,8 @@
 //! The verdict on a block by the digest that its head states, whatever the algorithm.
-ghost use Rattle.std.specs.Prelude.{◌≡◌, ℕ, List, [], ◌++◌};
+ghost use Rattle.std.specs.Prelude.{◌≡◌, ℕ, ◌<◌, List, [], ◌++◌, length, take, drop, IfOk, OnOk};
 ghost use Rattle.warc_field.specs.Area.{Pair};
+ghost use Rattle.warc_frame.specs.Effects.{FailsBy, HasRange, ReadsRange, read_result};
+ghost use Rattle.warc_frame.specs.Seen.{IfHeld};
 ghost use Rattle.warc_fixity.specs.Judged.{JudgeHasTaken, stated_verdict};
 ghost use Rattle.warc_reading.specs.Judging.{IsNextPlain};
 ghost use Rattle.warc_reading.specs.Row.{Placed};
@@ -9,7 +11,7 @@ ghost use Rattle.warc.specs.Fixity.{digest_value, stated_on};
 use std::alloc::Allocator;
 use warc_field::Fields;
 use warc_fixity::{Judge, stated_verdict};
-use warc_frame::names;
+use warc_frame::{ReadFault, Source, names, read_range};
 use warc_quick::QuickRecord;
 use warc_reading::TakeBlock;
 use warc_record::GoodHead;
@@ -69,4 +71,62 @@ pub(crate) fn plain_stated(found: &QuickRecord<'_>) -> Verdict
     ensures { (p : Placed) (start : ℕ) → IsNextPlain p found.now start → result ≡ stated_on p }
 {
     stated_verdict(found.head.digest, found.block)
+}
+
+/// Adds `len` bytes at an offset of the source to what is judged. They are read in pieces as long as `scratch` at most.
+/// It fails if a read does, if the source ends too early, and if the range doesn't end before offset 2^64.
+fn judge_pieces<S: Source>(
+    source: &mut S,
+    at: u64,
+    len: u64,
+    scratch: &mut [u8],
+    judge: &mut Judge,
+) -> Result<(), ReadFault>
+    requires { 0 < length scratch.old }
+    ensures taken { IfHeld (S.seen source.old).holds (λ bytes. (value taken : List ℕ) →
+        JudgeHasTaken judge.old value taken →
+        OnOk result (JudgeHasTaken judge.new value (taken ++ take len (drop at bytes)))) }
+    ensures reads { ReadsRange at len (S.seen source.old) (S.seen source.new) }
+    ensures fails { FailsBy (HasRange at len) (read_result result) (S.seen source.old) (S.seen source.new) }
+{
+    if len > u64::MAX - at {
+        return Err(ReadFault);
+    }
+    let mut done = 0u64;
+    'judging: while done < len {
+        let want = (len - done).min(scratch.len() as u64) as usize;
+        let piece = &mut scratch[..want];
+        match read_range(source, at + done, piece) {
+            Ok(()) => {}
+            Err(fault) => return Err(fault),
+        }
+        judge.update(piece);
+        done += want as u64;
+    }
+    Ok(())
+}
+
+/// How `len` bytes at an offset of the source compare with the digest that a value states. If it states none, nothing
+/// is read.
+pub(crate) fn stated_range<S: Source>(
+    source: &mut S,
+    at: u64,
+    len: u64,
+    value: &[u8],
+    scratch: &mut [u8],
+) -> Result<Verdict, ReadFault>
+    requires { 0 < length scratch.old }
+    ensures verdict { IfHeld (S.seen source.old).holds (λ bytes.
+        IfOk result (λ verdict. verdict ≡ stated_verdict value.now (take len (drop at bytes)))) }
+    ensures reads { ReadsRange at len (S.seen source.old) (S.seen source.new) }
+    ensures fails { FailsBy (HasRange at len) (read_result result) (S.seen source.old) (S.seen source.new) }
+{
+    let mut judge = Judge::new(value);
+    if !judge.is_checked() {
+        return Ok(Verdict::Unchecked);
+    }
+    match judge_pieces(source, at, len, scratch, &mut judge) {
+        Ok(()) => Ok(judge.verdict()),
+        Err(fault) => Err(fault),
+    }
 }

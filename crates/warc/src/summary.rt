@@ -100,7 +100,7 @@ impl<A: Allocator> RecordFlags<A> {
 }
 
 /// Whether a head has a segment number, whatever its value, if it isn't empty.
-fn has_segment_number<A: Allocator>(fields: &Fields<A>) -> bool
+pub(crate) fn has_segment_number<A: Allocator>(fields: &Fields<A>) -> bool
     ensures { result ≡ has_segment_number fields.now }
 {
     match fields.first(names::WARC_SEGMENT_NUMBER.as_bytes()) {
