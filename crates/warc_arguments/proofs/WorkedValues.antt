@@ -2,7 +2,7 @@
 use Rattle.std.proofs.Common.{◌≡◌, ℕ, true, false, List, [], ◌∷◌, Option, Some, codes, refl}
 use Rattle.clap.specs.Faults.{fault_of}
 use Rattle.clap.specs.Takes.{takes}
-use Rattle.clap.specs.declared.error.kind.ErrorKind.TheVariants.{DisplayHelp, DisplayVersion, MissingRequiredArgument, MissingSubcommand, UnknownArgument}
+use Rattle.clap.specs.declared.error.kind.ErrorKind.TheVariants.{ArgumentConflict, DisplayHelp, DisplayVersion, MissingRequiredArgument, MissingSubcommand, UnknownArgument}
 use Rattle.clap.proofs.OnLiterals.{clap_on_literals}
 use Rattle.warc_arguments.specs.Command.{Asked}
 use Rattle.warc_arguments.specs.CommandLine.{asked_of, warc_app}
@@ -81,3 +81,24 @@ check_faults = refl
 split_names : asked_of (codes "warc" ∷ codes "split" ∷ codes "a.warc" ∷ codes "2" ∷ []) ≡ plainly (codes "split") (codes "a.warc" ∷ codes "2" ∷ [])
 unfolding clap_on_literals
 split_names = refl
+
+-- warc fixity --payload a.warc, and the flag after the path; twice is refused
+payload_names : asked_of (codes "warc" ∷ codes "fixity" ∷ codes "--payload" ∷ codes "a.warc" ∷ []) ≡ Some (record { command = (codes "fixity", codes "a.warc" ∷ []); flags = true ∷ []; quiet = false; hints = false })
+unfolding clap_on_literals
+payload_names = refl
+
+payload_last : asked_of (codes "warc" ∷ codes "fixity" ∷ codes "a.warc" ∷ codes "--payload" ∷ []) ≡ Some (record { command = (codes "fixity", codes "a.warc" ∷ []); flags = true ∷ []; quiet = false; hints = false })
+unfolding clap_on_literals
+payload_last = refl
+
+blocks_named : asked_of (codes "warc" ∷ codes "fixity" ∷ codes "a.warc" ∷ []) ≡ Some (record { command = (codes "fixity", codes "a.warc" ∷ []); flags = false ∷ []; quiet = false; hints = false })
+unfolding clap_on_literals
+blocks_named = refl
+
+payload_twice : fault_of warc_app (codes "warc" ∷ codes "fixity" ∷ codes "--payload" ∷ codes "a.warc" ∷ codes "--payload" ∷ []) ≡ ArgumentConflict ∷ []
+unfolding clap_on_literals
+payload_twice = refl
+
+payload_elsewhere : fault_of warc_app (codes "warc" ∷ codes "check" ∷ codes "--payload" ∷ codes "a.warc" ∷ []) ≡ UnknownArgument ∷ []
+unfolding clap_on_literals
+payload_elsewhere = refl

@@ -27,7 +27,7 @@ view_of (command.Select archive positions except closed) = (codes "select", arch
 view_of (command.Write draft file) = (codes "write", draft_texts draft ++ file.now ∷ [])
 view_of (command.Head archive position) = (codes "head", archive.now ∷ position.now ∷ [])
 view_of (command.Block archive position) = (codes "block", archive.now ∷ position.now ∷ [])
-view_of (command.Fixity archive) = (codes "fixity", archive.now ∷ [])
+view_of (command.Fixity archive payload) = (codes "fixity", archive.now ∷ [])
 view_of (command.Pieces archive) = (codes "pieces", archive.now ∷ [])
 view_of (command.Salvage archive all) = (codes "salvage", archive.now ∷ [])
 view_of (command.Summary archive) = (codes "summary", archive.now ∷ [])
@@ -39,6 +39,7 @@ flags_of (command.Replay archive uri date hex stored) = hex ∷ stored ∷ []
 flags_of (command.Body archive position stored) = stored ∷ []
 flags_of (command.Captures archive uri hex) = hex ∷ []
 flags_of (command.Select archive positions except closed) = except ∷ closed ∷ []
+flags_of (command.Fixity archive payload) = payload ∷ []
 flags_of (command.Salvage archive all) = all ∷ []
 flags_of _ = []
 
@@ -67,7 +68,7 @@ path_word (command.Select archive positions except closed) = archive.now
 path_word (command.Write draft file) = file.now
 path_word (command.Head archive position) = archive.now
 path_word (command.Block archive position) = archive.now
-path_word (command.Fixity archive) = archive.now
+path_word (command.Fixity archive payload) = archive.now
 path_word (command.Pieces archive) = archive.now
 path_word (command.Salvage archive all) = archive.now
 path_word (command.Summary archive) = archive.now
@@ -82,7 +83,7 @@ list_word _ = None
 abbrev pub reads_once : Command → Bool
 reads_once (command.List archive) = true
 reads_once (command.Check archive) = true
-reads_once (command.Fixity archive) = true
+reads_once (command.Fixity archive false) = true
 reads_once (command.Summary archive) = true
 reads_once _ = false
 

@@ -62,6 +62,14 @@ select_layout = record {
   flags = codes "except" ∷ codes "closed" ∷ [];
 }
 
+abbrev pub fixity_layout : Layout
+fixity_layout = record {
+  name = codes "fixity";
+  words = codes "archive" ∷ [];
+  optional = [];
+  flags = codes "payload" ∷ [];
+}
+
 abbrev pub salvage_layout : Layout
 salvage_layout = record {
   name = codes "salvage";
@@ -94,7 +102,7 @@ other_layouts =
     ∷ layout (codes "write") (draft_words ++ codes "file" ∷ [])
     ∷ layout (codes "head") (codes "archive" ∷ codes "position" ∷ [])
     ∷ layout (codes "block") (codes "archive" ∷ codes "position" ∷ [])
-    ∷ layout (codes "fixity") (codes "archive" ∷ [])
+    ∷ fixity_layout
     ∷ layout (codes "pieces") (codes "archive" ∷ [])
     ∷ salvage_layout
     ∷ layout (codes "summary") (codes "archive" ∷ [])

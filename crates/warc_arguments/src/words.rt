@@ -89,9 +89,10 @@ pub enum Command<'a> {
         archive: &'a str,
         position: &'a str,
     },
-    /// A line for each block that isn't good by its digest.
+    /// A line for each block that isn't good by its digest; for each payload, if that is asked for.
     Fixity {
         archive: &'a str,
+        payload: bool,
     },
     /// A line for each run of good records and for each damage.
     Pieces {
@@ -171,7 +172,10 @@ impl<'a> Command<'a> {
                 archive,
                 position: _,
             } => archive,
-            Command::Fixity { archive } => archive,
+            Command::Fixity {
+                archive,
+                payload: _,
+            } => archive,
             Command::Pieces { archive } => archive,
             Command::Salvage { archive, all: _ } => archive,
             Command::Summary { archive } => archive,
@@ -201,7 +205,10 @@ impl<'a> Command<'a> {
         match self {
             Command::List { archive: _ }
             | Command::Check { archive: _ }
-            | Command::Fixity { archive: _ }
+            | Command::Fixity {
+                archive: _,
+                payload: false,
+            }
             | Command::Summary { archive: _ } => true,
             _ => false,
         }
@@ -495,11 +502,22 @@ and SHA-512 are checked, in hexadecimal and in base32. A block is unchecked if
 its head states none of these. The last line counts all records:
 'records 60 good 58 bad 0 unchecked 2'.
 
-Exit status: 0 all blocks are good; 1 some block is bad; 2 the archive is
-refused, and nothing was written; 3 see 'warc --help'; 4 none is bad, and some
-can't be checked.
+With --payload payloads are compared with the payload digests that heads state,
+and only records that state one are listed and counted. The payload is what
+follows the HTTP head of an HTTP response, as it is stored, what its replay
+gives of a revisit, and else the block. A line has five columns: after the id
+comes the reason why the payload is unchecked, or '-' if it is bad. The reason
+is 'revisit' if the replay gives no body, 'request' or 'segment' if the record
+is one, 'algorithm' if the value is none of these digests, 'head' if an HTTP
+response has no HTTP head, and 'coded' if the digest differs and the payload
+has a transfer coding: it may have been hashed before or after that.
 
-Example: warc fixity examples/abc.warc";
+Exit status: 0 all are good; 1 some block or payload is bad; 2 the archive is
+refused, and nothing was written; 3 see 'warc --help'; 4 none is bad, and some
+can't be checked; with --payload also if no head states a payload digest, but
+not for a request.
+
+Example: warc fixity --payload examples/crawl.warc";
 
 const PIECES_NOTES: &str =
     "A line for each run of good records has 'records', its offset, its length in
@@ -611,6 +629,11 @@ const EXCEPT: Word = Word {
 const CLOSED: Word = Word {
     name: "closed",
     help: "Writes also what they need; with --except leaves out what needs them",
+};
+
+const PAYLOAD: Word = Word {
+    name: "payload",
+    help: "Compares payloads, and not blocks, with their digests",
 };
 
 const ALL: Word = Word {
@@ -773,7 +796,7 @@ const OTHER_COMMANDS: [Entry; 12] = [
         notes: FIXITY_NOTES,
         words: &[ARCHIVE],
         optional: &[],
-        flags: &[],
+        flags: &[PAYLOAD],
     },
     Entry {
         name: "pieces",
@@ -1013,7 +1036,10 @@ fn read_command<'a>(name: &str, texts: &ArgMatches<'a>) -> Command<'a>
             archive,
             position: text_at(texts, "position"),
         },
-        "fixity" => Command::Fixity { archive },
+        "fixity" => Command::Fixity {
+            archive,
+            payload: is_given(texts, "payload"),
+        },
         "pieces" => Command::Pieces { archive },
         "salvage" => Command::Salvage {
             archive,

@@ -4,6 +4,7 @@ pub mod ProgramLemmas
 pub mod ReadLemmas
 mod RunLemmas
 pub mod SalvageLemmas
+mod PayloadLemmas
 mod StoredLemmas
 mod WorkedValues
 pub mod CaptureLemmas

@@ -11,6 +11,7 @@ use Rattle.warc_commands.specs.Closed.{ClosedEnds}
 use Rattle.warc_commands.specs.Explaining.{ExplainEnds}
 use Rattle.warc_commands.specs.Fixity.{FixityEnds}
 use Rattle.warc_commands.specs.Parts.{PartEnds, position_of}
+use Rattle.warc_commands.specs.Payloads.{PayloadsEnd}
 use Rattle.warc_commands.specs.Program.{CheckEnds, ExtractEnds, ListEnds, MakeEnds, SplitEnds, WriteEnds, size_of}
 use Rattle.warc_commands.specs.Captures.{CapturesEnds}
 use Rattle.warc_commands.specs.Salvage.{SalvageEnds}
@@ -44,7 +45,8 @@ Ends (command.Select archive positions except true) list old new status =
 Ends (command.Write draft file) list old new status = MakeEnds draft old new status
 Ends (command.Head archive position) list old new status = PartEnds Head (position_of position.now) old new status
 Ends (command.Block archive position) list old new status = PartEnds Block (position_of position.now) old new status
-Ends (command.Fixity archive) list old new status = FixityEnds old new status
+Ends (command.Fixity archive false) list old new status = FixityEnds old new status
+Ends (command.Fixity archive true) list old new status = PayloadsEnd old new status
 Ends (command.Pieces archive) list old new status = PiecesEnd old new status
 Ends (command.Salvage archive false) list old new status = SalvageEnds old new status
 Ends (command.Salvage archive true) list old new status = SalvageAllEnds old new status
@@ -68,7 +70,7 @@ IsStatusOf (command.Select archive positions except closed) status =
 IsStatusOf (command.Write draft file) status = (status ≡ 0) ⊎ (status ≡ 3)
 IsStatusOf (command.Head archive position) status = (status ≡ 0) ⊎ ((status ≡ 1) ⊎ ((status ≡ 2) ⊎ (status ≡ 3)))
 IsStatusOf (command.Block archive position) status = (status ≡ 0) ⊎ ((status ≡ 1) ⊎ ((status ≡ 2) ⊎ (status ≡ 3)))
-IsStatusOf (command.Fixity archive) status =
+IsStatusOf (command.Fixity archive payload) status =
     (status ≡ 0) ⊎ ((status ≡ 1) ⊎ ((status ≡ 2) ⊎ ((status ≡ 3) ⊎ (status ≡ 4))))
 IsStatusOf (command.Pieces archive) status = (status ≡ 0) ⊎ ((status ≡ 2) ⊎ (status ≡ 3))
 IsStatusOf (command.Salvage archive all) status = (status ≡ 0) ⊎ ((status ≡ 2) ⊎ (status ≡ 3))

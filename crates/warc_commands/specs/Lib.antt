@@ -8,6 +8,7 @@ pub mod Explaining
 pub mod Fixity
 pub mod Named
 pub mod Parts
+pub mod Payloads
 pub mod Pieces
 pub mod Program
 pub mod Reads

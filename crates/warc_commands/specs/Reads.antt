@@ -32,7 +32,8 @@ pub record ReadsForRecord (old new : SeenSource) : Type 0 where
 abbrev pub CommandReads : Command → SeenSource → SeenSource → Type 0
 CommandReads (command.List archive) old new = ReadsTimes 1 old new
 CommandReads (command.Check archive) old new = ReadsTimes 1 old new
-CommandReads (command.Fixity archive) old new = ReadsTimes 1 old new
+CommandReads (command.Fixity archive false) old new = ReadsTimes 1 old new
+CommandReads (command.Fixity archive true) old new = AsksNear old new
 CommandReads (command.Summary archive) old new = ReadsTimes 1 old new
 CommandReads (command.Extract archive id) old new = ReadsTimes 2 old new
 CommandReads (command.Head archive position) old new = ReadsTimes 2 old new

@@ -9,8 +9,8 @@ use std::alloc::Allocator;
 use warc::{Counts, Fixity};
 use warc_frame::{Sink, Source};
 
-/// The exit status where no block is bad, and one can't be checked.
-const UNCHECKED: u8 = 4;
+/// The exit status where no block or payload is bad, and some can't be checked.
+pub(crate) const UNCHECKED: u8 = 4;
 
 /// The status where all was written.
 fn status_of(counts: Counts) -> u8

@@ -11,6 +11,7 @@ mod fixity;
 mod lists;
 mod making;
 mod parts;
+mod payloads;
 mod pieces;
 mod program;
 mod running;

@@ -17,6 +17,7 @@ use crate::extracting::{AsOf, extract};
 use crate::fixity::fixity;
 use crate::making::write;
 use crate::parts::give;
+use crate::payloads::payloads;
 use crate::pieces::pieces;
 use crate::salvage::salvage;
 use crate::salvaging::salvage_all;
@@ -50,8 +51,8 @@ pub(crate) const LINE: usize = 128;
 /// Does what a command says. The output goes to `out`, and a line on what went wrong to `err`, where failed writes are
 /// ignored. Returns the source and the exit status: 0 done; 1 checked and something was found, or what was asked for
 /// isn't there; 2 the archive is refused; 3 a bad date, size, position or number, a record that isn't made, or a read,
-/// a write or a growth of the memory failed; 4 some block can't be checked. A date, a size, a position and a list are
-/// judged before the source is read, and a number is explained without it.
+/// a write or a growth of the memory failed; 4 some block or payload can't be checked. A date, a size, a position and a
+/// list are judged before the source is read, and a number is explained without it.
 ///
 /// `listed` holds the bytes of the list that a command reads beside its source (`Command::list_path`).
 ///
@@ -152,7 +153,14 @@ where
             archive: _,
             position,
         } => give(alloc, Part::Block, position, source, out, err),
-        Command::Fixity { archive: _ } => fixity(alloc, source, out, err),
+        Command::Fixity {
+            archive: _,
+            payload: false,
+        } => fixity(alloc, source, out, err),
+        Command::Fixity {
+            archive: _,
+            payload: true,
+        } => payloads(alloc, source, out, err),
         Command::Pieces { archive: _ } => pieces(alloc, source, out, err),
         Command::Salvage {
             archive: _,

@@ -1,0 +1,65 @@
+-- How `fixity --payload` ends.
+use Rattle.std.proofs.Common.{◌≡◌, inl, inr, ℕ, List, Result, Ok, Err, sym, subst, ◌∙◌}
+use Rattle.warc_frame.proofs.EffectLemmas.{fails_as}
+use Rattle.warc_frame.specs.Seen.{Seen, SeenSource}
+use Rattle.warc_frame.specs.declared.fault.OutFault.{OutFault}
+use Rattle.warc_reading.specs.Indexed.{Archived, IsIndexed}
+use Rattle.warc_reading.specs.Opening.{Opens}
+use Rattle.warc_reading.specs.Row.{Row}
+use Rattle.warc.specs.PayloadVerdicts.{JudgesPayloads, PayloadJudgements}
+use Rattle.warc_commands.specs.Devices.{devices}
+use Rattle.warc_commands.specs.Payloads.{PayloadLinesEnd, PayloadsEnd, PayloadsListed}
+use Rattle.warc_commands.proofs.ProgramLemmas.{has_failed, may_have_failed}
+
+lines_by : (rows other : List Row) (judged : PayloadJudgements) (out out' err err' : Seen) (status : ℕ) → rows ≡ other → PayloadLinesEnd rows judged out out' err err' status
+    → PayloadLinesEnd other judged out out' err err' status
+lines_by rows other judged out out' err err' status same ends = subst (λ (l : List Row). PayloadLinesEnd l judged out out' err err' status) same ends
+
+-- how the command ends, by what was judged and what was written
+pub payloads_end : {S : Type 0} (archive : Archived S) (listed : List Row) (answer : Result PayloadJudgements OutFault) (old mid last new : SeenSource) (out out' err err' : Seen) (status : ℕ)
+    → Opens IsIndexed old mid (Ok archive) → JudgesPayloads archive.listing.rows archive.index archive.parts mid last answer → listed ≡ archive.listing.rows → new.faults ≡ last.faults
+    → PayloadsListed listed answer out out' err err' status → PayloadsEnd (devices old out err) (devices new out' err') status
+payloads_end archive listed (Ok judged) old mid last new out out' err err' status opened judges rows same ends =
+    elim (lines_by listed archive.listing.rows judged out out' err err' status rows ends) [
+      | inl all ↦ inl (record {
+        rows = archive.listing.rows;
+        judged = judged;
+        are = λ bytes held.
+            let is = opened.accepted bytes held in
+            record { is = is.listed; each = judges.told bytes (opened.reads.kept ∙ held) is.listed is.kept };
+        told = all.0;
+        unfailed = all.1;
+        sound = same ∙ judges.fails.may ∙ opened.reads.cause;
+        silent = all.2;
+        status_is = all.3;
+        status_in = all.4;
+      })
+      | inr cut ↦ inr (inr (inl (record {
+        rows = archive.listing.rows;
+        judged = judged;
+        are = λ bytes held.
+            let is = opened.accepted bytes held in
+            record { is = is.listed; each = judges.told bytes (opened.reads.kept ∙ held) is.listed is.kept };
+        sent = cut.0;
+        front = cut.1;
+        failed = cut.2;
+        sound = same ∙ judges.fails.may ∙ opened.reads.cause;
+        told = cut.3;
+        status_is = cut.4;
+      })))
+    ]
+payloads_end archive listed (Err fault) old mid last new out out' err err' status opened judges rows same ends =
+    let fails = fails_as PayloadJudgements ℕ judges.fails in
+    inr (inr (inr (record {
+      fault = fault;
+      early = judges.early;
+      fails = record {
+        may = may_have_failed fault _ _ _ _ opened.reads.cause (sym same) fails.may;
+        failed = λ bytes held is.
+            let has = opened.accepted bytes held in
+            has_failed fault _ _ _ _ opened.reads.cause (sym same) (fails.failed bytes (opened.reads.kept ∙ held) (has.listed, has.kept));
+      };
+      untouched = ends.0;
+      told = ends.1;
+      status_is = ends.2;
+    })))

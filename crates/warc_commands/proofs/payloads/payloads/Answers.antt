@@ -1,0 +1,19 @@
+use Rattle.std.proofs.Common.{inl, inr, refl, ap}
+use Rattle.warc_commands.proofs.PayloadLemmas.{payloads_end}
+use Rattle.warc_commands.proofs.ProgramLemmas.{not_opened}
+use Rattle.warc_commands.proofs.ReadLemmas.{opened, replay_near}
+use Rattle.warc_commands.proofs.payloads.payloads.Goals as goal
+
+pub returns-in-Err-clause-ends : goal.returns-in-Err-clause-ends
+returns-in-Err-clause-ends g c = inr (inl (not_opened _ _ _ _ _ _ c.in-Err.fault _ c.in-Err.ensures c.tell_refusal.ensures.told c.tell_refusal.ensures.status))
+
+pub returns-clause-ends : goal.returns-clause-ends
+returns-clause-ends g c =
+    payloads_end _ _ c.payloads-judged.result _ _ _ _ _ _ _ _ _ c.in-Ok.ensures c.payloads-judged.ensures.judges c.payloads-judged.ensures.rows
+    (ap (λ s. (g.S.Source.seen s).faults) c.into_source.ensures) c.tell_payloads.ensures
+
+pub returns-in-Err-clause-reads : goal.returns-in-Err-clause-reads
+returns-in-Err-clause-reads g c = (opened c.in-Err.ensures refl).near
+
+pub returns-clause-reads : goal.returns-clause-reads
+returns-clause-reads g c = replay_near c.in-Ok.ensures (ap (λ s. g.S.Source.seen s) c.into_source.ensures) c.payloads-judged.ensures.judges.inside

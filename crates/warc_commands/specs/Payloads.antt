@@ -1,0 +1,69 @@
+-- How `fixity --payload` ends.
+use Rattle.std.specs.Prelude.{◌≡◌, ℕ, ◌⊎◌, List, length, Result, Ok, Err, nat_lt, if◌then◌else◌}
+use Rattle.std.specs.Io.KnownBytes.{append_known}
+use Rattle.warc_frame.specs.Count.{raised}
+use Rattle.warc_frame.specs.FaultText.{out_fault_text}
+use Rattle.warc_frame.specs.Seen.{IfHeld, Seen}
+use Rattle.warc_frame.specs.Send.{WentOut}
+use Rattle.warc_frame.specs.declared.fault.OutFault.{OutFault}
+use Rattle.warc_frame.specs.declared.fault.OutFault.TheVariants.{Write}
+use Rattle.warc_reading.specs.Archive.{IsArchiveOf, contents}
+use Rattle.warc_reading.specs.Row.{Row}
+use Rattle.warc.specs.PayloadText.{are_verified, payload_counts, payloads_text}
+use Rattle.warc.specs.PayloadVerdicts.{AreJudgedPayloads, PayloadJudgements}
+use Rattle.warc_commands.specs.Captures.{IsUnjudged}
+use Rattle.warc_commands.specs.Devices.{Devices}
+use Rattle.warc_commands.specs.Program.{IsNotOpened, Tells, told_line}
+
+-- the status where all was written: 1 where a payload is bad, else 0 where all of them are verified, else 4
+abbrev pub payload_status : PayloadJudgements → ℕ
+payload_status judged =
+    if nat_lt 0 (payload_counts judged.verdicts).bad then 1 else if are_verified judged.verdicts then 0 else 4
+
+-- these are the verdicts on the payloads of the archive that the bytes are
+pub record ArePayloadsIn (bytes : List ℕ) (rows : List Row) (judged : PayloadJudgements) : Type 0 where
+  pub is : IsArchiveOf bytes rows
+  pub each : AreJudgedPayloads (contents is.are.records) (length rows) judged
+
+-- how writing the lines of verdicts ends: all of them went out, or a write failed and a front of them did
+abbrev pub PayloadLinesEnd : List Row → PayloadJudgements → Seen → Seen → Seen → Seen → ℕ → Type 0
+PayloadLinesEnd rows judged out out' err err' status =
+    ((out'.tells ≡ append_known out.tells (payloads_text rows judged)) × (out'.faults ≡ out.faults) × (err' ≡ err)
+    × (status ≡ payload_status judged) × ((status ≡ 0) ⊎ ((status ≡ 1) ⊎ (status ≡ 4))))
+    ⊎ ((sent : ℕ) × WentOut out.tells (payloads_text rows judged) out'.tells sent × (out'.faults ≡ raised out.faults)
+    × Tells (told_line (out_fault_text (Write sent))) err err' × (status ≡ 3))
+
+-- the same, or nothing was written since the payloads couldn't be judged
+abbrev pub PayloadsListed : List Row → Result PayloadJudgements OutFault → Seen → Seen → Seen → Seen → ℕ → Type 0
+PayloadsListed rows (Ok judged) out out' err err' status = PayloadLinesEnd rows judged out out' err err' status
+PayloadsListed rows (Err fault) out out' err err' status =
+    (out' ≡ out) × Tells (told_line (out_fault_text fault)) err err' × (status ≡ 3)
+
+-- all lines of `fixity --payload` went out
+pub record IsPayloadsTold (old new : Devices) (status : ℕ) : Type 0 where
+  pub rows : List Row
+  pub judged : PayloadJudgements
+  pub are : IfHeld old.source.holds (λ bytes. ArePayloadsIn bytes rows judged)
+  pub told : new.out.tells ≡ append_known old.out.tells (payloads_text rows judged)
+  pub unfailed : new.out.faults ≡ old.out.faults
+  pub sound : new.source.faults ≡ old.source.faults
+  pub silent : new.err ≡ old.err
+  pub status_is : status ≡ payload_status judged
+  pub status_in : (status ≡ 0) ⊎ ((status ≡ 1) ⊎ (status ≡ 4))
+
+-- a write failed: a front of the lines went out
+pub record IsPayloadsCutOff (old new : Devices) (status : ℕ) : Type 0 where
+  pub rows : List Row
+  pub judged : PayloadJudgements
+  pub are : IfHeld old.source.holds (λ bytes. ArePayloadsIn bytes rows judged)
+  pub sent : ℕ
+  pub front : WentOut old.out.tells (payloads_text rows judged) new.out.tells sent
+  pub failed : new.out.faults ≡ raised old.out.faults
+  pub sound : new.source.faults ≡ old.source.faults
+  pub told : Tells (told_line (out_fault_text (Write sent))) old.err new.err
+  pub status_is : status ≡ 3
+
+-- how `fixity --payload` ends
+abbrev pub PayloadsEnd : Devices → Devices → ℕ → Type 0
+PayloadsEnd old new status = IsPayloadsTold old new status
+    ⊎ (IsNotOpened old new status ⊎ (IsPayloadsCutOff old new status ⊎ IsUnjudged old new status))

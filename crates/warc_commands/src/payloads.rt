@@ -1,0 +1,93 @@
+//! The command that lists the payloads that don't have the digest that their records state.
+ghost use Rattle.std.specs.Prelude.{◌≡◌, ◌⊎◌};
+ghost use Rattle.warc_commands.specs.Devices.{devices};
+ghost use Rattle.warc_commands.specs.Payloads.{PayloadLinesEnd, PayloadsEnd, PayloadsListed, payload_status};
+ghost use Rattle.warc_commands.specs.Reads.{AsksNear};
+
+use crate::fixity::UNCHECKED;
+use crate::program::{DONE, FOUND, tell_cut, tell_refusal};
+use std::alloc::Allocator;
+use warc::{Archive, Payloads};
+use warc_frame::{OutFault, Sink, Source};
+
+/// Writes a line for each payload that isn't good, and the counts.
+pub(crate) fn payloads<A, S, W, E>(alloc: A, source: S, out: &mut W, err: &mut E) -> (u8, S)
+where
+    A: Allocator + Copy,
+    S: Source + Drop,
+    W: Sink,
+    E: Sink,
+    ensures ends { PayloadsEnd (devices (S.seen source) (W.seen out.old) (E.seen err.old)) (devices
+        (S.seen result.1) (W.seen out.new) (E.seen err.new)) result.0 }
+
+    // The source still holds what it held.
+    ensures kept { (S.seen result.1).holds ≡ (S.seen source).holds }
+    ensures reads { AsksNear (S.seen source) (S.seen result.1) }
+{
+    let mut archive = match Archive::open(alloc, source) {
+        Ok(archive) => archive,
+        Err((fault, source)) => return (tell_refusal(fault, err), source),
+    };
+    let judged = archive.payloads();
+    (
+        tell_payloads(&archive, &judged, out, err),
+        archive.into_source(),
+    )
+}
+
+/// Writes the lines of payloads, or reports why there are none, and answers the exit status.
+fn tell_payloads<A, S, W, E>(
+    archive: &Archive<S, A>,
+    payloads: &Result<Payloads<A>, OutFault>,
+    out: &mut W,
+    err: &mut E,
+) -> u8
+where
+    A: Allocator + Copy,
+    S: Source,
+    W: Sink,
+    E: Sink,
+    ensures { PayloadsListed archive.now.listing.rows payloads.now (W.seen out.old) (W.seen out.new)
+        (E.seen err.old) (E.seen err.new) result }
+{
+    match payloads {
+        Ok(payloads) => tell_judged(archive, payloads, out, err),
+        Err(fault) => tell_cut(*fault, err),
+    }
+}
+
+/// Writes the lines of payloads.
+fn tell_judged<A, S, W, E>(
+    archive: &Archive<S, A>,
+    payloads: &Payloads<A>,
+    out: &mut W,
+    err: &mut E,
+) -> u8
+where
+    A: Allocator + Copy,
+    S: Source,
+    W: Sink,
+    E: Sink,
+    ensures { PayloadLinesEnd archive.now.listing.rows payloads.now (W.seen out.old) (W.seen out.new)
+        (E.seen err.old) (E.seen err.new) result }
+{
+    match archive.list_payloads(payloads, out) {
+        Ok(()) => status_of(payloads),
+        Err(fault) => tell_cut(fault, err),
+    }
+}
+
+/// The status where all was written.
+fn status_of<A: Allocator>(payloads: &Payloads<A>) -> u8
+    ensures value { result ≡ payload_status payloads.now }
+    ensures cases { (result ≡ 0) ⊎ ((result ≡ 1) ⊎ (result ≡ 4)) }
+{
+    if payloads.counts().bad > 0 {
+        return FOUND;
+    }
+    if payloads.are_verified() {
+        DONE
+    } else {
+        UNCHECKED
+    }
+}
