@@ -88,6 +88,7 @@ test-docs: bin/warc
 test-compatibility: bin/warc
 	@bash tools/need.sh wget:wget bsdtar:libarchive-tools gzip:gzip
 	@python3 tests/compatibility/compare.py bin/warc
+	@python3 tests/compatibility/payloads.py bin/warc
 
 lint: lint-docs lint-code
 	@python3 tools/lint.py

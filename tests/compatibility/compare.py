@@ -4,8 +4,8 @@
 Usage: compare.py [--write] PROGRAM
 
 wget and bsdtar run here, over a site on loopback; the other files are made by shapes.py. A row names who wrote the
-files, how many there are, how many open, and what `check`, `fixity` and `captures` say of them. --write puts the rows
-that were found into the page. Needs wget and bsdtar (Debian's libarchive-tools).
+files, how many there are, how many open, and what `check`, `fixity`, `fixity --payload` and `captures` say of them.
+--write puts the rows that were found into the page. Needs wget and bsdtar (Debian's libarchive-tools).
 """
 from __future__ import annotations
 
@@ -26,7 +26,16 @@ import shapes
 
 TOP = os.path.dirname(os.path.dirname(os.path.dirname(os.path.abspath(__file__))))
 PAGE = f"{TOP}/docs/COMPATIBILITY.md"
-TITLES = ("Written by", "Files", "Opened", "`check`", "`fixity`", "Captures with a body", "What to do")
+TITLES = (
+    "Written by",
+    "Files",
+    "Opened",
+    "`check`",
+    "`fixity`",
+    "with `--payload`",
+    "Captures with a body",
+    "What to do",
+)
 HEAD = f"| {' | '.join(TITLES)} |\n{'|---' * len(TITLES)}|\n"
 SECONDS = 300
 WEEK = (b"<title>The week</title>\n", b"<p>Monday: snow.</p>\n")
@@ -165,13 +174,21 @@ def writers() -> list[Writer]:
             by_bsdtar,
             "nothing can be verified: it states no digests. N7: it states no content types",
         ),
-        Writer("Heritrix 3 (made)", made(shapes.heritrix), "nothing can be verified: it states payload digests alone"),
+        Writer(
+            "Heritrix 3 (made)",
+            made(shapes.heritrix),
+            "it states payload digests alone: `warc fixity --payload` verifies them",
+        ),
         Writer(
             "warcprox 2 (made)",
             made(shapes.warcprox),
-            "hexadecimal digests aren't checked: start it with `--base32`. P10: `warc replay --stored`",
+            "`check` judges no digest in hexadecimal: `fixity` does. P10: `warc replay --stored`",
         ),
-        Writer("browser-based crawlers (made)", made(shapes.browser), "nothing is verified: SHA-256 isn't checked"),
+        Writer(
+            "browser-based crawlers (made)",
+            made(shapes.browser),
+            "`check` judges no SHA-256: `fixity` does. Payloads of requests are never checked",
+        ),
         Writer("warcio and pywb (made)", made(shapes.warcio), "P10: `warc replay --stored`"),
         Writer("crawlers before 2009, WARC/0.18 (made)", made(shapes.draft), "convert it with another tool"),
     ]
@@ -194,13 +211,25 @@ def counted(names: Iterator[str]) -> str:
     return ", ".join(f"{name} {number}" for name, number in order) or "-"
 
 
+def verified(program: str, words: list[str]) -> collections.Counter[str]:
+    """How many records of each verdict the last line of a command counts."""
+    last = run(program, words)[0].splitlines()[-1].split()
+    return collections.Counter({name: int(number) for name, number in zip(last[2::2], last[3::2])})
+
+
+def shown(verdicts: collections.Counter[str]) -> str:
+    """The counts of verdicts that there are, or a dash."""
+    return ", ".join(f"{name} {number}" for name, number in verdicts.items() if number) or "-"
+
+
 def row(writer: Writer, program: str, site: str) -> str:
     """The row of a writer: its files are written, opened and asked."""
     with tempfile.TemporaryDirectory() as folder:
         writer.write(folder, site)
         paths = sorted(glob.glob(f"{folder}/*.warc") + glob.glob(f"{folder}/*.warc.gz"))
         opened, refused, findings, reasons, given = 0, set(), "", "", 0
-        verdicts: collections.Counter[str] = collections.Counter()
+        blocks: collections.Counter[str] = collections.Counter()
+        payloads: collections.Counter[str] = collections.Counter()
         for path in paths:
             text, status = run(program, ["list", path])
             if status:
@@ -208,16 +237,16 @@ def row(writer: Writer, program: str, site: str) -> str:
                 continue
             opened += 1
             findings += run(program, ["check", path])[0]
-            last = run(program, ["fixity", path])[0].splitlines()[-1].split()
-            verdicts.update({name: int(number) for name, number in zip(last[2::2], last[3::2])})
+            blocks += verified(program, ["fixity", path])
+            payloads += verified(program, ["fixity", "--payload", path])
             cells = [line.split("\t")[8] for line in run(program, ["captures", path])[0].splitlines() if "\t" in line]
             given += cells.count("-")
             reasons += "".join(f"{cell.split()[0]}\n" for cell in cells if cell != "-")
     found = counted(line.split()[1] for line in findings.splitlines())
-    verified = ", ".join(f"{name} {number}" for name, number in verdicts.items() if number) or "-"
     bodies = f"{given}" + (f"; {counted(iter(reasons.split()))}" if reasons else "") if opened else "-"
     first = f"{opened}" + "".join(f"; refused: {it}" for it in sorted(refused))
-    return f"| {writer.name} | {len(paths)} | {first} | {found} | {verified} | {bodies} | {writer.advice} |\n"
+    cells = [writer.name, f"{len(paths)}", first, found, shown(blocks), shown(payloads), bodies, writer.advice]
+    return f"| {' | '.join(cells)} |\n"
 
 
 def table(program: str) -> str:

@@ -642,13 +642,9 @@ def http_head(block: bytes) -> Optional[Tuple[int, Fields, int]]:
     return None if fields is None else (int(match.group(1)), fields, start)
 
 
-def codings_of(fields: Fields) -> List[bytes]:
+def codings_of(fields: Fields, names: Sequence[bytes] = (b"transfer-encoding", b"content-encoding")) -> List[bytes]:
     """What is said of the fields that say that a body is coded."""
-    return [
-        name + b"=" + value
-        for name, value in fields
-        if name in (b"transfer-encoding", b"content-encoding") and value.lower() not in (b"", b"identity")
-    ]
+    return [name + b"=" + value for name, value in fields if name in names and value.lower() not in (b"", b"identity")]
 
 
 def media_type_of(values: List[bytes]) -> bytes:
@@ -673,6 +669,7 @@ class Stored(NamedTuple):
     codings: List[bytes]
     truncated: str
     body: bytes
+    is_transfer_coded: bool
 
 
 def stored_of(records: List[Record], origin: Record) -> Stored:
@@ -683,13 +680,14 @@ def stored_of(records: List[Record], origin: Record) -> Stored:
     body = b"".join(part.block for part in parts)
     truncated = "no" if all(part.is_absent("WARC-Truncated") for part in parts) else "yes"
     if not is_http_response(origin):
-        return Stored("-", media_type_of(origin.values("Content-Type")), [], truncated, body)
+        return Stored("-", media_type_of(origin.values("Content-Type")), [], truncated, body, False)
     head = http_head(body)
     if head is None:
         raise Reason("P9 BadHead")
     status, fields, start = head
     media_type = media_type_of([value for name, value in fields if name == b"content-type"])
-    return Stored(str(status), media_type, codings_of(fields), truncated, body[start:])
+    coded = bool(codings_of(fields, (b"transfer-encoding",)))
+    return Stored(str(status), media_type, codings_of(fields), truncated, body[start:], coded)
 
 
 def line_of(capture: Record, origin: Record, stored: Stored) -> bytes:
@@ -706,6 +704,48 @@ def payload_of(records: List[Record], capture: Record) -> Tuple[bytes, bytes]:
     if stored.codings:
         raise Reason("P10 Coded")
     return stored.body, line_of(capture, origin, stored) + b"\n"
+
+
+class Payload(NamedTuple):
+    """The bytes that a payload digest is compared with, and whether a transfer coding is named."""
+
+    data: bytes
+    is_coded: bool
+
+
+def own_payload(record: Record) -> Optional[Payload]:
+    """The payload in the block of a record; None if it has to have an HTTP head, and has none."""
+    if not is_http_response(record):
+        return Payload(record.block, False)
+    head = http_head(record.block)
+    if head is None:
+        return None
+    return Payload(record.block[head[2] :], bool(codings_of(head[1], (b"transfer-encoding",))))
+
+
+def digest_verdict(record: Record, payload: Optional[Payload]) -> Tuple[str, str]:
+    """How a payload compares with the payload digest of a record: the verdict, and why it is unchecked."""
+    if not record.is_absent("WARC-Segment-Number"):
+        return "unchecked", "segment"
+    verdict = stated_verdict(record.first("WARC-Payload-Digest"), payload.data if payload else b"")
+    if verdict == "unchecked":
+        return verdict, "algorithm"
+    if payload is None:
+        return "unchecked", "head"
+    return ("unchecked", "coded") if verdict == "bad" and payload.is_coded else (verdict, "-")
+
+
+def payload_verdict(records: List[Record], record: Record) -> Tuple[str, str]:
+    """The verdict on the payload of a record with a payload digest, and why it is unchecked."""
+    if record.kind == "request":
+        return "unchecked", "request"
+    if record.kind != "revisit":
+        return digest_verdict(record, own_payload(record))
+    try:
+        stored = stored_of(records, origin_of(records, record))
+    except Reason:
+        return "unchecked", "revisit"
+    return digest_verdict(record, Payload(stored.body, stored.is_transfer_coded))
 
 
 # Commands. Each takes the archive and its arguments, and gives standard output, standard error and the status.
@@ -736,24 +776,45 @@ def check_command(archive: Archive) -> Answer:
     return "".join(lines).encode(), b"", 1 if lines else 0
 
 
-def fixity_command(archive: Archive) -> Answer:
+def fixity_line(record: Record, verdict: str, *rest: bytes) -> bytes:
+    """The line of a record whose digest doesn't match or can't be compared."""
+    columns = (b"%d" % record.position, verdict.encode(), bare_text(record.stated("WARC-Record-ID")), *rest)
+    return b"\t".join(columns) + b"\n"
+
+
+def counts_line(verdicts: List[str]) -> bytes:
+    counts = tuple(verdicts.count(verdict) for verdict in ("good", "bad", "unchecked"))
+    return b"records %d good %d bad %d unchecked %d\n" % ((len(verdicts),) + counts)
+
+
+def fixity_command(archive: Archive, flag: Optional[bytes] = None) -> Answer:
+    if flag is not None:
+        return payloads_command(archive)
+    verdicts = [record.stated_verdict() for record in archive.records]
+    lines = [
+        fixity_line(record, verdict, record.first("WARC-Block-Digest") or b"-")
+        for record, verdict in zip(archive.records, verdicts)
+        if verdict != "good"
+    ]
+    status = 1 if "bad" in verdicts else 4 if "unchecked" in verdicts else 0
+    return b"".join(lines) + counts_line(verdicts), b"", status
+
+
+def payloads_command(archive: Archive) -> Answer:
+    """`fixity --payload`."""
+    found = []
     lines = []
-    counts = {"good": 0, "bad": 0, "unchecked": 0}
     for record in archive.records:
-        verdict = record.stated_verdict()
-        counts[verdict] += 1
-        if verdict != "good":
-            stated = record.first("WARC-Block-Digest") or b"-"
-            lines.append(
-                b"%d\t%s\t%s\t%s\n"
-                % (record.position, verdict.encode(), bare_text(record.stated("WARC-Record-ID")), stated)
-            )
-    lines.append(
-        b"records %d good %d bad %d unchecked %d\n"
-        % (len(archive.records), counts["good"], counts["bad"], counts["unchecked"])
-    )
-    status = 1 if counts["bad"] else 4 if counts["unchecked"] else 0
-    return b"".join(lines), b"", status
+        value = record.first("WARC-Payload-Digest")
+        if value is not None:
+            verdict, reason = payload_verdict(archive.records, record)
+            found.append((verdict, reason))
+            if verdict != "good":
+                lines.append(fixity_line(record, verdict, reason.encode(), value))
+    verdicts = [verdict for verdict, _ in found]
+    is_open = not found or any(pair[0] == "unchecked" and pair[1] != "request" for pair in found)
+    status = 1 if "bad" in verdicts else 4 if is_open else 0
+    return b"".join(lines) + counts_line(verdicts), b"", status
 
 
 def extract_command(archive: Archive, wanted: bytes) -> Answer:

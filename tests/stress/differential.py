@@ -3,7 +3,7 @@
 
     python3 tests/stress/differential.py WARC COUNT SEED
 
-Makes COUNT archives, from the seeds SEED to SEED + COUNT - 1, and runs twelve command lines over each. Compares
+Makes COUNT archives, from the seeds SEED to SEED + COUNT - 1, and runs thirteen command lines over each. Compares
 standard output, standard error and the exit status. Then asks `replay` for each capture that is the chosen one of its
 own instant, and compares with what `captures` says of it. Prints each difference, and last a line with the counts. The
 exit status is 1 if there is a difference.
@@ -104,6 +104,10 @@ def count_answers(counts: Counter[str], line: Sequence[str], expected: Answer) -
     if line[0] == "check":
         for finding in set(re.findall(rb" (N\d+)", expected[0])):
             counts["answer " + finding.decode()] += 1
+    if line[-1] == "--payload":
+        counts["payload good"] += int((re.findall(rb" good (\d+) ", expected[0]) or [b"0"])[0])
+        for verdict, reason in re.findall(rb"^\d+\t(bad|unchecked)\t[^\t]*\t([a-z-]+)\t", expected[0], re.MULTILINE):
+            counts["payload " + (verdict if reason == b"-" else reason).decode()] += 1
 
 
 def compare_seed(program: str, folder: str, seed: int, counts: Counter[str]) -> None:
@@ -118,7 +122,7 @@ def compare_seed(program: str, folder: str, seed: int, counts: Counter[str]) -> 
     for line in generate.command_lines(seed, data):
         given, expected = run_program(program, folder, line), run_reference(archive, line)
         counts["runs"] += 1
-        counts["runs of " + line[0]] += 1
+        counts["runs of " + " ".join(line if line[0] == "fixity" else line[:1])] += 1
         counts["status %s" % expected[2]] += 1
         count_answers(counts, line, expected)
         if given != expected:
@@ -170,7 +174,7 @@ def main(program: str, count: int, seed: int) -> int:
             compare_captures(program, folder, each, counts)
     finally:
         shutil.rmtree(folder)
-    for kind in ("runs of", "status", "answer"):
+    for kind in ("runs of", "status", "answer", "payload"):
         names = sorted(name for name in counts if name.startswith(kind + " "))
         print("%s: %s" % (kind, ", ".join("%s %d" % (name[len(kind) + 1 :], counts[name]) for name in names)))
     print(

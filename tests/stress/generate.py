@@ -180,7 +180,7 @@ def some_date(chance: random.Random) -> str:
 
 
 def other_digest(chance: random.Random, block: bytes) -> str:
-    """A block digest of any algorithm, in hexadecimal or in base32, whose padding may be wrong."""
+    """A digest of any algorithm, in hexadecimal or in base32, whose padding may be wrong."""
     names = ("md5", "sha1", "sha-1", "sha256", "SHA-256", "sha384", "sha-384", "sha512", "Sha-512", "sha224")
     name = chance.choice(names)
     digest = hashlib.new(name.lower().replace("-", ""), block).digest()
@@ -219,6 +219,20 @@ def some_digest(chance: random.Random, block: bytes) -> str:
     )
 
 
+def body_in(block: bytes) -> bytes:
+    """What follows the first empty line of a block, or all of it."""
+    found = re.search(rb"\n\r?\n", block)
+    return block[found.end() :] if found else block
+
+
+def some_payload_digest(chance: random.Random, block: bytes) -> str:
+    """A payload digest: good, bad, of another kind, of the whole block, or one that several records share."""
+    if yes(chance, 2):
+        return chance.choice(("sha1:A", "sha1:a", "sha1:B", ""))
+    data = chance.choice((body_in(block), body_in(block), body_in(block), block, body_in(block) + b"x"))
+    return sha1_text(data) if yes(chance, 2) else other_digest(chance, data)
+
+
 # Blocks
 
 
@@ -245,6 +259,8 @@ GOOD_FIELDS = (
 )
 CODED_FIELDS = (
     b"Transfer-Encoding: chunked",
+    b"TRANSFER-encoding:\tgzip, chunked \t",
+    b"Transfer-Encoding: x",
     b"content-ENCODING: gzip",
     b"Content-Encoding: identity, gzip",
     b"Content-Encoding:\xff",
@@ -413,7 +429,7 @@ def common_fields(chance: random.Random, kind: str, block: bytes) -> Fields:
     if not yes(chance, 4):
         fields.append(("WARC-Block-Digest", sha1_text(block) if not yes(chance, 3) else some_digest(chance, block)))
     if yes(chance, 2):
-        fields.append(("WARC-Payload-Digest", chance.choice(("sha1:A", "sha1:a", "sha1:B", ""))))
+        fields.append(("WARC-Payload-Digest", some_payload_digest(chance, block)))
     if yes(chance, 10):
         fields.append(("WARC-Truncated", chance.choice(("length", "", "x"))))
     return fields
@@ -473,19 +489,22 @@ def segments(chance: random.Random) -> List[bytes]:
 
 
 def chain(chance: random.Random) -> List[bytes]:
-    """Revisits that name one another by id, from a record or in a loop."""
+    """Revisits that name one another by id, from a record or in a loop, mostly with the digest of that record's
+    payload."""
     count = chance.randrange(1, 7)
     names = ["<urn:uuid:%s>" % uuid.UUID(int=chance.getrandbits(128)) for _ in range(count)]
     texts = []
+    kind, content = chance.choice((("resource", plain_block(chance)), ("response", http_block(chance))))
     for place, name in enumerate(names):
         is_first = place == 0 and not yes(chance, 3)
-        block = plain_block(chance)
+        block = content if is_first else plain_block(chance)
+        dropped = ["WARC-Record-ID"] + ["WARC-Payload-Digest"] * chance.randrange(2)
         fields = [
-            field
-            for field in common_fields(chance, "resource" if is_first else "revisit", block)
-            if field[0] != "WARC-Record-ID"
+            field for field in common_fields(chance, kind if is_first else "revisit", block) if field[0] not in dropped
         ]
         fields.append(("WARC-Record-ID", name))
+        if len(dropped) > 1:
+            fields.append(("WARC-Payload-Digest", some_payload_digest(chance, content)))
         if not is_first:
             fields += [("WARC-Profile", PROFILES[0]), ("WARC-Refers-To", names[place - 1])]
         texts.append(assembled(chance, fields, block))
@@ -666,14 +685,14 @@ def pointed_command(chance: random.Random, data: bytes) -> Line:
     return line + ("--stored",) if command == "body" and yes(chance, 3) else line
 
 
-WHOLE = ("list", "check", "fixity", "salvage", "rewrite", "convert", "captures", "summary")
-FLAGS = ("--stored", "--uri-hex")
+WHOLE = ("list", "check", "fixity", "fixity --payload", "salvage", "rewrite", "convert", "captures", "summary")
+FLAGS = ("--stored", "--uri-hex", "--payload")
 
 
 def command_lines(seed: int, data: bytes) -> List[Line]:
-    """The twelve command lines to run over the archive of a seed, without the name of the archive."""
+    """The thirteen command lines to run over the archive of a seed, without the name of the archive."""
     chance = random.Random("commands %d" % seed)
-    return [(command,) for command in WHOLE] + [pointed_command(chance, data) for _ in range(4)]
+    return [tuple(line.split()) for line in WHOLE] + [pointed_command(chance, data) for _ in range(4)]
 
 
 def main(seed: int) -> None:

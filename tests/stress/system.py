@@ -68,11 +68,12 @@ def record_text(kind: str, record_id: str, block: bytes, more: Sequence[Tuple[st
 def small_archive() -> bytes:
     """Some 300,000 bytes, so that several reads and several writes are needed, and many lines in a list."""
     block = bytes(range(256)) * 600
-    digest = ("WARC-Block-Digest", generate.sha1_text(block))
-    text = record_text("resource", FIRST_ID, block, (digest,))
+    digest = generate.sha1_text(block)
+    payload = ("WARC-Payload-Digest", digest)
+    text = record_text("resource", FIRST_ID, block, (("WARC-Block-Digest", digest), payload))
     for number in range(700):
-        text += record_text("metadata", "urn:x:%d" % number, b"", (("X-Long", "x" * 9),))
-    revisit = (("WARC-Profile", generate.PROFILES[0]), ("WARC-Refers-To", "<%s>" % FIRST_ID))
+        text += record_text("metadata", "urn:x:%d" % number, b"", (("WARC-Payload-Digest", "x" * 9),))
+    revisit = (("WARC-Profile", generate.PROFILES[0]), ("WARC-Refers-To", "<%s>" % FIRST_ID), payload)
     return text + record_text("revisit", LAST_ID, b"", revisit)
 
 
@@ -107,7 +108,7 @@ COMMANDS: Tuple[Command, ...] = (
     ("write",),
 )
 COMMANDS += tuple((name,) for name in ("captures", "summary") if name in warc_reference.COMMANDS)
-COMMANDS += (("body", "701", "--stored"), ("captures", TARGET))
+COMMANDS += (("body", "701", "--stored"), ("captures", TARGET), ("fixity", "--payload"))
 SHORT = ("list", "check", "fixity", "head", "body", "captures", "summary")
 
 
@@ -735,6 +736,7 @@ def short_answers(head: bytes, last: bytes) -> Dict[Command, Result]:
         ("list",): Result(row, b"", 0),
         ("check",): Result(b"0 N7\n1 N7\n", b"", 1),
         ("fixity",): Result(unchecked + b"records 2 good 0 bad 0 unchecked 2\n", b"", 4),
+        ("fixity", "--payload"): Result(b"records 0 good 0 bad 0 unchecked 0\n", b"", 4),
         ("head", "0"): Result(head, b"", 0),
         ("head", "1"): Result(last[:-7], b"", 0),
         ("block", "1"): Result(b"abc", b"", 0),

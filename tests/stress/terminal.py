@@ -273,8 +273,9 @@ def hostile_archive() -> bytes:
     ]
     data = b""
     for number, text in enumerate(texts):
-        head = system.record_text("resource", "urn:x:%d" % number, b"").replace(system.TARGET.encode(), text)
-        data += head
+        fields = (("WARC-Payload-Digest", system.TARGET),)
+        head = system.record_text("resource", "urn:x:%d" % number, b"", fields)
+        data += head.replace(system.TARGET.encode(), text)
     more = (("Content-Type", "application/http; msgtype=response"),)
     last: bytes = system.record_text("response", HOSTILE_ID, HOSTILE_BLOCK, more)
     return data + last
@@ -301,6 +302,7 @@ def hostile_contents(stress: Stress) -> None:
         ("check",),
         ("captures",),
         ("fixity",),
+        ("fixity", "--payload"),
         ("summary",),
         ("head", "0"),
         ("head", "6"),

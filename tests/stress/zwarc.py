@@ -48,6 +48,7 @@ OTHERS: tuple[tuple[str, ...], ...] = (
     ("body", "2"),
     ("captures",),
     ("captures", TARGET),
+    ("fixity", "--payload"),
     ("replay", TARGET, "9999"),
     ("replay", "--uri-hex", TARGET.encode().hex(), "9999"),
     ("body", "1", "--stored"),

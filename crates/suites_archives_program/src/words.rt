@@ -72,8 +72,8 @@ fn content_type_of<'a>(words: &'a [String], case: &'a Case<'_>) -> &'a str {
 /// How few words a command has, itself among them, and how many; nothing where it is no command.
 fn counts_of(command: &str, gives: bool) -> Option<(usize, usize)> {
     match command {
-        "list" | "check" | "rewrite" | "convert" | "fixity" | "pieces" | "summary" => Some((1, 1)),
-        "salvage" => Some((1, 2)),
+        "list" | "check" | "rewrite" | "convert" | "pieces" | "summary" => Some((1, 1)),
+        "fixity" | "salvage" => Some((1, 2)),
         "extract" | "split" | "head" | "block" | "explain" => Some((2, 2)),
         "body" => Some((2, 3)),
         "select" => Some((1, 3)),
@@ -96,6 +96,7 @@ fn ends_in_option(words: &[String]) -> bool {
         ("replay", 4) => matches!(word(words, 3), "--uri-hex" | "--stored"),
         ("captures", 3) => word(words, 2) == "--uri-hex",
         ("body", 3) => word(words, 2) == "--stored",
+        ("fixity", 2) => word(words, 1) == "--payload",
         ("salvage", 2) => word(words, 1) == "--all",
         ("select", 2) => matches!(word(words, 1), "--except" | "--closed"),
         ("select", 3) => word(words, 1) == "--except" && word(words, 2) == "--closed",
@@ -173,7 +174,10 @@ pub(crate) fn command_of<'a>(words: &'a [String], case: &'a Case<'_>) -> Option<
             archive,
             position: word(words, 1),
         },
-        "fixity" => Command::Fixity { archive },
+        "fixity" => Command::Fixity {
+            archive,
+            payload: word(words, 1) == "--payload",
+        },
         "pieces" => Command::Pieces { archive },
         "salvage" => Command::Salvage {
             archive,
