@@ -51,6 +51,8 @@ size_t warc_rt_count(warc_handle *handle);
 size_t warc_rt_row(warc_handle *handle, size_t position, warc_row *row, uint8_t *texts, size_t texts_length,
                    warc_problem *problem);
 uint32_t warc_rt_verdict(warc_handle *handle, size_t position, warc_problem *problem);
+uint32_t warc_rt_stated_verdict(warc_handle *handle, size_t position, warc_problem *problem);
+uint32_t warc_rt_payload_verdict(warc_handle *handle, size_t position, warc_problem *problem);
 size_t warc_rt_fields(const uint8_t *head, size_t head_length, field_lengths *lengths, size_t lengths_length,
                       uint8_t *texts, size_t texts_length, warc_problem *problem);
 size_t warc_rt_http(const uint8_t *block, size_t block_length, http_numbers *http, http_field *fields,
@@ -277,6 +279,20 @@ uint32_t warc_verdict_at(warc_archive *archive, size_t position, warc_problem *p
     if (problem == NULL) problem = &none;
     if (!begin(archive != NULL, problem)) return WARC_UNCHECKED;
     return warc_rt_verdict(&archive->handle, position, problem);
+}
+
+uint32_t warc_stated_verdict_at(warc_archive *archive, size_t position, warc_problem *problem) {
+    warc_problem none;
+    if (problem == NULL) problem = &none;
+    if (!begin(archive != NULL, problem)) return WARC_UNCHECKED;
+    return warc_rt_stated_verdict(&archive->handle, position, problem);
+}
+
+uint32_t warc_payload_verdict_at(warc_archive *archive, size_t position, warc_problem *problem) {
+    warc_problem none;
+    if (problem == NULL) problem = &none;
+    if (!begin(archive != NULL, problem)) return WARC_PAYLOAD_NONE;
+    return warc_rt_payload_verdict(&archive->handle, position, problem);
 }
 
 /* ---- Fields */

@@ -20,10 +20,11 @@
  * length 0 asks for the length alone. Calls that give spans, positions or pieces do the same, in elements. What is in a
  * buffer after what was written stays as it was. With a problem all of it does, but for warc_pieces.
  *
- * PROBLEMS. A call that fails sets `*problem` and answers 0, false or WARC_UNCHECKED; one that succeeds sets it to {0}.
- * A problem has a code, listed below, and warc_problem_text gives its text, as the program `warc` prints it. `problem`
- * may be null. Any call with a `problem` may fail with WARC_BAD_ARGUMENT; what else it may fail with is said at the
- * call. Where it isn't said otherwise, a call that fails leaves the archive and the caller's buffers as they were.
+ * PROBLEMS. A call that fails sets `*problem` and answers 0, false, WARC_UNCHECKED or WARC_PAYLOAD_NONE; one that
+ * succeeds sets it to {0}. A problem has a code, listed below, and warc_problem_text gives its text, as the program
+ * `warc` prints it. `problem` may be null. Any call with a `problem` may fail with WARC_BAD_ARGUMENT; what else it may
+ * fail with is said at the call. Where it isn't said otherwise, a call that fails leaves the archive and the caller's
+ * buffers as they were.
  *
  * POINTERS. A null pointer with length 0 is empty bytes, an empty text or no buffer. A null pointer with another
  * length, a length above PTRDIFF_MAX and a null archive are WARC_BAD_ARGUMENT. Any other pointer must lead to as many
@@ -49,22 +50,24 @@
  *
  * TIME. warc_open reads each byte once, warc_grow each new one, warc_open_front each byte twice, and none hashes
  * anything. warc_pieces hashes nothing either; it reads each byte of damage, and more than once where heads seem to
- * begin in it (docs/SPEED.md). A block is hashed where its verdict is asked for: by warc_verdict_at that of one record,
- * by warc_check and warc_fixity those of all records whose digests can be checked, by warc_replay and warc_body_at
- * those that are joined.
+ * begin in it (docs/SPEED.md). A block is hashed where its verdict is asked for: by warc_verdict_at and
+ * warc_stated_verdict_at that of one record, by warc_check and warc_fixity those of all records whose digests can be
+ * checked, by warc_replay and warc_body_at those that are joined. warc_payload_verdict_at hashes the payload of one
+ * record, and of a revisit also the blocks that its replay joins.
  *
- * PROVED. A call over an archive is one call of a library function whose contract says what is answered and what is put
- * into the buffers: put_row, verdict_at, put_captures, put_replay, put_body, put_list, put_check or grow_lent of the
- * crate warc_lent, or count of warc. Around it the archive is taken out of its handle and put back, and a problem
- * becomes numbers. warc_head_at and warc_block_at take theirs from the row. warc_open, warc_open_front, warc_pieces,
- * warc_field_at, warc_http_at, warc_http_field_at, warc_fixity, warc_problem_text and warc_abi_version call functions
- * over bytes that state their contracts themselves; warc_open answers true only for bytes that spell good records, and
- * otherwise gives their first fault, or says that memory ran out. warc_rewrite, warc_convert, warc_split, warc_select
- * and warc_make are one call of write_lent, split_lent, select_lent or make_lent each, whose contract says what goes to
- * a sink; that a descriptor takes these bytes is write's matter, and warc.c puts the parts together. No contract says
- * that a handle holds the archive that was opened: contracts see no value of a struct that C keeps (docs/PROMISES.md).
- * What this page demands of the caller isn't checked by anybody, and warc.c, which checks pointers, keeps texts and
- * finds fields in what was put, isn't proved.
+ * PROVED. A call over an archive is one call of a library function whose contract says what is answered and what is
+ * put into the buffers: put_row, verdict_at, stated_verdict_at, payload_verdict_at, put_captures, put_replay,
+ * put_body, put_list, put_check or grow_lent of the crate warc_lent, or count of warc. Around it the archive is taken
+ * out of its handle and put back, and a problem becomes numbers. warc_head_at and warc_block_at take theirs from the
+ * row. warc_open, warc_open_front, warc_pieces, warc_field_at, warc_http_at, warc_http_field_at, warc_fixity,
+ * warc_problem_text and warc_abi_version call functions over bytes that state their contracts themselves; warc_open
+ * answers true only for bytes that spell good records, and otherwise gives their first fault, or says that memory ran
+ * out. warc_rewrite, warc_convert, warc_split, warc_select and warc_make are one call of write_lent, split_lent,
+ * select_lent or make_lent each, whose contract says what goes to a sink; that a descriptor takes these bytes is
+ * write's matter, and warc.c puts the parts together. No contract says that a handle holds the archive that was
+ * opened: contracts see no value of a struct that C keeps (docs/PROMISES.md). What this page demands of the caller
+ * isn't checked by anybody, and warc.c, which checks pointers, keeps texts and finds fields in what was put, isn't
+ * proved.
  */
 #ifndef WARC_H
 #define WARC_H
@@ -233,13 +236,38 @@ typedef struct {
 bool warc_head_at(warc_archive *archive, size_t position, warc_span *span, warc_problem *problem);
 bool warc_block_at(warc_archive *archive, size_t position, warc_span *span, warc_problem *problem);
 
-/* How a block compares with the digest that its head states, if that is SHA-1 in base32. Else it is unchecked. */
+/* How a block compares with the digest that its head states. It is unchecked if none can be checked. */
 enum { WARC_GOOD = 0, WARC_BAD = 1, WARC_UNCHECKED = 2 };
 
-/* How the block of the record at a position compares with its digest: WARC_GOOD, WARC_BAD or WARC_UNCHECKED, the last
- * also with a problem: WARC_NO_RECORD, WARC_NO_MEMORY or WARC_CHANGED, which says that the bytes aren't what they were.
- * Reads the head again, and the block too if its digest can be checked. Nothing of it is kept: each call reads anew. */
+/* How the block of the record at a position compares with the digest of the first WARC-Block-Digest of its head:
+ * WARC_GOOD, WARC_BAD or WARC_UNCHECKED, the last also with a problem: WARC_NO_RECORD, WARC_NO_MEMORY or WARC_CHANGED,
+ * which says that the bytes aren't what they were. warc_stated_verdict_at judges MD5, SHA-1, SHA-256, SHA-384 and
+ * SHA-512, in hexadecimal or base32, as warc_fixity does; warc_verdict_at SHA-1 in base32 alone, as warc_check (N4) and
+ * replays (P8) do. Each reads the head again, and the block too if its digest can be checked. Nothing of it is kept:
+ * each call reads anew. */
 uint32_t warc_verdict_at(warc_archive *archive, size_t position, warc_problem *problem);
+uint32_t warc_stated_verdict_at(warc_archive *archive, size_t position, warc_problem *problem);
+
+/* How a payload compares with the digest that the head of its record states. From WARC_PAYLOAD_REVISIT on it is
+ * unchecked, for the first reason that fits. */
+enum {
+    WARC_PAYLOAD_GOOD = 0,
+    WARC_PAYLOAD_BAD = 1,
+    WARC_PAYLOAD_NONE = 2,      /* No digest is stated: the first WARC-Payload-Digest is empty, or there is none. */
+    WARC_PAYLOAD_REVISIT = 3,   /* The revisit gives no body. */
+    WARC_PAYLOAD_REQUEST = 4,   /* The record is a request: its payload isn't judged. */
+    WARC_PAYLOAD_SEGMENT = 5,   /* WARC-Segment-Number isn't empty: the digest is that of the joined payload. */
+    WARC_PAYLOAD_ALGORITHM = 6, /* The value states no digest of an algorithm that is known. */
+    WARC_PAYLOAD_HEAD = 7,      /* The block of an HTTP response begins with no HTTP head. */
+    WARC_PAYLOAD_CODED = 8      /* The digest differs, and a Transfer-Encoding says that the payload is coded. */
+};
+
+/* How the payload of the record at a position compares with the digest of the first WARC-Payload-Digest of its head, as
+ * `warc fixity --payload` judges it: WARC_PAYLOAD_GOOD to WARC_PAYLOAD_CODED; WARC_PAYLOAD_NONE also with a problem:
+ * WARC_NO_RECORD, WARC_NO_MEMORY or WARC_CHANGED. The payload of an HTTP response is what follows its HTTP head, as it
+ * is stored; that of another record its block; that of a revisit what its replay gives. Nothing of it is kept: each
+ * call reads anew, for a revisit what it leads to. */
+uint32_t warc_payload_verdict_at(warc_archive *archive, size_t position, warc_problem *problem);
 
 /* ---- Fields */
 

@@ -1,7 +1,7 @@
 //! report ARCHIVE: what the crate gives of an archive, in the form that tests/callers/compare.py compares.
 use std::error;
 use std::io::{self, Write};
-use zogwedu::{Archive, Body, Error, Headers, Verdict};
+use zogwedu::{Archive, Body, Error, Headers, PayloadVerdict, Verdict};
 
 fn put_text(out: &mut impl Write, title: &str, text: Result<Vec<u8>, Error>) -> io::Result<()> {
     writeln!(out, "== {title}")?;
@@ -31,6 +31,40 @@ fn verdict_text(verdict: Result<Verdict, Error>) -> String {
         Ok(Verdict::Unchecked) => "unchecked".to_string(),
         Err(error) => error.to_string(),
     }
+}
+
+/// The lines of `warc fixity` without ids and digests, made of the verdicts on single records.
+fn put_stated(out: &mut impl Write, archive: &Archive<'_>) -> Result<(), Box<dyn error::Error>> {
+    let verdicts = (0..archive.len()).map(|position| archive.stated_verdict(position));
+    let verdicts = verdicts.collect::<Result<Vec<_>, _>>()?;
+    writeln!(out, "== stated")?;
+    for (position, verdict) in verdicts.iter().enumerate().filter(|(_, verdict)| **verdict != Verdict::Good) {
+        writeln!(out, "{position}\t{}", verdict_text(Ok(*verdict)))?;
+    }
+    let count = |verdict| verdicts.iter().filter(|given| **given == verdict).count();
+    let (good, bad, unchecked) = (count(Verdict::Good), count(Verdict::Bad), count(Verdict::Unchecked));
+    Ok(writeln!(out, "records {} good {good} bad {bad} unchecked {unchecked}", verdicts.len())?)
+}
+
+/// The same of `warc fixity --payload`.
+fn put_payloads(out: &mut impl Write, archive: &Archive<'_>) -> Result<(), Box<dyn error::Error>> {
+    let (mut good, mut bad, mut unchecked) = (0, 0, 0);
+    writeln!(out, "== payloads")?;
+    for position in 0..archive.len() {
+        match archive.payload_verdict(position)? {
+            None => {}
+            Some(PayloadVerdict::Good) => good += 1,
+            Some(PayloadVerdict::Bad) => {
+                bad += 1;
+                writeln!(out, "{position}\tbad\t-")?;
+            }
+            Some(PayloadVerdict::Unchecked(reason)) => {
+                unchecked += 1;
+                writeln!(out, "{position}\tunchecked\t{reason}")?;
+            }
+        }
+    }
+    Ok(writeln!(out, "records {} good {good} bad {bad} unchecked {unchecked}", good + bad + unchecked)?)
 }
 
 fn put_fields(out: &mut impl Write, headers: &Headers) -> io::Result<()> {
@@ -70,6 +104,8 @@ fn report(out: &mut impl Write, archive: &Archive<'_>) -> Result<(), Box<dyn err
     for position in 0..archive.len() {
         writeln!(out, "{position} {}", verdict_text(archive.verdict(position)))?;
     }
+    put_stated(out, archive)?;
+    put_payloads(out, archive)?;
     for record in archive {
         let record = record?;
         writeln!(out, "== body {}", record.position())?;

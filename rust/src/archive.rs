@@ -14,8 +14,59 @@ pub enum Verdict {
     Good,
     /// It has another one.
     Bad,
-    /// The head states none, or one that isn't SHA-1 in base32.
+    /// The head states none that the call judges: [`Archive::verdict`] judges SHA-1 in base32 alone.
     Unchecked,
+}
+
+impl Verdict {
+    fn of(number: u32) -> Self {
+        match number {
+            0 => Self::Good,
+            1 => Self::Bad,
+            _ => Self::Unchecked,
+        }
+    }
+}
+
+/// How a payload compares with the digest that the head of its record states.
+#[derive(Clone, Copy, Debug, PartialEq, Eq, Hash)]
+pub enum PayloadVerdict {
+    /// It has that digest.
+    Good,
+    /// It has another one.
+    Bad,
+    /// It can't be checked, for the first reason that fits.
+    Unchecked(Unjudged),
+}
+
+/// Why a payload is unchecked.
+#[derive(Clone, Copy, Debug, PartialEq, Eq, Hash)]
+pub enum Unjudged {
+    /// The revisit gives no body.
+    Revisit,
+    /// The record is a request.
+    Request,
+    /// The record is a part of one, by its `WARC-Segment-Number`.
+    Segment,
+    /// The value states no digest of an algorithm that is known.
+    Algorithm,
+    /// The block of an HTTP response begins with no HTTP head.
+    Head,
+    /// The digest differs, and a `Transfer-Encoding` says that the payload is coded.
+    Coded,
+}
+
+impl fmt::Display for Unjudged {
+    fn fmt(&self, f: &mut fmt::Formatter<'_>) -> fmt::Result {
+        f.write_str(match self {
+            Self::Revisit => "revisit",
+            Self::Request => "request",
+            Self::Segment => "segment",
+            Self::Algorithm => "algorithm",
+            Self::Head => "head",
+            Self::Coded => "coded",
+        })
+    }
 }
 
 /// A record of an archive.
@@ -303,17 +354,44 @@ impl<'a> Archive<'a> {
     }
 
     /// How the block of the record at a position compares with the digest that its head states. SHA-1 in
-    /// base32 is judged alone, as by [`Archive::check`]; [`Archive::fixity`] judges other digests too. The block is
-    /// hashed for it, each time anew.
+    /// base32 is judged alone, as by [`Archive::check`]; [`Archive::stated_verdict`] and [`Archive::fixity`] judge
+    /// other digests too. The block is hashed for it, each time anew.
     ///
     /// # Errors
     /// [`ErrorKind::NoRecord`]; [`ErrorKind::NoMemory`]; [`ErrorKind::Changed`].
     pub fn verdict(&self, position: usize) -> Result<Verdict, Error> {
-        Ok(match self.handle.borrow_mut().verdict(position)? {
-            0 => Verdict::Good,
-            1 => Verdict::Bad,
-            _ => Verdict::Unchecked,
-        })
+        Ok(Verdict::of(self.handle.borrow_mut().verdict(position)?))
+    }
+
+    /// How the block of the record at a position compares with the digest of the first `WARC-Block-Digest` of its head:
+    /// MD5, SHA-1, SHA-256, SHA-384 or SHA-512, in hexadecimal or base32, as [`Archive::fixity`] judges it. The block
+    /// is hashed for it, each time anew.
+    ///
+    /// # Errors
+    /// [`ErrorKind::NoRecord`]; [`ErrorKind::NoMemory`]; [`ErrorKind::Changed`].
+    pub fn stated_verdict(&self, position: usize) -> Result<Verdict, Error> {
+        Ok(Verdict::of(self.handle.borrow_mut().stated_verdict(position)?))
+    }
+
+    /// How the payload of the record at a position compares with the digest of the first `WARC-Payload-Digest` of its
+    /// head, in the same algorithms; `None` if it states none. The payload of an HTTP response is what follows its HTTP
+    /// head, as it is stored; that of another record its block; that of a revisit what its replay gives. It is what
+    /// `warc fixity --payload` prints. The payload is hashed for it, each time anew.
+    ///
+    /// # Errors
+    /// [`ErrorKind::NoRecord`]; [`ErrorKind::NoMemory`]; [`ErrorKind::Changed`].
+    pub fn payload_verdict(&self, position: usize) -> Result<Option<PayloadVerdict>, Error> {
+        Ok(Some(match self.handle.borrow_mut().payload_verdict(position)? {
+            0 => PayloadVerdict::Good,
+            1 => PayloadVerdict::Bad,
+            3 => PayloadVerdict::Unchecked(Unjudged::Revisit),
+            4 => PayloadVerdict::Unchecked(Unjudged::Request),
+            5 => PayloadVerdict::Unchecked(Unjudged::Segment),
+            6 => PayloadVerdict::Unchecked(Unjudged::Algorithm),
+            7 => PayloadVerdict::Unchecked(Unjudged::Head),
+            8 => PayloadVerdict::Unchecked(Unjudged::Coded),
+            _ => return Ok(None),
+        }))
     }
 
     /// All records, in their order.

@@ -35,7 +35,7 @@ mod pieces;
 mod raw;
 mod writing;
 
-pub use archive::{Archive, Body, Record, Records, Verdict};
+pub use archive::{Archive, Body, PayloadVerdict, Record, Records, Unjudged, Verdict};
 pub use error::{Error, ErrorKind};
 pub use heads::{Fields, Headers, Http};
 pub use pieces::{pieces, Piece};

@@ -90,6 +90,7 @@ struct CDraft {
 }
 
 type Text = unsafe extern "C" fn(*mut CArchive, *mut u8, usize, *mut Problem) -> usize;
+type Judge = unsafe extern "C" fn(*mut CArchive, usize, *mut Problem) -> u32;
 type Write = unsafe extern "C" fn(*const u8, usize, c_int, *mut u64, *mut Problem) -> bool;
 
 extern "C" {
@@ -116,6 +117,8 @@ extern "C" {
         problem: *mut Problem,
     ) -> usize;
     fn warc_verdict_at(archive: *mut CArchive, position: usize, problem: *mut Problem) -> u32;
+    fn warc_stated_verdict_at(archive: *mut CArchive, position: usize, problem: *mut Problem) -> u32;
+    fn warc_payload_verdict_at(archive: *mut CArchive, position: usize, problem: *mut Problem) -> u32;
     fn warc_field_at(
         archive: *mut CArchive,
         position: usize,
@@ -278,12 +281,26 @@ impl<'a> Handle<'a> {
         checked(length, problem)
     }
 
-    /// How a block compares with its digest.
-    pub fn verdict(&mut self, position: usize) -> Result<u32, Problem> {
+    fn judge(&mut self, call: Judge, position: usize) -> Result<u32, Problem> {
         let mut problem = Problem::default();
         // SAFETY: the archive is open.
-        let verdict = unsafe { warc_verdict_at(self.archive, position, &mut problem) };
+        let verdict = unsafe { call(self.archive, position, &mut problem) };
         checked(verdict, problem)
+    }
+
+    /// How a block compares with its digest, if that is SHA-1 in base32.
+    pub fn verdict(&mut self, position: usize) -> Result<u32, Problem> {
+        self.judge(warc_verdict_at, position)
+    }
+
+    /// How a block compares with its digest.
+    pub fn stated_verdict(&mut self, position: usize) -> Result<u32, Problem> {
+        self.judge(warc_stated_verdict_at, position)
+    }
+
+    /// How a payload compares with its digest.
+    pub fn payload_verdict(&mut self, position: usize) -> Result<u32, Problem> {
+        self.judge(warc_payload_verdict_at, position)
     }
 
     /// A field of a record's head, or of the HTTP head of its block. It is the library's until the next call.

@@ -1,6 +1,6 @@
 //! What the crate gives of the examples.
 use std::io::{self, Write};
-use zogwedu::{Archive, Draft, ErrorKind, Verdict};
+use zogwedu::{Archive, Draft, ErrorKind, PayloadVerdict, Unjudged, Verdict};
 
 const CRAWL: &[u8] = include_bytes!("../../examples/crawl.warc");
 const DAMAGED: &[u8] = include_bytes!("../../examples/damaged.warc");
@@ -27,6 +27,49 @@ fn judges_a_block_where_it_is_asked_to() {
     assert_eq!(archive.verdict(13).unwrap_err().to_string(), "E1 NoRecord");
     archive.grow(CRAWL).unwrap();
     assert_eq!((archive.verdict(0), archive.verdict(13)), (Ok(Verdict::Good), Ok(Verdict::Bad)));
+}
+
+/// A record of three bytes with fields of digests, and its place in an archive.
+fn judged(number: usize, kind: &str, fields: &str) -> String {
+    format!(
+        "WARC/1.1\r\nWARC-Type: {kind}\r\nWARC-Record-ID: <urn:uuid:00000000-0000-4000-8000-{number:012}>\r\n\
+         WARC-Date: 2020-01-01T00:00:00Z\r\nWARC-Target-URI: http://a.example/x\r\nContent-Length: 3\r\n\
+         {fields}\r\nabc\r\n\r\n"
+    )
+}
+
+#[test]
+fn judges_digests_in_hexadecimal() {
+    let block = "WARC-Block-Digest: md5:900150983cd24fb0d6963f7d28e17f72\r\n";
+    let bytes = judged(0, "resource", block) + &judged(1, "resource", &block.replace("72", "73"));
+    let archive = Archive::open(bytes.as_bytes()).unwrap();
+    assert_eq!((archive.stated_verdict(0), archive.verdict(0)), (Ok(Verdict::Good), Ok(Verdict::Unchecked)));
+    assert_eq!((archive.stated_verdict(1), archive.verdict(1)), (Ok(Verdict::Bad), Ok(Verdict::Unchecked)));
+    assert_eq!(archive.stated_verdict(2).unwrap_err().kind(), ErrorKind::NoRecord);
+}
+
+#[test]
+fn judges_payloads() {
+    let digest = "WARC-Payload-Digest: md5:900150983cd24fb0d6963f7d28e17f72\r\n";
+    let segment = format!("WARC-Segment-Number: 1\r\n{digest}");
+    let cases = [
+        ("resource", digest, Some(PayloadVerdict::Good)),
+        ("resource", "WARC-Payload-Digest: md5:900150983cd24fb0d6963f7d28e17f73\r\n", Some(PayloadVerdict::Bad)),
+        ("resource", "", None),
+        ("revisit", digest, Some(PayloadVerdict::Unchecked(Unjudged::Revisit))),
+        ("request", digest, Some(PayloadVerdict::Unchecked(Unjudged::Request))),
+        ("resource", &segment, Some(PayloadVerdict::Unchecked(Unjudged::Segment))),
+        ("resource", "WARC-Payload-Digest: crc32:352441c2\r\n", Some(PayloadVerdict::Unchecked(Unjudged::Algorithm))),
+        ("response", digest, Some(PayloadVerdict::Unchecked(Unjudged::Head))),
+    ];
+    let records = cases.iter().enumerate().map(|(number, (kind, fields, _))| judged(number, kind, fields));
+    let bytes: String = records.collect();
+    let archive = Archive::open(bytes.as_bytes()).unwrap();
+    for (position, (_, _, verdict)) in cases.iter().enumerate() {
+        assert_eq!(archive.payload_verdict(position), Ok(*verdict));
+    }
+    assert_eq!(archive.payload_verdict(cases.len()).unwrap_err().kind(), ErrorKind::NoRecord);
+    assert_eq!(Unjudged::Coded.to_string(), "coded");
 }
 
 #[test]

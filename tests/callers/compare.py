@@ -1,7 +1,8 @@
 #!/usr/bin/env python3
-"""Compares what the program, C, Python and Rust give of archives: pieces, list, check, fixity, and each body by
-position and by URI and date. Compares the verdict on each block with the second reading's, and what C, Python and Rust
-give of heads: the program prints neither.
+"""Compares what the program, C, Python and Rust give of archives: pieces, list, check, fixity, the verdicts of fixity
+with and without `--payload` record by record, and each body by position and by URI and date. Compares the verdict on
+each block by SHA-1 in base32 with the second reading's, and what C, Python and Rust give of heads: the program prints
+neither.
 
 Usage: compare.py WARC C_REPORT RUST_REPORT ARCHIVE..
 
@@ -59,6 +60,21 @@ def verdicts_text(path: str) -> bytes:
     return b"".join(b"%d %s\n" % (it.position, it.digest_verdict().encode()) for it in records)
 
 
+def shortened(line: bytes, columns: Tuple[int, ...]) -> bytes:
+    """Some columns of a line of `warc fixity`. Its last column alone may have tabs; the last line has none."""
+    if b"\t" not in line:
+        return line
+    cells = line.split(b"\t", columns[-1] + 1)
+    return b"\t".join(cells[column] for column in columns)
+
+
+def short_fixity(warc: str, path: str, *option: str) -> bytes:
+    """The lines of `warc fixity` without ids and digests."""
+    text = run(warc, "fixity", *option, "--", path)[0]
+    columns = (0, 1, 3) if option else (0, 1)
+    return b"\n".join(shortened(line, columns) for line in text.split(b"\n"))
+
+
 def program_report(warc: str, path: str) -> bytes:
     """The report of an archive, made by the program."""
     pieces = b"== pieces\n" + run(warc, "pieces", "--", path)[0]
@@ -70,7 +86,8 @@ def program_report(warc: str, path: str) -> bytes:
     parts += [b"== fixity\n", run(warc, "fixity", "--", path)[0]]
     with zogwedu.Archive.open(path, mmap=False) as archive:
         targets = [(record.target, record.date) for record in archive]
-    parts += [b"== verdicts\n", verdicts_text(path)]
+    parts += [b"== verdicts\n", verdicts_text(path), b"== stated\n", short_fixity(warc, path)]
+    parts += [b"== payloads\n", short_fixity(warc, path, "--payload")]
     for position, (target, date) in enumerate(targets):
         parts += [f"== body {position}\n".encode(), program_body(warc, "body", path, str(position))]
         if target:

@@ -4,11 +4,14 @@
 Usage: generated.py WARC C_REPORT RUST_REPORT FOLDER
 
 CALLERS_EXAMPLES is the number of archives, 2,000 if it is left out. What compare.py says of one archive is asserted of
-each. The archives have folded and repeated fields, odd names and values, heads of HTTP that are none, codings and
-segments of any kind.
+each. The archives have folded and repeated fields, odd names and values, heads of HTTP that are none, codings,
+segments, and digests of blocks and payloads of any kind.
 """
+import base64
+import hashlib
 import os
 import sys
+from typing import List, Tuple
 
 from hypothesis import HealthCheck, Phase, given, settings, strategies as some
 
@@ -65,6 +68,20 @@ def blocks(draw: some.DrawFn) -> bytes:
 
 
 @some.composite
+def digests(draw: some.DrawFn, block: bytes) -> List[Tuple[str, str]]:
+    """Fields with digests of a block and of its payload: right, wrong, of another part, or of no known algorithm."""
+    parts = (block, block.partition(b"\r\n\r\n")[2], b"abc", b"")
+    fields = []
+    for name in draw(some.lists(some.sampled_from(["Block", "Payload", "payload"]), max_size=3)):
+        algorithm = draw(some.sampled_from(["md5", "sha1", "sha256", "sha384", "sha512"]))
+        digest = hashlib.new(algorithm, draw(some.sampled_from(parts))).digest()
+        text = draw(some.sampled_from([digest.hex(), base64.b32encode(digest).decode(), "", digest.hex()[1:]]))
+        label = draw(some.sampled_from([algorithm, algorithm, algorithm.upper(), "crc32"]))
+        fields.append((f"WARC-{name}-Digest", f"{label}:{text}" if draw(some.integers(0, 5)) else ""))
+    return fields
+
+
+@some.composite
 def records(draw: some.DrawFn, number: int) -> bytes:
     """A record of an archive. It may name an earlier one."""
     block, kind = draw(blocks()), draw(KINDS)
@@ -78,7 +95,11 @@ def records(draw: some.DrawFn, number: int) -> bytes:
     ]
     if draw(some.booleans()):
         front.append(("WARC-Refers-To", f"<urn:uuid:00000000-0000-4000-8000-{draw(some.integers(0, number)):012}>"))
-    fields = front + [("Content-Length", str(len(block)))] + draw(FIELDS)
+    if kind == "revisit" and draw(some.booleans()):
+        front.append(("WARC-Profile", "http://netpreserve.org/warc/1.1/revisit/identical-payload-digest"))
+    if draw(some.integers(0, 9)) == 0:
+        front.append(("WARC-Segment-Number", draw(some.sampled_from(["1", "2", ""]))))
+    fields = front + [("Content-Length", str(len(block)))] + draw(digests(block)) + draw(FIELDS)
     fields = draw(some.permutations(fields))
     text = "".join(f"{name}:{draw(some.sampled_from(['', ' ', '  ']))}{value}\r\n" for name, value in fields)
     version = draw(some.sampled_from(["WARC/1.1", "WARC/1.0"]))

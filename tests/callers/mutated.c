@@ -110,6 +110,21 @@ static void ask_heads(warc_archive *archive, size_t position, const text *of) {
     }
 }
 
+/* Whether a call answers that a position has no record, and this number. */
+static bool is_no_record(uint32_t answer, uint32_t number, const warc_problem *problem) {
+    return answer == number && problem->code == WARC_NO_RECORD;
+}
+
+/* The verdicts on a record. One by SHA-1 in base32 that is good or bad is the same by any digest. */
+static void ask_verdicts(warc_archive *archive, size_t position) {
+    warc_problem problem;
+    uint32_t sha1_alone = warc_verdict_at(archive, position, &problem);
+    if (sha1_alone > WARC_UNCHECKED || problem.code) abort();
+    uint32_t any = warc_stated_verdict_at(archive, position, &problem);
+    if (any > WARC_UNCHECKED || problem.code || (sha1_alone != WARC_UNCHECKED && any != sha1_alone)) abort();
+    if (warc_payload_verdict_at(archive, position, &problem) > WARC_PAYLOAD_CODED || problem.code) abort();
+}
+
 static void ask_record(warc_archive *archive, size_t position, const text *of) {
     static uint8_t texts[65536];
     warc_problem problem;
@@ -119,7 +134,7 @@ static void ask_record(warc_archive *archive, size_t position, const text *of) {
     uint64_t positions[4];
     warc_row_at(archive, position, &row, texts, sizeof texts, &problem);
     if (problem.code) abort();
-    if (warc_verdict_at(archive, position, &problem) > WARC_UNCHECKED || problem.code) abort();
+    ask_verdicts(archive, position);
     if (!warc_head_at(archive, position, &span, &problem) || span.offset + span.length > of->length) abort();
     if (!warc_block_at(archive, position, &span, &problem) || span.offset + span.length > of->length) abort();
     const uint8_t *date = texts + row.type_length, *uri = date + row.date_length + row.id_length;
@@ -147,7 +162,9 @@ static void ask_all(warc_archive *archive, const text *of) {
     if (length == 0 || warc_fixity(archive, out, below(ROOM), &problem) != length) abort();
     warc_row_at(archive, count, NULL, NULL, 0, &problem);
     if (problem.code != WARC_NO_RECORD) abort();
-    if (warc_verdict_at(archive, count, &problem) != WARC_UNCHECKED || problem.code != WARC_NO_RECORD) abort();
+    if (!is_no_record(warc_verdict_at(archive, count, &problem), WARC_UNCHECKED, &problem)) abort();
+    if (!is_no_record(warc_stated_verdict_at(archive, count, &problem), WARC_UNCHECKED, &problem)) abort();
+    if (!is_no_record(warc_payload_verdict_at(archive, count, &problem), WARC_PAYLOAD_NONE, &problem)) abort();
     if (warc_field_at(archive, count, 0, &field, &problem) || problem.code != WARC_NO_RECORD) abort();
     if (warc_http_field_at(archive, count, 0, &field, &problem) || problem.code != WARC_NO_RECORD) abort();
     for (size_t position = 0; position < count && position < 50; position++) ask_record(archive, position, of);
@@ -192,6 +209,8 @@ static void ask_wrongly(void) {
     if (warc_open_front(NULL, &byte, 1, NULL, &problem) || problem.code != WARC_BAD_ARGUMENT) abort();
     if (warc_grow(NULL, NULL, 0, &problem) || problem.code != WARC_BAD_ARGUMENT) abort();
     if (warc_verdict_at(NULL, 0, &problem) != WARC_UNCHECKED || problem.code != WARC_BAD_ARGUMENT) abort();
+    if (warc_stated_verdict_at(NULL, 0, &problem) != WARC_UNCHECKED || problem.code != WARC_BAD_ARGUMENT) abort();
+    if (warc_payload_verdict_at(NULL, 0, &problem) != WARC_PAYLOAD_NONE || problem.code != WARC_BAD_ARGUMENT) abort();
     if (warc_count(NULL) || warc_length(NULL) || warc_problem_text(NULL, NULL, 0)) abort();
     if (warc_list(NULL, NULL, 0, &problem) || problem.code != WARC_BAD_ARGUMENT) abort();
     if (warc_pieces(NULL, 1, NULL, 0, &problem) || problem.code != WARC_BAD_ARGUMENT) abort();

@@ -14,4 +14,5 @@ unset ZOGWEDU_LIBRARY
 python3 -c 'import doctest, sys, zogwedu; sys.exit(doctest.testmod(zogwedu).failed)'
 python3 tests/callers/test_python.py
 python3 tests/callers/test_compressed.py
+python3 tests/callers/test_verdicts.py
 echo "out/python has the package: PYTHONPATH=$PWD/out/python"

@@ -78,6 +78,40 @@ static void print_verdicts(warc_archive *archive) {
     }
 }
 
+/* The lines of `warc fixity` without ids and digests, made of the verdicts on single records. */
+static void print_stated(warc_archive *archive) {
+    static const char *const names[] = {"good", "bad", "unchecked"};
+    size_t counts[3] = {0};
+    printf("== stated\n");
+    for (size_t position = 0; position < warc_count(archive); position++) {
+        warc_problem problem;
+        uint32_t verdict = warc_stated_verdict_at(archive, position, &problem);
+        if (problem.code || verdict > WARC_UNCHECKED) exit(4);
+        counts[verdict]++;
+        if (verdict != WARC_GOOD) printf("%zu\t%s\n", position, names[verdict]);
+    }
+    printf("records %zu good %zu bad %zu unchecked %zu\n", warc_count(archive), counts[0], counts[1], counts[2]);
+}
+
+/* The same of `warc fixity --payload`. */
+static void print_payloads(warc_archive *archive) {
+    static const char *const reasons[] = {"", "-", "", "revisit", "request", "segment", "algorithm", "head", "coded"};
+    size_t good = 0, bad = 0, unchecked = 0;
+    printf("== payloads\n");
+    for (size_t position = 0; position < warc_count(archive); position++) {
+        warc_problem problem;
+        uint32_t verdict = warc_payload_verdict_at(archive, position, &problem);
+        if (problem.code || verdict > WARC_PAYLOAD_CODED) exit(4);
+        if (verdict == WARC_PAYLOAD_NONE) continue;
+        good += verdict == WARC_PAYLOAD_GOOD;
+        bad += verdict == WARC_PAYLOAD_BAD;
+        unchecked += verdict > WARC_PAYLOAD_NONE;
+        if (verdict == WARC_PAYLOAD_GOOD) continue;
+        printf("%zu\t%s\t%s\n", position, verdict == WARC_PAYLOAD_BAD ? "bad" : "unchecked", reasons[verdict]);
+    }
+    printf("records %zu good %zu bad %zu unchecked %zu\n", good + bad + unchecked, good, bad, unchecked);
+}
+
 /* The facts and the bytes of a body, or why there is none. */
 static void print_body(size_t count, const warc_answer *answer, const warc_span *spans, const warc_problem *problem) {
     if (problem->code) {
@@ -181,6 +215,8 @@ int main(int argc, char **argv) {
     print_text("check", warc_check, archive);
     print_text("fixity", warc_fixity, archive);
     print_verdicts(archive);
+    print_stated(archive);
+    print_payloads(archive);
     print_bodies(archive);
     print_heads(archive);
     warc_close(archive);

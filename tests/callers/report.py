@@ -2,7 +2,7 @@
 """report.py ARCHIVE: what the Python package gives of an archive, in the form that compare.py compares."""
 import sys
 from functools import partial
-from typing import Callable
+from typing import Callable, List
 
 import zogwedu
 
@@ -44,6 +44,27 @@ def fixity_text(fixity: zogwedu.Fixity) -> bytes:
     return to_bytes("".join(lines) + counts)
 
 
+def counts_text(records: int, verdicts: List[str]) -> str:
+    """The last line of `warc fixity`, made of verdicts."""
+    counts = " ".join(f"{name} {verdicts.count(name)}" for name in ("good", "bad", "unchecked"))
+    return f"records {records} {counts}\n"
+
+
+def stated_text(archive: zogwedu.Archive) -> bytes:
+    """The lines of `warc fixity` without ids and digests, made of the verdicts on single records."""
+    verdicts = [archive.stated_verdict(position) for position in range(len(archive))]
+    lines = [f"{position}\t{verdict}\n" for position, verdict in enumerate(verdicts) if verdict != "good"]
+    return ("".join(lines) + counts_text(len(verdicts), verdicts)).encode()
+
+
+def payloads_text(archive: zogwedu.Archive) -> bytes:
+    """The same of `warc fixity --payload`."""
+    asked = [(position, archive.payload_verdict(position)) for position in range(len(archive))]
+    judged = [(position, it) for position, it in asked if it is not None]
+    lines = [f"{at}\t{it.verdict}\t{it.reason or '-'}\n" for at, it in judged if it.verdict != "good"]
+    return ("".join(lines) + counts_text(len(judged), [it.verdict for _, it in judged])).encode()
+
+
 def fields_text(headers: zogwedu.Headers) -> bytes:
     """The fields of a head."""
     return to_bytes("".join(f"{name}\t{value}\n" for name, value in headers.fields))
@@ -77,6 +98,7 @@ def report(path: str, **how: bool) -> bytes:
         parts = [pieces.encode(), b"== list\n", archive.list_text(), b"== rows\n", *map(row_text, archive)]
         parts += [b"== check\n", *map(finding_text, archive.check()), b"== fixity\n", fixity_text(archive.fixity())]
         parts += [b"== verdicts\n", *(f"{record.position} {record.verdict}\n".encode() for record in archive)]
+        parts += [b"== stated\n", stated_text(archive), b"== payloads\n", payloads_text(archive)]
         for record in archive:
             parts += [f"== body {record.position}\n".encode(), body_text(record.body)]
             if record.target:

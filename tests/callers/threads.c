@@ -19,6 +19,8 @@ static void ask(warc_archive *archive, size_t position, uint8_t *texts) {
     warc_row_at(archive, position, &row, texts, ROOM, &problem);
     if (problem.code) abort();
     warc_verdict_at(archive, position, NULL);
+    warc_stated_verdict_at(archive, position, NULL);
+    warc_payload_verdict_at(archive, position, NULL);
     warc_body_at(archive, position, NULL, NULL, 0, NULL);
     for (size_t place = 0; warc_field_at(archive, position, place, &field, NULL); place++) continue;
     warc_http_at(archive, position, &http, NULL);

@@ -39,7 +39,7 @@ abbrev pub IsFlagged : Result (Unit {0}) Problem → Bool → Numbers → Number
 IsFlagged (Ok u) answer old new = (answer ≡ true) × (new ≡ old)
 IsFlagged (Err problem) answer old new = (answer ≡ false) × (new ≡ problem_numbers problem)
 
--- a verdict is answered; where there is a problem it is that a block is unchecked
+-- a verdict is answered; where there is a problem it is 2: a block is unchecked, and no digest of a payload is stated
 abbrev pub IsVerdictReported : Result ℕ Problem → ℕ → Numbers → Numbers → Type 0
 IsVerdictReported (Ok verdict) answer old new = (answer ≡ verdict) × (new ≡ old)
 IsVerdictReported (Err problem) answer old new = (answer ≡ 2) × (new ≡ problem_numbers problem)

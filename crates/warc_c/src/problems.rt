@@ -53,7 +53,8 @@ pub(crate) fn done_or_report(answer: Result<(), Problem>, out: &mut Numbers) -> 
     }
 }
 
-/// The verdict that a call answers. A problem is reported, and the answer is 2, which says that a block is unchecked.
+/// The verdict that a call answers. A problem is reported, and the answer is 2, which says of a block that it is
+/// unchecked, and of a payload that no digest of it is stated.
 pub(crate) fn verdict_or_report(answer: Result<u32, Problem>, out: &mut Numbers) -> u32
     ensures { IsVerdictReported answer result out.old out.new }
 {

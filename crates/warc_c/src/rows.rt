@@ -2,7 +2,10 @@
 use crate::problems::{number_or_report, report, verdict_or_report};
 use std::alloc::Global;
 use warc_handle::WarcArchive;
-use warc_lent::{Numbers, Problem, RowNumbers, put_captures, put_row, verdict_at};
+use warc_lent::{
+    Numbers, Problem, RowNumbers, payload_verdict_at, put_captures, put_row, stated_verdict_at,
+    verdict_at,
+};
 
 /// How many records there are; 0 where no archive is open.
 #[unsafe(no_mangle)]
@@ -35,7 +38,8 @@ pub extern "C" fn warc_rt_row(
     number_or_report(answer, problem)
 }
 
-/// How the block of the record at a position compares with its digest: 0 good, 1 bad, 2 unchecked, or 2 and a problem.
+/// How the block of the record at a position compares with its digest, if that is SHA-1 in base32: 0 good, 1 bad, 2
+/// unchecked, or 2 and a problem.
 #[unsafe(no_mangle)]
 pub extern "C" fn warc_rt_verdict(
     alloc: Global,
@@ -47,6 +51,40 @@ pub extern "C" fn warc_rt_verdict(
         return verdict_or_report(Err(Problem::NotOpen), problem);
     };
     let answer = verdict_at(&mut archive, position);
+    handle.put(archive, alloc);
+    verdict_or_report(answer, problem)
+}
+
+/// How the block of the record at a position compares with the digest that its head states: 0 good, 1 bad, 2 unchecked,
+/// or 2 and a problem.
+#[unsafe(no_mangle)]
+pub extern "C" fn warc_rt_stated_verdict(
+    alloc: Global,
+    handle: &mut WarcArchive,
+    position: usize,
+    problem: &mut Numbers,
+) -> u32 {
+    let Some(mut archive) = handle.take(alloc) else {
+        return verdict_or_report(Err(Problem::NotOpen), problem);
+    };
+    let answer = stated_verdict_at(&mut archive, position);
+    handle.put(archive, alloc);
+    verdict_or_report(answer, problem)
+}
+
+/// How the payload of the record at a position compares with the digest that its head states: 0 good, 1 bad, from 3 on
+/// unchecked, by the reason, and 2 if no digest is stated, or 2 and a problem.
+#[unsafe(no_mangle)]
+pub extern "C" fn warc_rt_payload_verdict(
+    alloc: Global,
+    handle: &mut WarcArchive,
+    position: usize,
+    problem: &mut Numbers,
+) -> u32 {
+    let Some(mut archive) = handle.take(alloc) else {
+        return verdict_or_report(Err(Problem::NotOpen), problem);
+    };
+    let answer = payload_verdict_at(&mut archive, position);
     handle.put(archive, alloc);
     verdict_or_report(answer, problem)
 }

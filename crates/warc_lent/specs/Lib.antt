@@ -8,4 +8,5 @@ pub mod Pieces
 pub mod Problems
 pub mod Rows
 pub mod Texts
+pub mod Verdicts
 pub mod Writing

@@ -22,6 +22,8 @@ use Rattle.warc_write.specs.declared.making.MakeFault.{MakeFault}
 use Rattle.warc_write.specs.declared.making.MakeFault.TheVariants as makes
 use Rattle.warc.specs.declared.fault.BodyFault.{BodyFault}
 use Rattle.warc.specs.declared.fault.BodyFault.TheVariants as bodies
+use Rattle.warc.specs.declared.fault.TakeFault.{TakeFault}
+use Rattle.warc.specs.declared.fault.TakeFault.TheVariants as takes
 use Rattle.warc_lent.specs.declared.problem.Numbers.{Numbers}
 use Rattle.warc_lent.specs.declared.problem.Problem.{Problem}
 use Rattle.warc_lent.specs.declared.problem.Problem.TheVariants as problems
@@ -126,6 +128,11 @@ abbrev pub problem_of_body : BodyFault → Problem
 problem_of_body bodies.NoRecord = problems.NoRecord
 problem_of_body bodies.NoCapture = problems.NoCapture
 problem_of_body (bodies.Replay fault) = problem_of_replay fault
+
+abbrev pub problem_of_take : TakeFault → Problem
+problem_of_take takes.NoRecord = problems.NoRecord
+problem_of_take takes.Read = problems.Changed
+problem_of_take takes.Memory = problems.Memory
 
 -- what a source's failures go by: bytes that changed are a failed read, and no other problem is one
 abbrev pub read_failure_of : Problem → Result (Unit {0}) OutFault

@@ -5,10 +5,9 @@ use Rattle.warc_value.specs.declared.hash.Verdict.TheVariants.{Good, Bad, Unchec
 use Rattle.warc_frame.specs.Count.{capped}
 use Rattle.warc_reading.specs.Row.{Row}
 use Rattle.warc.specs.declared.fault.TakeFault.{TakeFault}
-use Rattle.warc.specs.declared.fault.TakeFault.TheVariants.{NoRecord, Read, Memory}
 use Rattle.warc_lent.specs.Buffers.{HoldsFront, KeepsAfter}
+use Rattle.warc_lent.specs.Problems.{problem_of_take}
 use Rattle.warc_lent.specs.declared.problem.Problem.{Problem}
-use Rattle.warc_lent.specs.declared.problem.Problem.TheVariants as problems
 use Rattle.warc_lent.specs.declared.rows.RowNumbers.{RowNumbers}
 
 abbrev pub verdict_number : Verdict → ℕ
@@ -19,9 +18,7 @@ verdict_number Unchecked = 2
 -- the number of the verdict that is given, or the problem
 abbrev pub verdict_answer : Result Verdict TakeFault → Result ℕ Problem
 verdict_answer (Ok verdict) = Ok (verdict_number verdict)
-verdict_answer (Err NoRecord) = Err problems.NoRecord
-verdict_answer (Err Read) = Err problems.Changed
-verdict_answer (Err Memory) = Err problems.Memory
+verdict_answer (Err fault) = Err (problem_of_take fault)
 
 -- 1 for what is so
 abbrev pub flag_of : Bool → ℕ

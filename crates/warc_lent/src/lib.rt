@@ -12,6 +12,7 @@ mod pieces;
 mod problem;
 mod rows;
 mod texts;
+mod verdicts;
 mod writing;
 
 pub use bodies::{AnswerNumbers, SpanNumbers, put_body, put_replay, status_number};
@@ -29,4 +30,5 @@ pub use texts::{
     check_text, findings_text, fixity_text, list_text, problem_text, put_check, put_findings,
     put_fixity, put_list, put_problem,
 };
+pub use verdicts::{payload_verdict_at, stated_verdict_at};
 pub use writing::{make_lent, select_closed_lent, select_lent, split_lent, write_lent};

@@ -1,11 +1,11 @@
 //! What goes wrong, as a value, as numbers and as a text.
 ghost use Rattle.std.specs.Prelude.{◌≡◌, IfSome, Some};
 ghost use Rattle.std.specs.Bool.{OnTrue};
-ghost use Rattle.warc_lent.specs.Problems.{fault_numbers, field_number, gap_numbers, kind_numbers, made_code, problem_numbers, problem_of_body, problem_of_out, problem_of_replay, problem_text, reason_numbers, unfound_code};
+ghost use Rattle.warc_lent.specs.Problems.{fault_numbers, field_number, gap_numbers, kind_numbers, made_code, problem_numbers, problem_of_body, problem_of_out, problem_of_replay, problem_of_take, problem_text, reason_numbers, unfound_code};
 
 use std::fmt;
 use thiserror::Error;
-use warc::BodyFault;
+use warc::{BodyFault, TakeFault};
 use warc_answer::{Reason, ReplayFault};
 use warc_frame::{Fault, FaultKind, Mandatory, OutFault};
 use warc_index::Unfound;
@@ -368,6 +368,17 @@ impl Problem {
             BodyFault::NoRecord => Problem::NoRecord,
             BodyFault::NoCapture => Problem::NoCapture,
             BodyFault::Replay(fault) => Problem::of_replay(fault),
+        }
+    }
+
+    /// Why a record isn't given.
+    pub fn of_take(fault: TakeFault) -> Problem
+        ensures { result ≡ problem_of_take fault }
+    {
+        match fault {
+            TakeFault::NoRecord => Problem::NoRecord,
+            TakeFault::Read => Problem::Changed,
+            TakeFault::Memory => Problem::Memory,
         }
     }
 }

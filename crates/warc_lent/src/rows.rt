@@ -11,7 +11,7 @@ ghost use Rattle.warc_lent.specs.Rows.{IsRowPut, flag_of, row_numbers, row_texts
 use crate::buffers::put_text_at;
 use crate::problem::Problem;
 use std::alloc::Allocator;
-use warc::{Archive, TakeFault};
+use warc::Archive;
 use warc_frame::Source;
 use warc_reading::Row;
 use warc_value::Verdict;
@@ -130,8 +130,9 @@ pub fn put_row<S: Source, A: Allocator>(
     }
 }
 
-/// How the block of the record at a position compares with its digest, as a number. The head is read again, and the
-/// block too if a digest of it can be checked. `Changed`: the bytes are no longer what they were.
+/// How the block of the record at a position compares with its digest, as a number, if that is SHA-1 in base32. The
+/// head is read again, and the block too if a digest of it can be checked. `Changed`: the bytes are no longer what they
+/// were.
 pub fn verdict_at<S: Source, A: Allocator + Copy>(
     archive: &mut Archive<S, A>,
     position: usize,
@@ -145,8 +146,6 @@ pub fn verdict_at<S: Source, A: Allocator + Copy>(
 {
     match archive.verdict(position) {
         Ok(verdict) => Ok(verdict_number(verdict)),
-        Err(TakeFault::NoRecord) => Err(Problem::NoRecord),
-        Err(TakeFault::Read) => Err(Problem::Changed),
-        Err(TakeFault::Memory) => Err(Problem::Memory),
+        Err(fault) => Err(Problem::of_take(fault)),
     }
 }

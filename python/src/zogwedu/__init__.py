@@ -31,9 +31,9 @@ A read of a mapped file that fails kills the process by SIGBUS: where the file b
 network fails. `Archive.open(path, mmap=False)` reads the file into memory.
 
 `Archive` opens, lists, checks, replays and writes; `Record` is one of its records, with `Headers` and `Http`; `Body` is
-what a replay gives; `make` writes a new record. `pieces` gives the runs of good records of a damaged file, and the
-damage between them, each a `Piece`; `salvage` writes all good records, and says by `Salvaged` what was left out. The
-exceptions are all a `WarcError`:
+what a replay gives; `PayloadVerdict` says how a payload compares with its digest; `make` writes a new record. `pieces`
+gives the runs of good records of a damaged file, and the damage between them, each a `Piece`; `salvage` writes all good
+records, and says by `Salvaged` what was left out. The exceptions are all a `WarcError`:
 
 - `Refused`: the archive is refused, F1 to F14 at an offset.
 - `CompressedError`: the file is compressed, and damaged or torn at the offset of a member.
@@ -46,7 +46,7 @@ exceptions are all a `WarcError`:
 What is proved is the library below this package. This package, the interpreter, the decompression of files and the
 undoing of codings (`decoded=True`) are not.
 """
-from ._archive import Archive, Body, Finding, Fixity, Record, UnfitBlock
+from ._archive import Archive, Body, Finding, Fixity, PayloadVerdict, Record, UnfitBlock
 from ._heads import Headers, Http
 from ._pieces import Piece, Salvaged, pieces, salvage
 from ._problems import (
@@ -77,6 +77,7 @@ __all__ = [
     "NoBody",
     "NoRecord",
     "NotMade",
+    "PayloadVerdict",
     "Piece",
     "Record",
     "Refused",

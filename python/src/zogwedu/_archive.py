@@ -23,6 +23,9 @@ else:
 Decoding = Union[bool, Literal["transfer"]]
 
 VERDICTS = ("good", "bad", "unchecked")
+# The reasons why a payload is unchecked, by their numbers in warc.h, and the number before them.
+NO_DIGEST = 2
+REASONS = ("revisit", "request", "segment", "algorithm", "head", "coded")
 
 
 class Finding(NamedTuple):
@@ -53,6 +56,20 @@ class Fixity(NamedTuple):
     bad: int
     unchecked: int
     blocks: List[UnfitBlock]
+
+
+class PayloadVerdict(NamedTuple):
+    """How a payload compares with the digest that its record states: "good", "bad" or "unchecked".
+
+    `reason` says why it is unchecked, and is None otherwise. It is the first of these that fits: "revisit", the revisit
+    gives no body; "request", the record is a request; "segment", the record is a part of one, by its
+    `WARC-Segment-Number`; "algorithm", the value states no digest of an algorithm that is known; "head", the block of
+    an HTTP response begins with no HTTP head; "coded", the digest differs, and a `Transfer-Encoding` says that the
+    payload is coded.
+    """
+
+    verdict: str
+    reason: Optional[str]
 
 
 class Body:
@@ -150,8 +167,8 @@ class Record:
     def verdict(self) -> str:
         """How its block compares with the digest that its head states: "good", "bad" or "unchecked".
 
-        SHA-1 in base32 is judged alone; `Archive.fixity` judges other digests too. The block is hashed when this is
-        read for the first time; the answer is kept.
+        SHA-1 in base32 is judged alone; `Archive.stated_verdict` and `Archive.fixity` judge other digests too. The
+        block is hashed when this is read for the first time; the answer is kept.
         """
         if self._verdict is None:
             self._verdict = VERDICTS[self._archive._use().verdict(self.position)]
@@ -367,6 +384,30 @@ class Archive(Records):
     def captures(self, uri: Text) -> List[Record]:
         """The captures of a URI: responses, resources and revisits, by date, then by position."""
         return [self[position] for position in self._use().captures(bytes_of(uri))]
+
+    def stated_verdict(self, position: int) -> str:
+        """How the block of a record compares with the digest that its head states: "good", "bad" or "unchecked".
+
+        The digest is that of the first `WARC-Block-Digest`. As `Archive.fixity` does, this judges MD5, SHA-1, SHA-256,
+        SHA-384 and SHA-512, in hexadecimal or base32; `Record.verdict` judges SHA-1 in base32 alone. The block is
+        hashed each time. Raises NoRecord if the position isn't that of a record, as one below 0, and Changed.
+        """
+        return VERDICTS[self._use().stated_verdict(index(position))]
+
+    def payload_verdict(self, position: int) -> Optional[PayloadVerdict]:
+        """How the payload of a record compares with the digest that its head states; None if it states none.
+
+        The digest is that of the first `WARC-Payload-Digest`, in the algorithms of `stated_verdict`. The payload of an
+        HTTP response is what follows its HTTP head, as it is stored; that of another record its block; that of a
+        revisit what its replay gives. It is what `warc fixity --payload` prints. The payload is hashed each time.
+        Raises NoRecord if the position isn't that of a record, as one below 0, and Changed.
+        """
+        number = self._use().payload_verdict(index(position))
+        if number == NO_DIGEST:
+            return None
+        if number < NO_DIGEST:
+            return PayloadVerdict(VERDICTS[number], None)
+        return PayloadVerdict("unchecked", REASONS[number - NO_DIGEST - 1])
 
     def check(self) -> List[Finding]:
         """What is wrong with records that can be read."""

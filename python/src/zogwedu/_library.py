@@ -109,6 +109,8 @@ def _calls() -> Any:
         "length": (SIZE, [POINTER]),
         "row_at": (SIZE, [POINTER, SIZE, c.POINTER(Row), POINTER, SIZE, problem]),
         "verdict_at": (U32, [POINTER, SIZE, problem]),
+        "stated_verdict_at": (U32, [POINTER, SIZE, problem]),
+        "payload_verdict_at": (U32, [POINTER, SIZE, problem]),
         "field_at": (c.c_bool, [POINTER, SIZE, SIZE, c.POINTER(CField), problem]),
         "http_at": (c.c_bool, [POINTER, SIZE, c.POINTER(CHttp), problem]),
         "http_field_at": (c.c_bool, [POINTER, SIZE, SIZE, c.POINTER(CField), problem]),
@@ -302,14 +304,29 @@ class Opened:
             begin += size
         return row, texts
 
-    def verdict(self, position: int) -> int:
-        """How the block of a record compares with its digest: 0 good, 1 bad, 2 unchecked."""
+    def _verdict(self, call: Any, position: int) -> int:
+        """The verdict that a call gives on a record. No record has a position that a size_t doesn't hold."""
         problem = Problem()
         with self.lock:
-            verdict = int(lib.warc_verdict_at(self._open(), position, c.byref(problem)))
+            archive = self._open()
+            if not 0 <= position < 1 << 64:
+                raise NoRecord("E1 NoRecord", NO_RECORD)
+            verdict = int(call(archive, position, c.byref(problem)))
         if problem.code:
             raise error_of(problem)
         return verdict
+
+    def verdict(self, position: int) -> int:
+        """How the block of a record compares with its digest: 0 good, 1 bad, 2 unchecked."""
+        return self._verdict(lib.warc_verdict_at, position)
+
+    def stated_verdict(self, position: int) -> int:
+        """The same for a digest of any algorithm that is known."""
+        return self._verdict(lib.warc_stated_verdict_at, position)
+
+    def payload_verdict(self, position: int) -> int:
+        """How the payload of a record compares with its digest: 0 good, 1 bad, 2 none is stated, then reasons."""
+        return self._verdict(lib.warc_payload_verdict_at, position)
 
     def _fields(self, call: Any, position: int) -> Iterator[Field]:
         """The fields that a call gives. The caller holds the lock."""
