@@ -14,7 +14,7 @@ from .disk import Stamp, is_on_local_disk
 from .states import READ, as_list
 from .texts import Stored, Trouble, say, shown, stored_path
 
-VERSION = 3
+VERSION = 4
 MANY_FILES = 100
 CACHE_KIB = 1_000_000
 # How long a question waits for the end of a transaction, and a run for a reader before it says that it waits.
@@ -29,16 +29,17 @@ READER_CACHE_KIB = 8_000
 TABLES = {
     "settings": "name TEXT PRIMARY KEY, value TEXT",
     "runs": "run BIGINT PRIMARY KEY, began TEXT, ended TEXT, scope TEXT, attempts BIGINT, hosts BIGINT,"
-    " files_read BIGINT, seconds DOUBLE PRECISION, good BIGINT, unchecked BIGINT, bad BIGINT, no_bytes BIGINT",
+    " files_read BIGINT, seconds DOUBLE PRECISION, good BIGINT, unchecked BIGINT, bad BIGINT, no_bytes BIGINT,"
+    " payloads_good BIGINT, payloads_unchecked BIGINT, payloads_bad BIGINT",
     "files": "file BIGINT PRIMARY KEY, path TEXT UNIQUE, size BIGINT, modified BIGINT, state TEXT, detail TEXT,"
     " records BIGINT, run BIGINT, changed BIGINT, inode BIGINT, sha256 TEXT",
     "readings": "file BIGINT PRIMARY KEY, run BIGINT, read_on TEXT, size BIGINT, modified BIGINT, changed BIGINT,"
     " inode BIGINT, records BIGINT, good BIGINT, unchecked BIGINT, bad BIGINT, no_bytes BIGINT, bytes BIGINT,"
-    " damaged BIGINT",
+    " damaged BIGINT, payloads_good BIGINT, payloads_unchecked BIGINT, payloads_bad BIGINT",
     "checks": "run BIGINT, file BIGINT, size BIGINT, modified BIGINT, state TEXT, detail TEXT, host TEXT,"
     " seconds DOUBLE PRECISION, list_status BIGINT, fixity_status BIGINT, check_status BIGINT,"
     " summary_status BIGINT, captures_status BIGINT, sha256 TEXT, good_records BIGINT, good_bytes BIGINT,"
-    " damages BIGINT, damaged BIGINT, PRIMARY KEY (run, file)",
+    " damages BIGINT, damaged BIGINT, payloads_status BIGINT, PRIMARY KEY (run, file)",
     "counts": "run BIGINT, file BIGINT, name TEXT, value TEXT, PRIMARY KEY (run, file, name)",
     "changes": "run BIGINT, file BIGINT, change TEXT, state_before TEXT, state_after TEXT, path_before TEXT,"
     " PRIMARY KEY (run, file)",
@@ -47,11 +48,13 @@ TABLES = {
     "captures": "file BIGINT, position BIGINT, date TEXT, instant TEXT, kind TEXT, given BIGINT, status BIGINT,"
     " media TEXT, length BIGINT, reason TEXT, target TEXT, PRIMARY KEY (file, position)",
     "digests": "file BIGINT, position BIGINT, verdict TEXT, id TEXT, digest TEXT, PRIMARY KEY (file, position)",
+    "payloads": "file BIGINT, position BIGINT, verdict TEXT, id TEXT, reason TEXT, digest TEXT,"
+    " PRIMARY KEY (file, position)",
     "findings": "file BIGINT, line BIGINT, position BIGINT, finding TEXT, field TEXT, PRIMARY KEY (file, line)",
     "years": "file BIGINT, year TEXT, kind TEXT, records BIGINT, bytes BIGINT, PRIMARY KEY (file, year, kind)",
     "hosts": "file BIGINT, host TEXT, captures BIGINT, bytes BIGINT, PRIMARY KEY (file, host)",
 }
-OF_A_FILE = ("records", "captures", "digests", "findings", "years", "hosts")
+OF_A_FILE = ("records", "captures", "digests", "payloads", "findings", "years", "hosts")
 INDEXES = (
     "captures_by_target ON captures (target, instant)",
     "records_by_id ON records (lower(trim(id, '<>')))",
@@ -82,6 +85,16 @@ TO_VERSION_3 = (
         for name in ("good_records", "good_bytes", "damages", "damaged")
     ),
     "UPDATE files SET changed = NULL WHERE state = 'refused'",
+)
+# From one of version 3, which knew nothing of payloads: those of a file are known once it is read again.
+COUNTS_OF_PAYLOADS = ("payloads_good", "payloads_unchecked", "payloads_bad")
+TO_VERSION_4 = (
+    *(
+        "ALTER TABLE %s ADD COLUMN %s BIGINT" % (table, it)
+        for table in ("runs", "readings")
+        for it in COUNTS_OF_PAYLOADS
+    ),
+    "ALTER TABLE checks ADD COLUMN payloads_status BIGINT",
 )
 
 
@@ -205,9 +218,9 @@ class Catalogue:
         """Changes the tables of an older catalogue."""
         is_there = self.one("SELECT count(*) FROM sqlite_master WHERE name = 'files'")[0]
         version = self.one("PRAGMA user_version")[0] if is_there else VERSION
-        steps = [*(TO_VERSION_2 if version < 2 else ()), *(TO_VERSION_3 if version < 3 else ())]
-        for statement in steps:
-            self.base.execute(statement)
+        for later, steps in ((2, TO_VERSION_2), (3, TO_VERSION_3), (4, TO_VERSION_4)):
+            for statement in steps if version < later else ():
+                self.base.execute(statement)
 
     def make_indexes(self) -> None:
         with self.transaction():

@@ -19,8 +19,25 @@ from .states import READ
 from .texts import counted
 from .unpack import PIECE, Damaged, pieces_of, unpacked
 
-COMMANDS = ("list", "fixity", "check", "summary", "captures")
-DONE = {"list": (0,), "fixity": (0, 1, 4), "check": (0, 1), "summary": (0,), "captures": (0, 1)}
+# The words of each command, by the name of what it writes, and the statuses with which it is done.
+COMMANDS = {
+    "list": ("list",),
+    "fixity": ("fixity",),
+    "check": ("check",),
+    "summary": ("summary",),
+    "captures": ("captures",),
+    "payloads": ("fixity", "--payload"),
+}
+DONE = {
+    "list": (0,),
+    "fixity": (0, 1, 4),
+    "check": (0, 1),
+    "summary": (0,),
+    "captures": (0, 1),
+    "payloads": (0, 1, 4),
+}
+# These read at any offset, and so no pipe.
+SEEKING = ("captures", "payloads")
 NO_CAPTURES = "P1 NoCapture"
 # The digest of no bytes, which wget states in each revisit, though the revisit has a block.
 OF_NO_BYTES = b"sha1:3I42H3S6NNFQ2MSVX7XZKYAYSCX5QBYJ"
@@ -117,6 +134,11 @@ def lines_of(folder: str, command: str) -> Iterator[bytes]:
                 yield line[:-1]
 
 
+def is_of_bad_payload(line: bytes) -> bool:
+    """Whether a line of `fixity --payload` is that of a payload with another digest."""
+    return line.split(b"\t", 2)[1:2] == [b"bad"]
+
+
 def summary_of(folder: str) -> Dict[str, str]:
     """The lines of `summary`: values by their names."""
     pairs = (line.decode("utf-8", "replace").split("\t", 1) for line in lines_of(folder, "summary"))
@@ -205,12 +227,12 @@ class Job:
         return "refused", words and "; of the good records: " + words
 
     def run_commands(self, source: Source) -> Tuple[str, str]:
-        """Runs the commands, up to one that fails. A pipe isn't read for the captures, which need any offset."""
-        for command in COMMANDS:
-            if command == "captures" and source.seekable is None:
-                break
+        """Runs the commands, up to one that fails. A pipe is read for those alone that read in order."""
+        for command, words in COMMANDS.items():
+            if command in SEEKING and source.seekable is None:
+                continue
             with open(os.path.join(self.folder, command), "wb") as out:
-                status, message = source.run([self.settings.warc, command, "-"], out)
+                status, message = source.run([self.settings.warc, *words, "-"], out)
             self.outcome.statuses[command] = status
             if status == 2:
                 return "refused", message
@@ -222,20 +244,23 @@ class Job:
     def verdict(self, source: Source) -> Tuple[str, str]:
         """The state of a file that could be read, and why it isn't better."""
         bad, unchecked, empty = self.blocks()
+        payloads = sum(is_of_bad_payload(line) for line in lines_of(self.folder, "payloads"))
         self.outcome.no_bytes = len(empty)
         ignored = {b"%d N4" % position for position in empty}
         findings = sum(line not in ignored for line in lines_of(self.folder, "check"))
         # Revisits with such a digest are counted apart: they are no damage.
         where = temporary_folder(self.settings.temporary)
-        words = {
-            "bad": bad and counted(bad, "block doesn't have its digest", "blocks don't have their digests"),
-            "unchecked": unchecked and counted(unchecked, "block") + " can't be checked",
-            "findings": findings and counted(findings, "finding"),
-            "no-room": source.seekable is None and "no room to unpack it in " + where,
-            "good": empty and counted(len(empty), "revisit") + " with the digest of no bytes",
-        }
-        state = next((state for state in ("no-room", "bad", "unchecked", "findings") if words[state]), "good")
-        return state, "; ".join(str(word) for word in words.values() if word)
+        about = (
+            ("bad", bad and counted(bad, "block doesn't have its digest", "blocks don't have their digests")),
+            ("bad", payloads and counted(payloads, "payload doesn't have its digest", "payloads don't have theirs")),
+            ("unchecked", unchecked and counted(unchecked, "block") + " can't be checked"),
+            ("findings", findings and counted(findings, "finding")),
+            ("no-room", source.seekable is None and "no room to unpack it in " + where),
+            ("good", empty and counted(len(empty), "revisit") + " with the digest of no bytes"),
+        )
+        found = {state for state, words in about if words}
+        state = next((state for state in ("no-room", "bad", "unchecked", "findings") if state in found), "good")
+        return state, "; ".join(str(words) for _, words in about if words)
 
     def blocks(self) -> Tuple[int, int, Set[int]]:
         """How many blocks are bad and can't be checked, and the positions of revisits with the digest of no bytes."""

@@ -52,6 +52,26 @@ class DigestRow(NamedTuple):
     digest: Optional[Stored]
 
 
+class PayloadRow(NamedTuple):
+    """A line of `fixity --payload`."""
+
+    file: int
+    position: int
+    verdict: Stored
+    name: Stored
+    reason: Optional[Stored]
+    digest: Stored
+
+
+class Payloads(NamedTuple):
+    """How many payloads have their digests, can't be checked and don't have them, as the last line of `fixity
+    --payload` says. Payloads of requests are among those that can't be checked."""
+
+    good: int
+    unchecked: int
+    bad: int
+
+
 class FindingRow(NamedTuple):
     """A line of `check`."""
 
@@ -121,6 +141,34 @@ def digest_rows(file: int, folder: str) -> Iterator[DigestRow]:
         if b"\t" in line:
             position, verdict, name, digest = line.split(b"\t", 3)
             yield DigestRow(file, int(position), decoded(verdict), decoded(name), blank(digest))
+
+
+def payload_columns(line: bytes) -> List[bytes]:
+    """The columns of a line of `fixity --payload`. A digest may hold tabs."""
+    return line.split(b"\t", 4)
+
+
+def payload_rows(file: int, folder: str) -> Iterator[PayloadRow]:
+    """The rows of `fixity --payload`, but for requests, whose payloads are never judged."""
+    for line in lines_of(folder, "payloads"):
+        if b"\t" in line:
+            position, verdict, name, reason, digest = payload_columns(line)
+            if reason != b"request":
+                yield PayloadRow(file, int(position), decoded(verdict), decoded(name), blank(reason), decoded(digest))
+
+
+def payloads_of(folder: str) -> Payloads:
+    """What the last line of `fixity --payload` counts. A ValueError where the lines before it aren't as many."""
+    last, lines = b"", -1
+    for last in lines_of(folder, "payloads"):
+        lines += 1
+    names = last.split(b" ")
+    if names[::2] != [b"records", b"good", b"bad", b"unchecked"] or b"\t" in last:
+        raise ValueError("no counts of payloads")
+    records, good, bad, unchecked = map(int, names[1::2])
+    if lines != bad + unchecked or records != good + bad + unchecked:
+        raise ValueError("%d payloads aren't good, and their counts are %r" % (lines, last))
+    return Payloads(good, unchecked, bad)
 
 
 def finding_rows(file: int, folder: str) -> Iterator[FindingRow]:

@@ -77,6 +77,26 @@ def fixity_section(catalogue: Catalogue) -> str:
     return section("Fixity from run to run", note, table(heads, rows, "No run yet."))
 
 
+def payload_section(catalogue: Catalogue) -> str:
+    """The digests of payloads of the whole collection after each run that knew of them."""
+    query = (
+        "SELECT run, began, payloads_good, payloads_unchecked, payloads_bad FROM runs"
+        " WHERE payloads_good IS NOT NULL ORDER BY run DESC LIMIT %d" % MOST_RUNS
+    )
+    rows = []
+    for run, began, *counts in catalogue.rows(query):
+        parts = list(zip(("var(--good)", "var(--blank)", "var(--bad)"), counts))
+        numbers = [grouped(count) for count in counts]
+        numbers[2] = '<b style="color:var(--bad)">%s</b>' % numbers[2] if counts[2] else numbers[2]
+        rows.append((str(run), plain_time(began), "<td class=wide>%s</td>" % bar(parts), *numbers))
+    note = (
+        "Payload digests of all files after each run, of the records that state one: good, not checkable, as each of a"
+        " request is, and bad. Those of a file that was read by an earlier version are counted once it is read again."
+    )
+    heads = ("Run", "Began (UTC)", "Payloads", "#Good", "#Not checkable", "#Bad")
+    return section("Payloads from run to run", note, table(heads, rows, "No run yet."))
+
+
 def records_by_year(catalogue: Catalogue) -> Counter[Tuple[str, str]]:
     counts: Counter[Tuple[str, str]] = collections.Counter()
     query = (
@@ -205,6 +225,7 @@ def report_text(catalogue: Catalogue) -> str:
         state_section(states),
         look_section(catalogue),
         fixity_section(catalogue),
+        payload_section(catalogue),
         change_section(catalogue, run),
         year_section(catalogue),
         host_section(catalogue),

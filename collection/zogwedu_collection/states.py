@@ -5,7 +5,7 @@ STATES = {
     "good": "nothing was found",
     "findings": "can be read; check found something",
     "unchecked": "can be read; some blocks can't be checked",
-    "bad": "a block doesn't have its digest",
+    "bad": "a block or a payload doesn't have its digest",
     "rotten": "other bytes than before, with the same size and time",
     "refused": "damaged: no archive as a whole",
     "gunzip": "the compressed file is damaged",

@@ -13,7 +13,7 @@ from .catalogue import OF_A_FILE, Catalogue
 from .disk import Stamp
 from .job import COMMANDS, Outcome, read_outcome, summary_of
 from .jobs import listed_jobs
-from .lines import Sums, capture_rows, digest_rows, finding_rows, record_rows
+from .lines import Sums, capture_rows, digest_rows, finding_rows, payload_rows, payloads_of, record_rows
 from .moves import settle_moves
 from .states import READ
 from .texts import decoded, now, say, shown, stored_path
@@ -100,14 +100,15 @@ def close_run(catalogue: Catalogue, run: int) -> None:
         settle_moves(catalogue, run)
         totals = catalogue.one(
             "SELECT coalesce(sum(good), 0), coalesce(sum(unchecked), 0), coalesce(sum(bad), 0),"
-            " coalesce(sum(no_bytes), 0) FROM readings JOIN files USING (file) WHERE state <> 'gone'"
+            " coalesce(sum(no_bytes), 0), coalesce(sum(payloads_good), 0), coalesce(sum(payloads_unchecked), 0),"
+            " coalesce(sum(payloads_bad), 0) FROM readings JOIN files USING (file) WHERE state <> 'gone'"
         )
         work = catalogue.one(
             "SELECT count(DISTINCT host), count(*), coalesce(sum(seconds), 0) FROM checks WHERE run = ?", (run,)
         )
         catalogue.base.execute(
             "UPDATE runs SET ended = ?, hosts = ?, files_read = ?, seconds = ?, good = ?, unchecked = ?, bad = ?,"
-            " no_bytes = ? WHERE run = ?",
+            " no_bytes = ?, payloads_good = ?, payloads_unchecked = ?, payloads_bad = ? WHERE run = ?",
             (now(), *work, *totals, run),
         )
 
@@ -181,8 +182,8 @@ def load_job(catalogue: Catalogue, run: int, folder: str) -> int:
     pieces = (None,) * 4 if outcome.pieces is None else dataclasses.astuple(outcome.pieces)
     catalogue.base.execute(
         "INSERT OR REPLACE INTO checks (run, file, size, modified, state, detail, host, seconds, list_status,"
-        " fixity_status, check_status, summary_status, captures_status, sha256, good_records, good_bytes, damages,"
-        " damaged) VALUES (?, ?, ?, ?, ?, ?, ?, ?, ?, ?, ?, ?, ?, ?, ?, ?, ?, ?)",
+        " fixity_status, check_status, summary_status, captures_status, payloads_status, sha256, good_records,"
+        " good_bytes, damages, damaged) VALUES (?, ?, ?, ?, ?, ?, ?, ?, ?, ?, ?, ?, ?, ?, ?, ?, ?, ?, ?)",
         (run, file, *size_and_time, outcome.state, outcome.detail, outcome.host, outcome.seconds, *statuses)
         + (outcome.sha256, *pieces),
     )
@@ -252,6 +253,7 @@ def load_rows(catalogue: Catalogue, run: int, file: int, folder: str, outcome: O
         "INSERT INTO captures VALUES (?, ?, ?, ?, ?, ?, ?, ?, ?, ?, ?)", capture_rows(file, folder, sums)
     ).rowcount
     digests = put("INSERT INTO digests VALUES (?, ?, ?, ?, ?)", digest_rows(file, folder)).rowcount
+    put("INSERT INTO payloads VALUES (?, ?, ?, ?, ?, ?)", payload_rows(file, folder))
     put("INSERT INTO findings VALUES (?, ?, ?, ?, ?)", finding_rows(file, folder))
     whole = [int(summary["records"]), int(summary["captures"]), bad + unchecked]
     seen = [max(count, 0) for count in (records, captures, digests)]
@@ -263,7 +265,8 @@ def load_rows(catalogue: Catalogue, run: int, file: int, folder: str, outcome: O
     put("INSERT INTO counts VALUES (?, ?, ?, ?)", ((run, file, name, value) for name, value in summary.items()))
     damaged = 0 if outcome.pieces is None else outcome.pieces.damaged
     counts = good, unchecked, bad - outcome.no_bytes, outcome.no_bytes, int(summary["bytes"]), damaged
-    put_reading(catalogue, run, file, stamp, (whole[0], *counts) if outcome.has_rows() else None)
+    all_counts = (whole[0], *counts, *payloads_of(folder)) if outcome.has_rows() else None
+    put_reading(catalogue, run, file, stamp, all_counts)
     return whole[0]
 
 
@@ -285,6 +288,7 @@ def put_reading(catalogue: Catalogue, run: int, file: int, stamp: Stamp, counts:
         catalogue.base.execute("UPDATE files SET records = ? WHERE file = ?", (counts[0], file))
         catalogue.base.execute(
             "INSERT INTO readings (file, run, read_on, size, modified, changed, inode, records, good, unchecked, bad,"
-            " no_bytes, bytes, damaged) VALUES (?, ?, ?, ?, ?, ?, ?, ?, ?, ?, ?, ?, ?, ?)",
+            " no_bytes, bytes, damaged, payloads_good, payloads_unchecked, payloads_bad)"
+            " VALUES (?, ?, ?, ?, ?, ?, ?, ?, ?, ?, ?, ?, ?, ?, ?, ?, ?)",
             (file, run, now(), stamp.size, stamp.modified, stamp.changed, stamp.inode, *counts),
         )

@@ -37,7 +37,7 @@ import generate  # noqa: E402
 import warc_reference  # noqa: E402
 
 HOSTS = ("warc-stress-a", "warc-stress-b")
-TABLES = ("records", "captures", "digests", "findings", "years", "hosts")
+TABLES = ("records", "captures", "digests", "payloads", "findings", "years", "hosts")
 IMAGE = b"\x89PNG\r\n\x1a\n" + bytes(range(256)) * 4
 NO_BYTES = b"sha1:3I42H3S6NNFQ2MSVX7XZKYAYSCX5QBYJ"
 # root without the right to open each file
@@ -45,7 +45,7 @@ LESS = ("setpriv", "--bounding-set=-dac_override,-dac_read_search", "--inh-caps=
 JOBS = str(os.environ.get("STRESS_JOBS", os.cpu_count()))
 # Files for each job of a rough night, which has many.
 BATCH = ("--batch", "10")
-Expected = Tuple[str, int, int, int, int]
+Expected = Tuple[str, int, int, int, int, int]
 
 
 # The archives
@@ -129,18 +129,27 @@ def expected_of(path: bytes) -> Expected:
     if path.endswith(b".gz"):
         data = unpacked(data or b"")
         if data is None:
-            return "gunzip", 0, 0, 0, 0
+            return "gunzip", 0, 0, 0, 0, 0
     archive = warc_reference.Archive(data)
     is_refused = archive.fault is not None
     if is_refused:
         archive = warc_reference.Archive(warc_reference.run("salvage", data, [b"--all"])[0])
         if not archive.records:
-            return "refused", 0, 0, 0, 0
-    verdicts = [record.digest_verdict() for record in archive.records]
+            return "refused", 0, 0, 0, 0, 0
+    verdicts = [record.stated_verdict() for record in archive.records]
     findings = warc_reference.check_command(archive)[0].count(b"\n")
     captures = sum(record.kind in warc_reference.CAPTURES for record in archive.records)
-    state = "refused" if is_refused else state_of(verdicts, findings, sum(map(is_of_wget, archive.records)))
-    return state, len(verdicts), captures, len(verdicts) - verdicts.count("good"), findings
+    payloads = judged_payloads(archive)
+    of_wget = sum(map(is_of_wget, archive.records))
+    state = "refused" if is_refused else state_of(verdicts, findings, of_wget, "bad" in payloads)
+    return state, len(verdicts), captures, len(verdicts) - verdicts.count("good"), findings, len(payloads)
+
+
+def judged_payloads(archive: warc_reference.Archive) -> List[str]:
+    """The verdicts on the payloads that aren't good, but for those of requests."""
+    lines = warc_reference.run_on(archive, "fixity", [b"--payload"])[0].split(b"\n")[:-2]
+    columns = (line.split(b"\t", 4) for line in lines)
+    return [verdict.decode() for _, verdict, _, reason, _ in columns if reason != b"request"]
 
 
 def is_of_wget(record: warc_reference.Record) -> bool:
@@ -149,8 +158,8 @@ def is_of_wget(record: warc_reference.Record) -> bool:
     return is_bad and bool(record.first("WARC-Block-Digest") == NO_BYTES)
 
 
-def state_of(verdicts: List[str], findings: int, of_wget: int) -> str:
-    if verdicts.count("bad") > of_wget:
+def state_of(verdicts: List[str], findings: int, of_wget: int, has_bad_payload: bool) -> str:
+    if verdicts.count("bad") > of_wget or has_bad_payload:
         return "bad"
     return "unchecked" if "unchecked" in verdicts else "findings" if findings > of_wget else "good"
 
@@ -175,7 +184,7 @@ def compare(trial: Trial, catalogue: str, expected: Dict[bytes, Expected], run: 
     trial.judge(files.keys() == expected.keys(), "the files", len(files))
     counts = {
         table: dict(base.execute("SELECT file, count(*) FROM %s GROUP BY file" % table).fetchall())
-        for table in ("records", "captures", "digests", "findings")
+        for table in ("records", "captures", "digests", "findings", "payloads")
     }
     for path in files.keys() & expected.keys():
         file, state = files[path]
@@ -595,6 +604,7 @@ def contents(trial: Trial, catalogue: str) -> Dict[str, Set[Tuple[object, ...]]]
     about = "path, state, detail, size, modified, changed, inode, records"
     found["files"] = set(trial.ask(catalogue, "SELECT %s FROM files" % about))
     about = "readings.size, readings.modified, readings.changed, readings.inode, readings.records, good, unchecked, bad"
+    about += ", payloads_good, payloads_unchecked, payloads_bad"
     found["readings"] = set(trial.ask(catalogue, "SELECT path, %s FROM readings JOIN files USING (file)" % about))
     return found
 

@@ -402,6 +402,8 @@ def tears() -> Dict[str, int]:
         "captures": 0,
         "summary": 0,
         "summary half": 9,
+        "payloads": 0,
+        "payloads half": 9,
     }
 
 
@@ -416,7 +418,7 @@ def synced_jobs(trial: Trial) -> None:
         calls = file.read()
     before, _, after = calls.partition("/done/1")
     work = "fsync(" in before and "/work/1." in before
-    for name in ("outcome", "list", "captures", "summary"):
+    for name in ("outcome", "list", "captures", "summary", "payloads"):
         trial.judge(work and "/%s>" % name in before, name + " is synced before", calls)
     folders = [line for line in before.splitlines() if "fsync" in line and "/work/1." in line and ">)" in line]
     trial.judge(any("/" not in line.rpartition("/work/1.")[2].split(">")[0] for line in folders), "the folder", calls)
@@ -1105,9 +1107,128 @@ def rot(trial: Trial) -> None:
             trial.judge((done.returncode, done.stdout) == (3, b""), "a replay of rotten bytes", done.stderr)
 
 
-WITHOUT_PIECES = "".join(
+# The digest of `abc` in hexadecimal digits, with which a payload is good, and others.
+ABC = "md5:900150983cd24fb0d6963f7d28e17f72"
+CHUNKED = b"HTTP/1.1 200 OK\r\nTransfer-Encoding: chunked\r\n\r\n3\r\nabc\r\n0\r\n\r\n"
+
+
+def with_payload(number: int, digest: str, kind: str = "resource", block: bytes = b"abc") -> bytes:
+    return record(kind, number, DATE, URI, block, WARC_Payload_Digest=digest)
+
+
+def payload_files() -> Dict[str, Tuple[bytes, str, str]]:
+    """Archives with payload digests, and the state and the words that are expected of each."""
+    other, odd = ABC[:-1] + "3", with_payload(1, "odd digest").replace(b"odd digest", b"od:\td\xff'\t<i>")
+    alone = with_payload(1, ABC)
+    return {
+        "good": (alone + with_payload(2, ABC, "response", HEAD + b"abc"), "good", ""),
+        "bad": (alone + with_payload(2, other) + page(3), "bad", "1 payload doesn't have its digest"),
+        "coded": (alone + with_payload(2, ABC, "response", CHUNKED), "good", ""),
+        "request": (with_payload(1, ABC, "request", b"GET / HTTP/1.1\r\n\r\n"), "good", ""),
+        "odd": (odd, "findings", "1 finding"),
+        "both": (
+            with_payload(1, other) + record("resource", 2, DATE, URI, b"x", block_digest=ABC),
+            "bad",
+            "1 block doesn't have its digest; 1 payload doesn't have its digest",
+        ),
+        "damaged": (b"x" + with_payload(1, other) + alone.replace(b"000000000001>", b"000000000002>"), "refused", ""),
+    }
+
+
+def payload_digests(trial: Trial) -> None:
+    """A payload with another digest makes a file bad; one that can't be checked is counted, and no request is."""
+    files = payload_files()
+    for name, (data, _, _) in files.items():
+        put(trial.path("archives", name + ".warc"), data)
+    done = trial.run("c", "run", trial.path("archives"))
+    states = {str(name).split(".")[0]: state for name, state in trial.states("c").items()}
+    asked = trial.ask("c", "SELECT path, detail FROM files")
+    details = {os.path.basename(str(path)): str(detail) for path, detail in asked}
+    for name, (_, state, words) in files.items():
+        detail = details[name + ".warc"]
+        trial.judge(states[name] == state and (not words or detail == words), name, (states[name], detail))
+    trial.judge(done.returncode == 1 and "1 payload doesn't" in str(details), "the run", done.stderr)
+    query = "SELECT path, %s FROM %s JOIN files USING (file) ORDER BY path, position"
+    rows = [(os.path.basename(str(row[0])), *row[1:]) for row in trial.ask("c", query % (PAYLOAD, "payloads"))]
+    trial.judge(rows == payloads_expected(), "the rows", rows)
+    counts = "SELECT path, payloads_good, payloads_unchecked, payloads_bad FROM readings JOIN files USING (file)"
+    found = {os.path.basename(str(row[0]))[:-5]: row[1:] for row in trial.ask("c", counts)}
+    expected = {"good": (2, 0, 0), "bad": (1, 0, 1), "coded": (1, 1, 0), "request": (0, 1, 0), "odd": (0, 1, 0)}
+    trial.judge(found == dict(expected, both=(0, 0, 1), damaged=(1, 0, 1)), "the counts", found)
+    sums = trial.ask("c", "SELECT payloads_good, payloads_unchecked, payloads_bad FROM runs")
+    trial.judge(sums == [(5, 3, 3)], "the sums of the run", sums)
+    with open(trial.path("c", "report.html"), encoding="utf-8") as file:
+        report = file.read()
+    trial.judge("Payloads from run to run" in report and "\t<i>" not in report, "the report")
+
+
+PAYLOAD = "position, verdict, id, reason, payloads.digest"
+
+
+def payloads_expected() -> List[Tuple[object, ...]]:
+    """The rows of payloads that the catalogue should have."""
+    name, other = "urn:uuid:00000000-0000-4000-8000-%012d", ABC[:-1] + "3"
+    return [
+        ("bad.warc", 1, "bad", name % 2, None, other),
+        ("both.warc", 0, "bad", name % 1, None, other),
+        ("coded.warc", 1, "unchecked", name % 2, "coded", ABC),
+        ("damaged.warc", 0, "bad", name % 1, None, other),
+        ("odd.warc", 0, "unchecked", name % 1, "algorithm", b"od:\td\xff'\t<i>"),
+    ]
+
+
+def payloads_without_room(trial: Trial) -> None:
+    """A pipe isn't read for payloads: they aren't known of a file that there was no room to unpack, until there is."""
+    put(trial.path("archives", "a.warc.gz"), gzip.compress(with_payload(1, ABC, block=b"x" * 100_000)))
+    with small_disk(trial.path("disk"), "64k") as disk:
+        done = trial.run("c", "run", "--temporary", disk, trial.path("archives"))
+    trial.judge(b"no-room\t1" in done.stdout, "the state", done.stdout)
+    trial.judge((trial.count("c", "payloads"), trial.count("c", "readings")) == (0, 0), "nothing of payloads")
+    trial.judge(trial.ask("c", "SELECT payloads_status FROM checks") == [(None,)], "the status")
+    done = trial.run("c", "run")
+    trial.judge(
+        trial.states("c") == {"a.warc.gz": "bad"} and trial.count("c", "payloads") == 1, "with room", done.stdout
+    )
+    trial.judge(trial.ask("c", "SELECT payloads_status FROM checks WHERE run = 2") == [(1,)], "the status with room")
+
+
+def program_without_payloads(trial: Trial) -> None:
+    """A program that doesn't know `--payload` makes a file failed, and its rows stay."""
+    put(trial.path("archives", "a.warc"), with_payload(1, ABC))
+    trial.run("c", "run", trial.path("archives"))
+    old = '[ "$2" = --payload ] && { echo "unknown option" >&2; exit 3; }\nexec %s "$@"\n' % trial.warc
+    done = trial.run("c", "run", "--all", "--warc", put_script(trial.path("old-warc"), old))
+    is_right = trial.states("c") == {"a.warc": "failed"} and "payloads: unknown option" in trial.detail("c")
+    trial.judge(is_right and done.returncode == 1, "the state", trial.detail("c"))
+    rows = trial.ask("c", "SELECT payloads_good FROM readings")
+    trial.judge(rows == [(1,)] and trial.count("c", "records") == 1, "its rows", rows)
+
+
+WITHOUT_PAYLOADS = "DROP TABLE payloads; ALTER TABLE checks DROP COLUMN payloads_status;" + "".join(
+    "ALTER TABLE %s DROP COLUMN payloads_%s;" % (table, name)
+    for table in ("runs", "readings")
+    for name in ("good", "unchecked", "bad")
+)
+WITHOUT_PIECES = WITHOUT_PAYLOADS + "".join(
     "ALTER TABLE checks DROP COLUMN %s;" % name for name in ("good_records", "good_bytes", "damages", "damaged")
 )
+
+
+def catalogue_without_payloads(trial: Trial) -> None:
+    """A catalogue that knows nothing of payloads goes on, without another reading of its files."""
+    put(trial.path("archives", "a.warc"), with_payload(1, ABC) + with_payload(2, ABC[:-1] + "3"))
+    trial.run("c", "run", trial.path("archives"))
+    with contextlib.closing(trial.base("c")) as base:
+        base.executescript(WITHOUT_PAYLOADS + "UPDATE files SET state = 'good'; PRAGMA user_version = 3;")
+    done = trial.run("c", "status")
+    trial.judge(done.returncode == 3 and b"version" in done.stderr, "a question before a run", done.stderr)
+    done = trial.run("c", "run")
+    trial.judge(done.returncode == 0 and to_read(done) == 0, "a run", done.stdout + done.stderr)
+    trial.judge(trial.ask("c", "SELECT payloads_bad FROM readings") == [(None,)], "not known")
+    done = trial.run("c", "run", "--all")
+    trial.judge(trial.states("c") == {"a.warc": "bad"}, "a run over all", done.stdout)
+    trial.judge(trial.ask("c", "SELECT payloads_good, payloads_bad FROM readings") == [(1, 1)], "known")
+    trial.judge(trial.run("c", "export", trial.path("tables")).returncode == 0, "an export")
 
 
 def catalogue_without_pieces(trial: Trial) -> None:
@@ -1143,8 +1264,8 @@ def older_catalogue(trial: Trial) -> None:
             "ALTER TABLE runs DROP COLUMN no_bytes; ALTER TABLE files DROP COLUMN changed;"
             "ALTER TABLE files DROP COLUMN inode; ALTER TABLE files DROP COLUMN sha256;"
             "ALTER TABLE checks DROP COLUMN sha256; ALTER TABLE changes DROP COLUMN path_before;"
-            "ALTER TABLE checks ADD COLUMN gunzip_status BIGINT; DROP TABLE readings; PRAGMA user_version = 0;"
-            + WITHOUT_PIECES
+            "ALTER TABLE checks ADD COLUMN gunzip_status BIGINT;"
+            + (WITHOUT_PIECES + "DROP TABLE readings; PRAGMA user_version = 0;")
         )
     done = trial.run("c", "find", URI.decode())
     trial.judge(done.returncode == 3 and b"version" in done.stderr, "a question before a run", done.stderr)
@@ -1183,6 +1304,7 @@ PARTS: List[Callable[[Trial], None]] = [
     *(stored_bodies, decoded_bodies, agreeing_files),
     *(damaged_files, joined_damaged_files, later_damage, damage_without_room, changed_damaged_file, many_damages),
     *(slow_pieces, unknown_pieces, catalogue_without_pieces),
+    *(payload_digests, payloads_without_room, program_without_payloads, catalogue_without_payloads),
     *(odd_settings, many_users, old_runs, revisits_of_wget, moves, named_files, rot, older_catalogue),
 ]
 

@@ -15,13 +15,14 @@ import io
 import os
 import subprocess
 import sys
+import tempfile
 import unicodedata
 from typing import Callable, List, Optional, Tuple, Union
 
 TOP = os.path.dirname(os.path.dirname(os.path.dirname(os.path.abspath(__file__))))
 sys.path.insert(0, os.path.join(TOP, "collection"))
 
-from zogwedu_collection import export, lines, runs, texts, unpack  # noqa: E402
+from zogwedu_collection import export, job, lines, runs, texts, unpack  # noqa: E402
 
 try:
     from hypothesis import given, settings
@@ -110,6 +111,37 @@ def lines_of_list_come_back(
 
 
 @FAST
+@given(SIZES, st.sampled_from([b"bad", b"unchecked"]), PLAIN, PLAIN, TABBED)
+def lines_of_payloads_come_back(position: int, verdict: bytes, name: bytes, reason: bytes, digest: bytes) -> None:
+    columns = [b"%d" % position, verdict, name, reason, digest]
+    line = b"\t".join(columns)
+    assert lines.payload_columns(line) == columns
+    assert job.is_of_bad_payload(line) == (verdict == b"bad")
+
+
+@SLOW
+@given(st.integers(0, 3), st.integers(0, 3), st.integers(0, 3), st.integers(0, 9), st.binary(max_size=9))
+def counts_of_payloads_come_back(good: int, bad: int, unchecked: int, cut: int, end: bytes) -> None:
+    text = b"0\tbad\tx\t-\ty\n" * bad + b"0\tunchecked\tx\tcoded\ty\tz\n" * unchecked
+    text += b"records %d good %d bad %d unchecked %d\n" % (good + bad + unchecked, good, bad, unchecked)
+    assert counts_in(text) == (good, unchecked, bad)
+    torn = text[: len(text) - 1 - cut] + end
+    assert torn == text or counts_in(torn) in (None, (good, unchecked, bad))
+    assert counts_in(text.partition(b"\n")[2]) in (None, (good, unchecked, bad) if not bad + unchecked else None)
+
+
+def counts_in(text: bytes) -> Optional[Tuple[int, ...]]:
+    """The counts in what the program wrote, or None where it isn't whole."""
+    with tempfile.TemporaryDirectory() as folder:
+        with open(os.path.join(folder, "payloads"), "wb") as out:
+            out.write(text)
+        try:
+            return tuple(lines.payloads_of(folder))
+        except ValueError:
+            return None
+
+
+@FAST
 @given(st.one_of(TEXTS, TARGETS))
 def each_target_has_a_host(target: str) -> None:
     assert isinstance(lines.host_of(target), str)
@@ -154,6 +186,7 @@ def words_reach_a_command(words: List[str]) -> None:
 
 PROPERTIES: List[Callable[[], None]] = [
     *(names_are_shown_safely, paths_come_back, cells_come_back, lines_of_list_come_back, each_target_has_a_host),
+    *(lines_of_payloads_come_back, counts_of_payloads_come_back),
     *(members_are_taken_apart, cut_members_are_damaged, words_reach_a_command),
 ]
 
