@@ -1,11 +1,13 @@
 #!/usr/bin/env python3
-"""Times `fixity` over crawls whose heads state digests by each algorithm, beside the tool that hashes the whole file.
+"""Times `fixity` and `fixity --payload` over crawls whose heads state digests by each algorithm, beside the tool that
+hashes the whole file.
 
 Usage: digests.py PROGRAM FOLDER
 
-Each crawl has 0.25 GB of blocks of 10 kB and more, with digests in the encoding that is common for the algorithm. They
-are made in FOLDER and removed one by one. All blocks have to be good. The program and the tool (`md5sum`, `sha1sum` and
-so on) run three times by turns, and the least processor time of each counts. Prints a table in Markdown.
+Each crawl has 0.25 GB of HTTP responses of 10 kB and more, with digests of block and payload in the encoding that is
+common for the algorithm. They are made in FOLDER and removed one by one. All blocks and payloads have to be good. The
+program and the tool (`md5sum`, `sha1sum` and so on) run three times by turns, and the least processor time of each
+counts. Prints a table in Markdown.
 """
 from __future__ import annotations
 
@@ -22,10 +24,13 @@ RUNS = 3
 SIZE = 256 << 20
 SIZES = (10_000, 30_000, 80_000)
 HEAD = (
-    "WARC/1.1\r\nWARC-Type: resource\r\nWARC-Record-ID: <urn:uuid:00000000-0000-4000-8000-{0:012x}>\r\n"
-    "WARC-Date: 2020-01-01T00:00:00Z\r\nWARC-Target-URI: http://a.example/{0}\r\nContent-Type: text/plain\r\n"
-    "WARC-Block-Digest: {1}\r\nContent-Length: {2}\r\n\r\n"
+    "WARC/1.1\r\nWARC-Type: response\r\nWARC-Record-ID: <urn:uuid:00000000-0000-4000-8000-{0:012x}>\r\n"
+    "WARC-Date: 2020-01-01T00:00:00Z\r\nWARC-Target-URI: http://a.example/{0}\r\n"
+    "Content-Type: application/http; msgtype=response\r\nWARC-Block-Digest: {1}\r\nWARC-Payload-Digest: {2}\r\n"
+    "Content-Length: {3}\r\n\r\n"
 )
+HTTP = b"HTTP/1.1 200 OK\r\nContent-Type: text/plain\r\n\r\n"
+FIXITY = (["fixity"], ["fixity", "--payload"])
 ALGORITHMS = ("md5", "sha1", "sha256", "sha384", "sha512")
 
 
@@ -43,8 +48,10 @@ def make(path: str, algorithm: str) -> int:
         while size < SIZE:
             length = chance.choice(SIZES)
             start = chance.randrange(len(pool) - length)
-            block = pool[start : start + length]
-            text = HEAD.format(number, stated(algorithm, block), length).encode("ascii") + block + b"\r\n\r\n"
+            body = pool[start : start + length]
+            digests = stated(algorithm, HTTP + body), stated(algorithm, body)
+            head = HEAD.format(number, *digests, len(HTTP) + length).encode("ascii")
+            text = head + HTTP + body + b"\r\n\r\n"
             out.write(text)
             number, size = number + 1, size + len(text)
     return number
@@ -53,14 +60,16 @@ def make(path: str, algorithm: str) -> int:
 def times(program: str, path: str, algorithm: str) -> list[str]:
     """A row of the table."""
     count = make(path, algorithm)
-    told = subprocess.run([program, "fixity", path], check=False, capture_output=True)
-    if told.returncode or told.stdout != b"records %d good %d bad 0 unchecked 0\n" % (count, count):
-        sys.exit(f"digests.py: {algorithm}: {told.stdout[-200:]!r}")
-    commands = ([program, "fixity", path], [f"{algorithm}sum", path])
+    for words in FIXITY:
+        told = subprocess.run([program, *words, path], check=False, capture_output=True)
+        if told.returncode or told.stdout != b"records %d good %d bad 0 unchecked 0\n" % (count, count):
+            sys.exit(f"digests.py: {algorithm}: {told.stdout[-200:]!r}")
+    commands = (*([program, *words, path] for words in FIXITY), [f"{algorithm}sum", path])
     turns = [[run(words, (0,)).processor for words in commands] for _ in range(RUNS)]
-    own, other = (min(each) for each in zip(*turns))
+    blocks, payloads, other = (min(each) for each in zip(*turns))
     os.unlink(path)
-    return [algorithm, f"{own:.2f} s", f"{other:.2f} s", f"{own / other:.1f}"]
+    cells = [f"{seconds:.2f} s" for seconds in (blocks, payloads, other)]
+    return [algorithm, *cells, f"{blocks / other:.1f}", f"{payloads / other:.1f}"]
 
 
 def main() -> None:
@@ -68,7 +77,9 @@ def main() -> None:
     os.makedirs(folder, exist_ok=True)
     rows = [times(program, f"{folder}/{algorithm}.warc", algorithm) for algorithm in ALGORITHMS]
     print(f"{made_on(program)}\n")
-    put_table(["Digests", "`fixity`", "the tool, over the file", "Ratio"], rows)
+    put_table(
+        ["Digests", "`fixity`", "`fixity --payload`", "the tool, over the file", "Ratio", "with `--payload`"], rows
+    )
 
 
 main()
