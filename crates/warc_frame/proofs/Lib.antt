@@ -1,4 +1,5 @@
 pub mod LawLemmas
+pub mod FieldNameLemmas
 pub mod TakeLemmas
 pub mod Sending
 pub mod WorkedDevices

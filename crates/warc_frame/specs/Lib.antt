@@ -1,5 +1,6 @@
 pub mod Count
 pub mod Names
+pub mod FieldNames
 pub mod Device
 pub mod FaultText
 pub mod Send

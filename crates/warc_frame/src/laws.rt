@@ -4,6 +4,7 @@ ghost use Rattle.warc_frame.specs.declared.fault.Fault.{Fault};
 ghost use Rattle.warc_frame.specs.declared.fault.FaultKind.{FaultKind};
 ghost use Rattle.warc_frame.specs.declared.fault.FaultKind.TheVariants.{Truncated, Memory};
 ghost use Rattle.warc_frame.specs.Record.{Record, IsFramed, max_archive};
+ghost use Rattle.warc_frame.specs.FieldNames.{AreFieldNames};
 ghost use Rattle.warc_frame.specs.Spelling.{Spells, SpellsAll, canonical};
 ghost use Rattle.warc_frame.specs.Reading.{Judgement, Head, head_of, headed, record_of};
 ghost use Rattle.warc_frame.specs.Faults.{AllAccepted, ReadsAs, IsFaultAfter, IsFirstFault, IsFrameFault};
@@ -121,4 +122,10 @@ pub fn sent_is_exact()
     ensures { (start now : Option (List ℕ)) (output : List ℕ) (sent : ℕ) →
         WentOut start output now sent → length output < 2 ^ 64 →
         (sent ≤ length output) × (now ≡ append_known start (take sent output)) }
+{}
+
+/// The fields of the standard are told apart by their names and by their places.
+#[tactic(auto, using(crate::proofs::FieldNameLemmas::names_are))]
+pub fn are_field_names()
+    ensures { AreFieldNames }
 {}

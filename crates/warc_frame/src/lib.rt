@@ -4,6 +4,7 @@
 mod count;
 mod ends;
 mod fault;
+mod field_name;
 mod framed;
 pub mod laws;
 pub mod names;
@@ -20,6 +21,7 @@ mod writing;
 
 pub use count::raise;
 pub use fault::{Fault, FaultKind, Mandatory, OutFault};
+pub use field_name::{FieldName, NAME_COUNT};
 pub use framed::{Framed, FramedFault};
 pub use pieces::decode;
 pub use ranges::{PIECE, put_range, read_range};

@@ -28,9 +28,9 @@ use Rattle.warc_record.specs.Ids.{bare_text, is_id}
 use Rattle.warc_record.specs.Readings.{bare_present, no_segment, nothing_named, reference_of, segment_reading, unless_empty}
 use Rattle.warc_record.proofs.GoodLemmas.{good_heads_have_no_fault}
 use Rattle.warc_quick.specs.declared.head.QuickHead.{QuickHead}
-use Rattle.warc_quick.specs.declared.names.QuickName.{QuickName}
-use Rattle.warc_quick.specs.declared.names.QuickName.TheVariants.{«Type», RecordId, Date, ContentLength}
-use Rattle.warc_quick.specs.Names.{quick_name}
+use Rattle.warc_frame.specs.FieldNames.{name_text}
+use Rattle.warc_frame.specs.declared.field_name.FieldName.{FieldName}
+use Rattle.warc_frame.specs.declared.field_name.FieldName.TheVariants.{«Type», RecordId, Date, ContentLength}
 use Rattle.warc_quick.specs.Faultless.{AreFaultless}
 use Rattle.warc_quick.specs.Fronts.{BeginsWithFields, IsHeadWith, IsValueOf}
 use Rattle.warc_quick.specs.Quick.{AreAlone, Says, max_quick_head}
@@ -87,8 +87,8 @@ pub nothing_of_segments : (fields : List Pair) → first_value warc_segment_numb
     → segment_reading fields ≡ no_segment
 nothing_of_segments fields number origin total = rw (number, origin, total) refl
 
-listed : (name : QuickName) (fields : List Pair) (value : Bor (List ℕ)) → IsValueOf name fields (Some value)
-    → value.now ≡ unwrap_or (first_value (quick_name name) fields) []
+listed : (name : FieldName) (fields : List Pair) (value : Bor (List ℕ)) → IsValueOf name fields (Some value)
+    → value.now ≡ unwrap_or (first_value (name_text name) fields) []
 listed name fields value is = ap (λ o. unwrap_or o []) is.first
 
 -- the values of the fields of a head say this

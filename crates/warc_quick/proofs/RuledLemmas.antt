@@ -14,14 +14,21 @@ use Rattle.warc_record.specs.Ids.{bare_text}
 use Rattle.warc_record.specs.Readings.{bare_present, unless_empty}
 use Rattle.warc_record.specs.Table.{Rule, rule, rules, rule_seen}
 use Rattle.warc_field.specs.Text.{trimmed}
-use Rattle.warc_quick.specs.declared.names.QuickName.{QuickName}
-use Rattle.warc_quick.specs.declared.names.QuickName.TheVariants.{«Type», RecordId, Date, ContentLength, TargetUri, ConcurrentTo, IpAddress, RefersTo, RefersToTargetUri, RefersToDate, Filename, Profile, WarcinfoId, SegmentNumber, SegmentOriginId, SegmentTotalLength, BlockDigest, PayloadDigest, Truncated, IdentifiedPayloadType, ContentType}
+use Rattle.warc_frame.specs.FieldNames.{name_place, name_text}
+use Rattle.warc_frame.specs.declared.field_name.FieldName.{FieldName}
+use Rattle.warc_frame.specs.declared.field_name.FieldName.TheVariants.{«Type», RecordId, Date, ContentLength}
+use Rattle.warc_frame.specs.declared.field_name.FieldName.TheVariants.{TargetUri, ConcurrentTo, IpAddress, RefersTo}
+use Rattle.warc_frame.specs.declared.field_name.FieldName.TheVariants.{RefersToTargetUri, RefersToDate, Filename}
+use Rattle.warc_frame.specs.declared.field_name.FieldName.TheVariants.{Profile, WarcinfoId, SegmentNumber}
+use Rattle.warc_frame.specs.declared.field_name.FieldName.TheVariants.{SegmentOriginId, SegmentTotalLength}
+use Rattle.warc_frame.specs.declared.field_name.FieldName.TheVariants.{BlockDigest, PayloadDigest, Truncated}
+use Rattle.warc_frame.specs.declared.field_name.FieldName.TheVariants.{IdentifiedPayloadType, ContentType}
 use Rattle.warc_quick.specs.Fronts.{AreValues, IsValueOf}
-use Rattle.warc_quick.specs.Names.{may_repeat, quick_name, quick_place}
+use Rattle.warc_quick.specs.Names.{may_repeat}
 use Rattle.warc_quick.specs.Ruled.{IsRuleOf}
 
 -- the only name that is the target's is at its place
-is_target : (name : QuickName) → str_eq_ignore_ascii_case (quick_name name) warc_target_uri ≡ eqb (quick_place name) 4
+is_target : (name : FieldName) → str_eq_ignore_ascii_case (name_text name) warc_target_uri ≡ eqb (name_place name) 4
 is_target «Type» = refl
 is_target RecordId = refl
 is_target Date = refl
@@ -64,17 +71,17 @@ some_bare [] = ap (λ (t : List ℕ). not (length t == 0)) (sym nothing_bare)
 some_bare (b ∷ bs) = rw (some_bytes b bs) (some_text (bare_text (b ∷ bs)))
 
 -- a target whose bare text isn't empty
-pub target_stands : (fields : List Pair) (values : List (Option (Bor (List ℕ)))) (name : QuickName) (place : ℕ) → AreValues fields values
-    → quick_place name ≡ place → place ≡ 4 → (value : Bor (List ℕ)) → Some value ≡ get_or values place None
-    → not (length (bare_text value.now) == 0) ≡ stands (quick_name name) fields
+pub target_stands : (fields : List Pair) (values : List (Option (Bor (List ℕ)))) (name : FieldName) (place : ℕ) → AreValues fields values
+    → name_place name ≡ place → place ≡ 4 → (value : Bor (List ℕ)) → Some value ≡ get_or values place None
+    → not (length (bare_text value.now) == 0) ≡ stands (name_text name) fields
 target_stands fields values name place are at four value is =
     let of : IsValueOf name fields (Some value) =
     subst (λ found. IsValueOf name fields found) (ap (λ k. get_or values k None) at ∙ sym is) (are.each name) in
     sym (some_bare value.now) ∙ ap (λ found. is_some (bare_present found)) of.first
-    ∙ ap (λ b. value_stands b (first_value (quick_name name) fields)) (sym (is_target name ∙ eq-eqb _ _ (at ∙ four)))
+    ∙ ap (λ b. value_stands b (first_value (name_text name) fields)) (sym (is_target name ∙ eq-eqb _ _ (at ∙ four)))
 
 -- the names of the field table, in its order
-abbrev pub ruled_names : List QuickName
+abbrev pub ruled_names : List FieldName
 ruled_names =
     TargetUri ∷ ConcurrentTo ∷ IpAddress ∷ RefersTo ∷ RefersToTargetUri ∷ RefersToDate ∷ Filename ∷ Profile ∷ WarcinfoId
     ∷ SegmentNumber ∷ SegmentOriginId ∷ SegmentTotalLength ∷ BlockDigest ∷ PayloadDigest ∷ Truncated ∷ IdentifiedPayloadType
@@ -83,7 +90,7 @@ ruled_names =
 abbrev no_rule : Rule
 no_rule = rule [] [] []
 
-names_are : map (λ (row : Rule). row.name) rules ≡ map quick_name ruled_names
+names_are : map (λ (row : Rule). row.name) rules ≡ map name_text ruled_names
 unfolding rules
 names_are = refl
 
@@ -95,12 +102,12 @@ pub rule_count : length rules ≡ 17
 unfolding rules
 rule_count = refl
 
-abbrev pub ruled_name : ℕ → QuickName
+abbrev pub ruled_name : ℕ → FieldName
 ruled_name k = get_or ruled_names k TargetUri
 
-pub places_are : (k : ℕ) → k < 17 → quick_place (ruled_name k) ≡ 4 + k
+pub places_are : (k : ℕ) → k < 17 → name_place (ruled_name k) ≡ 4 + k
 places_are k inside =
-    eqb-true _ _ (agree_below_at (λ k. eqb (quick_place (ruled_name k)) (4 + k)) (λ k. true) 17 k refl inside)
+    eqb-true _ _ (agree_below_at (λ k. eqb (name_place (ruled_name k)) (4 + k)) (λ k. true) 17 k refl inside)
 
 rule_is : (k : ℕ) → k < 17 → IsRuleOf (ruled_name k) (get_or rules k no_rule)
 rule_is k inside =
@@ -108,7 +115,7 @@ rule_is k inside =
     record {
       name_is =
           sym (get_or-map (λ (row : Rule). row.name) rules k no_rule [] room) ∙ ap (λ xs. get_or xs k []) names_are
-          ∙ get_or-map quick_name ruled_names k TargetUri [] inside;
+          ∙ get_or-map name_text ruled_names k TargetUri [] inside;
       repeats_is =
           sym (get_or-map (λ (row : Rule). row.repeats) rules k no_rule false room) ∙ ap (λ xs. get_or xs k false) repeats_are
           ∙ get_or-map may_repeat ruled_names k TargetUri false inside;

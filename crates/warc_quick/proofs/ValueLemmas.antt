@@ -7,12 +7,13 @@ use Rattle.std.proofs.lemmas.List.Sums.{sum_by-append, sum_by-cons}
 use Rattle.std.proofs.lemmas.Bool.{lt-ltb, ltb-false}
 use Rattle.warc_field.specs.Area.{Pair, first_value, count_of}
 use Rattle.warc_field.specs.Text.{same}
-use Rattle.warc_quick.specs.declared.names.QuickName.{QuickName}
-use Rattle.warc_quick.specs.Names.{may_repeat, quick_name, quick_place}
+use Rattle.warc_frame.specs.FieldNames.{AreFieldNames, name_place, name_text}
+use Rattle.warc_frame.specs.declared.field_name.FieldName.{FieldName}
+use Rattle.warc_quick.specs.Names.{may_repeat}
 use Rattle.warc_quick.specs.Fronts.{AreValues, BeginsWithFields, BeginsWithLine, IsValueOf}
 use Rattle.warc_quick.specs.declared.lines.Line.{Line}
 use Rattle.warc_quick.proofs.LineLemmas.{some_bytes, spells_more}
-use Rattle.warc_quick.proofs.NameLemmas.{names_apart, of_place, place_within, same_as_itself}
+use Rattle.warc_quick.proofs.NameLemmas.{same_as_itself}
 
 -- the value of the first field of a name, where one more field has another name, or is the first of the name
 first_past : (name : List ℕ) (fields : List Pair) (field : Pair) → same field.0 name ≡ false
@@ -85,19 +86,19 @@ some_counts name (f ∷ fs) = more (same f.0 name) refl (some_counts name fs)
         is ∙ ap (nat_lt 0) same_count
 
 -- a field of another name changes nothing
-past : (name : QuickName) (fields : List Pair) (field : Pair) (found : Option (Bor (List ℕ))) → same field.0 (quick_name name) ≡ false
+past : (name : FieldName) (fields : List Pair) (field : Pair) (found : Option (Bor (List ℕ))) → same field.0 (name_text name) ≡ false
     → IsValueOf name fields found → IsValueOf name (fields ++ field ∷ []) found
 past name fields field found other is = record {
-  first = is.first ∙ sym (first_past (quick_name name) fields field other);
+  first = is.first ∙ sym (first_past (name_text name) fields field other);
   alone = λ once.
-      omega (arith, is.alone once, count_push (quick_name name) fields field, tally_miss (same field.0 (quick_name name)) other);
+      omega (arith, is.alone once, count_push (name_text name) fields field, tally_miss (same field.0 (name_text name)) other);
 }
 
 -- the first field of a name is the only one so far
-new : (name : QuickName) (fields : List Pair) (text : List ℕ) (found : Bor (List ℕ)) → same text (quick_name name) ≡ true
+new : (name : FieldName) (fields : List Pair) (text : List ℕ) (found : Bor (List ℕ)) → same text (name_text name) ≡ true
     → IsValueOf name fields None → IsValueOf name (fields ++ (text, found.now) ∷ []) (Some found)
 new name fields text found hit is =
-    let word = quick_name name in
+    let word = name_text name in
     let none : count_of word fields ≤ 0 = ltb-false 0 (count_of word fields) (sym (some_counts word fields) ∙ ap is_some (sym is.first)) in
     record {
       first = sym (first_new word fields (text, found.now) hit is.first);
@@ -105,10 +106,10 @@ new name fields text found hit is =
     }
 
 -- of a name that may repeat the first value stays
-again : (name : QuickName) (fields : List Pair) (field : Pair) (found : Option (Bor (List ℕ))) → may_repeat name ≡ true
+again : (name : FieldName) (fields : List Pair) (field : Pair) (found : Option (Bor (List ℕ))) → may_repeat name ≡ true
     → is_some found ≡ true → IsValueOf name fields found → IsValueOf name (fields ++ field ∷ []) found
 again name fields field found may some is =
-    let stays = first_stays (quick_name name) fields field (ap is_some (sym is.first) ∙ mapped found some) in
+    let stays = first_stays (name_text name) fields field (ap is_some (sym is.first) ∙ mapped found some) in
     record { first = is.first ∙ sym stays; alone = λ once. absurd (cc (may, once)) }
   where
     mapped : (value : Option (Bor (List ℕ))) → is_some value ≡ true → is_some (option_map (λ (text : Bor (List ℕ)). text.now) value) ≡ true
@@ -117,66 +118,66 @@ again name fields field found may some is =
 
 -- a field of none of the names
 pub other_added : (fields : List Pair) (text found : List ℕ) (values : List (Option (Bor (List ℕ))))
-    → ((name : QuickName) → same text (quick_name name) ≡ false) → AreValues fields values
+    → ((name : FieldName) → same text (name_text name) ≡ false) → AreValues fields values
     → AreValues (fields ++ (text, found) ∷ []) values
 other_added fields text found values other are = record {
   room = are.room;
-  each = λ name. past name fields (text, found) (get_or values (quick_place name) None) (other name) (are.each name);
+  each = λ name. past name fields (text, found) (get_or values (name_place name) None) (other name) (are.each name);
 }
 
 -- one more field of a name that may repeat
-pub repeat_added : (fields : List Pair) (text found : List ℕ) (values : List (Option (Bor (List ℕ)))) (known : QuickName)
-    → text ≡ quick_name known → is_some (get_or values (quick_place known) None) ≡ true → may_repeat known ≡ true
+pub repeat_added : AreFieldNames → (fields : List Pair) (text found : List ℕ) (values : List (Option (Bor (List ℕ)))) (known : FieldName)
+    → text ≡ name_text known → is_some (get_or values (name_place known) None) ≡ true → may_repeat known ≡ true
     → AreValues fields values → AreValues (fields ++ (text, found) ∷ []) values
-repeat_added fields text found values known is some may are = record {
+repeat_added names fields text found values known is some may are = record {
   room = are.room;
-  each = λ name. by name (same text (quick_name name)) refl;
+  each = λ name. by name (same text (name_text name)) refl;
 }
   where
-    itself : same text (quick_name known) ≡ true
-    itself = ap (λ t. same t (quick_name known)) is ∙ same_as_itself known
+    itself : same text (name_text known) ≡ true
+    itself = ap (λ t. same t (name_text known)) is ∙ same_as_itself known
 
-    by : (name : QuickName) (b : Bool) → same text (quick_name name) ≡ b
-        → IsValueOf name (fields ++ (text, found) ∷ []) (get_or values (quick_place name) None)
+    by : (name : FieldName) (b : Bool) → same text (name_text name) ≡ b
+        → IsValueOf name (fields ++ (text, found) ∷ []) (get_or values (name_place name) None)
     by name true hit =
-        let eq : known ≡ name = names_apart text known name itself hit in
-        again name fields (text, found) (get_or values (quick_place name) None) (ap may_repeat (sym eq) ∙ may)
-        (ap (λ n. is_some (get_or values (quick_place n) None)) (sym eq) ∙ some) (are.each name)
-    by name false miss = past name fields (text, found) (get_or values (quick_place name) None) miss (are.each name)
+        let eq : known ≡ name = names.texts text known name itself hit in
+        again name fields (text, found) (get_or values (name_place name) None) (ap may_repeat (sym eq) ∙ may)
+        (ap (λ n. is_some (get_or values (name_place n) None)) (sym eq) ∙ some) (are.each name)
+    by name false miss = past name fields (text, found) (get_or values (name_place name) None) miss (are.each name)
 
 absent : (found : Option (Bor (List ℕ))) → is_some found ≡ false → found ≡ None
 absent None none = refl
 absent (Some text) none = absurd (cc)
 
 -- the first field of one of them
-module _ (fields : List Pair) (text : List ℕ) (found : Bor (List ℕ)) (values : List (Option (Bor (List ℕ)))) (known : QuickName)
-    (is : text ≡ quick_name known) (none : is_some (get_or values (quick_place known) None) ≡ false) (are : AreValues fields values) where
-  itself : same text (quick_name known) ≡ true
-  itself = ap (λ t. same t (quick_name known)) is ∙ same_as_itself known
+module _ (names : AreFieldNames) (fields : List Pair) (text : List ℕ) (found : Bor (List ℕ)) (values : List (Option (Bor (List ℕ)))) (known : FieldName)
+    (is : text ≡ name_text known) (none : is_some (get_or values (name_place known) None) ≡ false) (are : AreValues fields values) where
+  itself : same text (name_text known) ≡ true
+  itself = ap (λ t. same t (name_text known)) is ∙ same_as_itself known
 
-  each_added : (name : QuickName) → IsValueOf name (fields ++ (text, found.now) ∷ []) (get_or (set values (quick_place known) (Some found)) (quick_place name) None)
-  each_added name = by (same text (quick_name name)) refl
+  each_added : (name : FieldName) → IsValueOf name (fields ++ (text, found.now) ∷ []) (get_or (set values (name_place known) (Some found)) (name_place name) None)
+  each_added name = by (same text (name_text name)) refl
     where
       Goal : Type 0
-      Goal = IsValueOf name (fields ++ (text, found.now) ∷ []) (get_or (set values (quick_place known) (Some found)) (quick_place name) None)
+      Goal = IsValueOf name (fields ++ (text, found.now) ∷ []) (get_or (set values (name_place known) (Some found)) (name_place name) None)
 
-      by : (b : Bool) → same text (quick_name name) ≡ b → Goal
+      by : (b : Bool) → same text (name_text name) ≡ b → Goal
       by true hit =
-          let eq : known ≡ name = names_apart text known name itself hit in
-          let within : quick_place known < length values = omega (arith, are.room, place_within known) in
-          let there : get_or (set values (quick_place known) (Some found)) (quick_place name) None ≡ Some found =
-          ap (λ n. get_or (set values (quick_place known) (Some found)) (quick_place n) None) (sym eq)
-          ∙ get_or-set_same values (quick_place known) (Some found) None within in
-          let before : get_or values (quick_place name) None ≡ None =
-          ap (λ n. get_or values (quick_place n) None) (sym eq) ∙ absent _ none in
+          let eq : known ≡ name = names.texts text known name itself hit in
+          let within : name_place known < length values = omega (arith, are.room, names.within known) in
+          let there : get_or (set values (name_place known) (Some found)) (name_place name) None ≡ Some found =
+          ap (λ n. get_or (set values (name_place known) (Some found)) (name_place n) None) (sym eq)
+          ∙ get_or-set_same values (name_place known) (Some found) None within in
+          let before : get_or values (name_place name) None ≡ None =
+          ap (λ n. get_or values (name_place n) None) (sym eq) ∙ absent _ none in
           rw there (new name fields text found hit (rw before at (are.each name)))
       by false miss =
-          let apart : quick_place name ≢ quick_place known = λ e. cc (miss, itself, of_place name known e) in
-          rw (get_or-set_other values (quick_place known) (quick_place name) (Some found) None apart)
-          (past name fields (text, found.now) (get_or values (quick_place name) None) miss (are.each name))
+          let apart : name_place name ≢ name_place known = λ e. cc (miss, itself, names.places name known e) in
+          rw (get_or-set_other values (name_place known) (name_place name) (Some found) None apart)
+          (past name fields (text, found.now) (get_or values (name_place name) None) miss (are.each name))
 
-  pub known_added : AreValues (fields ++ (text, found.now) ∷ []) (set values (quick_place known) (Some found))
-  known_added = record { room = length-set values (quick_place known) (Some found) ∙ are.room; each = each_added }
+  pub known_added : AreValues (fields ++ (text, found.now) ∷ []) (set values (name_place known) (Some found))
+  known_added = record { room = length-set values (name_place known) (Some found) ∙ are.room; each = each_added }
 
 -- the fields so far, and one more
 pub fields_more : (text rest : List ℕ) (values : List (Option (Bor (List ℕ)))) (line : Line) (so_far : BeginsWithFields text values rest)

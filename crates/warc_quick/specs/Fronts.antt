@@ -6,8 +6,9 @@ use Rattle.warc_frame.specs.Record.{head_text}
 use Rattle.warc_quick.specs.Quick.{IsQuickHead}
 use Rattle.warc_quick.specs.declared.head.QuickHead.{QuickHead}
 use Rattle.warc_quick.specs.declared.lines.Line.{Line}
-use Rattle.warc_quick.specs.declared.names.QuickName.{QuickName}
-use Rattle.warc_quick.specs.Names.{IsNaming, may_repeat, quick_count, quick_name, quick_place}
+use Rattle.warc_frame.specs.FieldNames.{name_count, name_place, name_text}
+use Rattle.warc_frame.specs.declared.field_name.FieldName.{FieldName}
+use Rattle.warc_quick.specs.Names.{IsNaming, may_repeat}
 
 -- a text begins with the line of a field, which has such a name, and this follows
 pub record BeginsWithLine (text : List ℕ) (line : Line) : Type 0 where
@@ -17,14 +18,14 @@ pub record BeginsWithLine (text : List ℕ) (line : Line) : Type 0 where
   pub text_is : text ≡ bytes ++ line.more.now
 
 -- the value of the first field of a name, or none where no field has the name; only a name that may repeat has another
-pub record IsValueOf (name : QuickName) (fields : List Pair) (value : Option (Bor (List ℕ))) : Type 0 where
-  pub first : option_map (λ (text : Bor (List ℕ)). text.now) value ≡ first_value (quick_name name) fields
-  pub alone : may_repeat name ≡ false → count_of (quick_name name) fields ≤ 1
+pub record IsValueOf (name : FieldName) (fields : List Pair) (value : Option (Bor (List ℕ))) : Type 0 where
+  pub first : option_map (λ (text : Bor (List ℕ)). text.now) value ≡ first_value (name_text name) fields
+  pub alone : may_repeat name ≡ false → count_of (name_text name) fields ≤ 1
 
 -- each name has at its place the value of its first field
 pub record AreValues (fields : List Pair) (values : List (Option (Bor (List ℕ)))) : Type 0 where
-  pub room : length values ≡ quick_count
-  pub each : (name : QuickName) → IsValueOf name fields (get_or values (quick_place name) None)
+  pub room : length values ≡ name_count
+  pub each : (name : FieldName) → IsValueOf name fields (get_or values (name_place name) None)
 
 -- a text begins with the lines of fields that have these values, and this follows
 pub record BeginsWithFields (text : List ℕ) (values : List (Option (Bor (List ℕ)))) (more : List ℕ) : Type 0 where

@@ -5,8 +5,9 @@ use Rattle.warc_record.specs.declared.types.Kind.{Kind}
 use Rattle.warc_record.specs.Findings.{stands}
 use Rattle.warc_record.specs.Kinds.{is_known, is_revisit, is_continuation}
 use Rattle.warc_record.specs.Table.{Rule, is_among}
-use Rattle.warc_quick.specs.declared.names.QuickName.{QuickName}
-use Rattle.warc_quick.specs.Names.{may_repeat, quick_name}
+use Rattle.warc_frame.specs.FieldNames.{name_text}
+use Rattle.warc_frame.specs.declared.field_name.FieldName.{FieldName}
+use Rattle.warc_quick.specs.Names.{may_repeat}
 
 -- a record keeps a rule of the field table: N1, N2 and N3 aren't found of its field
 pub record IsKept (kind : Kind) (fields : List Pair) (rule : Rule) : Type 0 where
@@ -15,8 +16,8 @@ pub record IsKept (kind : Kind) (fields : List Pair) (rule : Rule) : Type 0 wher
   pub repeats : rule.repeats ≡ false → count_of rule.name fields ≤ 1
 
 -- a rule is about the fields of a name
-pub record IsRuleOf (name : QuickName) (rule : Rule) : Type 0 where
-  pub name_is : rule.name ≡ quick_name name
+pub record IsRuleOf (name : FieldName) (rule : Rule) : Type 0 where
+  pub name_is : rule.name ≡ name_text name
   pub repeats_is : rule.repeats ≡ may_repeat name
 
 -- one of the eight kinds, of which nothing is asked but what the field table says

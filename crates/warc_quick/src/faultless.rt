@@ -2,24 +2,25 @@
 ghost use Rattle.std.specs.Prelude.{◌≡◌, ◌<◌, ◌≤◌, IfSome, List, [], false, true};
 ghost use Rattle.std.specs.List.{All};
 ghost use Rattle.warc_field.specs.Area.{Pair};
+ghost use Rattle.warc_frame.specs.declared.field_name.FieldName.{FieldName};
+ghost use Rattle.warc_frame.specs.FieldNames.{name_count, name_place, name_text};
 ghost use Rattle.warc_frame.specs.Record.{max_block};
 ghost use Rattle.warc_record.specs.declared.types.Kind.{Kind};
 ghost use Rattle.warc_record.specs.Findings.{lacks_content_type, not_utf8, stands};
 ghost use Rattle.warc_record.specs.Table.{rule_seen, rules};
 ghost use Rattle.warc_quick.specs.Faultless.{AreFaultless, IsFaultlessHead};
 ghost use Rattle.warc_quick.specs.Fronts.{AreValues};
-ghost use Rattle.warc_quick.specs.Names.{quick_count, quick_name, quick_place};
 ghost use Rattle.warc_quick.specs.Quick.{IsQuickHead, Says};
 ghost use Rattle.warc_quick.specs.Ruled.{IsKept, IsRuleOf, is_simple};
 
 use crate::head::{QuickHead, head_with_values};
-use crate::names::QuickName;
 use crate::values::Values;
+use warc_frame::FieldName;
 use warc_record::{FieldRule, Kind, bare, field_rules, is_among, stands_in_brackets};
 use warc_value::Wanted;
 
 /// The place of the first name of the field table, which is that of the target.
-const FIRST_RULED: usize = QuickName::TargetUri as usize;
+const FIRST_RULED: usize = FieldName::TargetUri as usize;
 
 /// Whether the kind is one of the eight, but no revisit and no continuation.
 fn is_simple(kind: Kind) -> bool
@@ -31,9 +32,9 @@ fn is_simple(kind: Kind) -> bool
 /// Whether the field whose name has this place is there. An empty value counts as absent, and so does a target whose
 /// bare text is empty.
 fn is_present(values: &Values<'_>, place: usize) -> bool
-    requires { place < quick_count }
-    ensures { (fields : List Pair) (name : QuickName) → AreValues fields values.now.values → quick_place name ≡ place
-        → result ≡ stands (quick_name name) fields }
+    requires { place < name_count }
+    ensures { (fields : List Pair) (name : FieldName) → AreValues fields values.now.values → name_place name ≡ place
+        → result ≡ stands (name_text name) fields }
 {
     let Some(value) = values.at(place) else {
         return false;
@@ -48,9 +49,9 @@ fn is_present(values: &Values<'_>, place: usize) -> bool
 /// Whether a record of this kind keeps the rule of the field whose name has this place. That no field repeats which
 /// may not is known of a plain head.
 fn keeps_rule(kind: Kind, rule: &FieldRule, values: &Values<'_>, place: usize) -> bool
-    requires { place < quick_count }
-    ensures { result ≡ true → (fields : List Pair) (name : QuickName) → AreValues fields values.now.values
-        → quick_place name ≡ place → IsRuleOf name (rule_seen rule.now) → IsKept kind fields (rule_seen rule.now) }
+    requires { place < name_count }
+    ensures { result ≡ true → (fields : List Pair) (name : FieldName) → AreValues fields values.now.values
+        → name_place name ≡ place → IsRuleOf name (rule_seen rule.now) → IsKept kind fields (rule_seen rule.now) }
 {
     if is_present(values, place) {
         !is_among(kind, rule.forbidden)
@@ -80,7 +81,7 @@ fn has_needed_type(block_len: u64, values: &Values<'_>) -> bool
     ensures { result ≡ true → (fields : List Pair) (kind : Kind) → AreValues fields values.now.values
         → lacks_content_type kind fields block_len ≡ false }
 {
-    block_len == 0 || !values.or_empty(QuickName::ContentType).is_empty()
+    block_len == 0 || !values.or_empty(FieldName::ContentType).is_empty()
 }
 
 /// Whether all that can be found of the record of a head with these values is that its digest differs, that its id is
@@ -93,7 +94,7 @@ fn is_faultless(head: &QuickHead<'_>, values: &Values<'_>) -> bool
     if !is_simple(kind) || !stands_in_brackets(head.texts.id) {
         return false;
     }
-    if !values.or_empty(QuickName::SegmentNumber).is_empty()
+    if !values.or_empty(FieldName::SegmentNumber).is_empty()
         || !has_needed_type(head.block_len, values)
     {
         return false;

@@ -15,11 +15,10 @@ ghost use Rattle.warc_quick.specs.Quick.{Says, IsQuickHead, max_quick_head};
 
 use crate::dates::is_plain_date;
 use crate::lines::first_line;
-use crate::names::QuickName;
 use crate::runs::{LANES, holds_no_id_end};
 use crate::values::Values;
 use warc_field::{decimal, is_name};
-use warc_frame::{MAX_BLOCK, MAX_HEAD, Version};
+use warc_frame::{FieldName, MAX_BLOCK, MAX_HEAD, Version};
 use warc_record::{HeadTexts, bare, is_bare_id};
 use warc_value::{Wanted, read_date};
 
@@ -133,9 +132,9 @@ fn names_nothing(values: &Values<'_>) -> bool
     ensures { (fields : List Pair) → AreValues fields values.now.values → result ≡ true
         → reference_of fields ≡ nothing_named }
 {
-    values.is_absent(QuickName::RefersTo)
-        & values.is_absent(QuickName::RefersToTargetUri)
-        & values.is_absent(QuickName::Profile)
+    values.is_absent(FieldName::RefersTo)
+        & values.is_absent(FieldName::RefersToTargetUri)
+        & values.is_absent(FieldName::Profile)
 }
 
 /// Whether nothing is said of segments.
@@ -143,9 +142,9 @@ fn has_no_segment(values: &Values<'_>) -> bool
     ensures { (fields : List Pair) → AreValues fields values.now.values → result ≡ true
         → segment_reading fields ≡ no_segment }
 {
-    values.is_absent(QuickName::SegmentNumber)
-        & values.is_absent(QuickName::SegmentOriginId)
-        & values.is_absent(QuickName::SegmentTotalLength)
+    values.is_absent(FieldName::SegmentNumber)
+        & values.is_absent(FieldName::SegmentOriginId)
+        & values.is_absent(FieldName::SegmentTotalLength)
 }
 
 /// What the fields of these values say, if their head is good.
@@ -155,16 +154,16 @@ fn good_head<'a>(len: usize, values: &Values<'a>) -> Option<QuickHead<'a>>
     ensures says { (fields : List Pair) → AreFields fields → AreValues fields values.now.values
         → IfSome result (Says fields) }
 {
-    let block_len = block_len(values.first(QuickName::ContentLength)?)?;
-    let kind = values.first(QuickName::Type)?;
+    let block_len = block_len(values.first(FieldName::ContentLength)?)?;
+    let kind = values.first(FieldName::Type)?;
     if !is_name(kind) {
         return None;
     }
-    let id = values.first(QuickName::RecordId)?;
+    let id = values.first(FieldName::RecordId)?;
     if !holds_id(id) {
         return None;
     }
-    let date = values.first(QuickName::Date)?;
+    let date = values.first(FieldName::Date)?;
     if !holds_date(date) {
         return None;
     }
@@ -175,11 +174,11 @@ fn good_head<'a>(len: usize, values: &Values<'a>) -> Option<QuickHead<'a>>
             kind,
             date,
             id,
-            target: bare(values.or_empty(QuickName::TargetUri)),
-            is_truncated: !values.or_empty(QuickName::Truncated).is_empty(),
+            target: bare(values.or_empty(FieldName::TargetUri)),
+            is_truncated: !values.or_empty(FieldName::Truncated).is_empty(),
         },
-        digest: values.or_empty(QuickName::BlockDigest),
-        payload_digest: values.or_empty(QuickName::PayloadDigest),
+        digest: values.or_empty(FieldName::BlockDigest),
+        payload_digest: values.or_empty(FieldName::PayloadDigest),
         is_alone: names_nothing(values) & has_no_segment(values),
         is_faultless: false,
     })

@@ -9,6 +9,7 @@ ghost use Rattle.warc_quick.specs.Fronts.{BeginsWithLine};
 use crate::names::{Naming, judge_name};
 use crate::runs::{find_colon, value_len};
 use warc_field::trim;
+use warc_frame::laws::are_field_names;
 
 /// A field that is on one line: its name, which of the names it is, its value, and what follows its line.
 #[derive(Clone, Copy)]
@@ -43,6 +44,7 @@ fn plain_value(rest: &[u8]) -> &[u8]
 pub(crate) fn first_line(text: &[u8]) -> Option<Line<'_>>
     ensures { IfSome result (BeginsWithLine text.now) }
 {
+    are_field_names();
     let colon = find_colon(text)?;
     let name = &text[..colon];
     let naming = judge_name(name)?;

@@ -1,88 +1,18 @@
 //! The names by which a head is read in place.
-ghost use Rattle.std.specs.Prelude.{◌≡◌, ◌↔◌, ◌+◌, ◌*◌, ◌<◌, ◌≤◌, IfSome, IsTrue, drop, false, length, slice_index, take};
+ghost use Rattle.std.specs.Prelude.{◌≡◌, ◌↔◌, ◌+◌, ◌*◌, ◌≤◌, IfSome, IsTrue, drop, false, length, take};
 ghost use Rattle.warc_field.specs.Text.{same};
-ghost use Rattle.std.specs.Char.{to_ascii_lowercase};
-ghost use Rattle.warc_quick.specs.Names.{quick_name, quick_place, quick_by, may_repeat, IsNaming};
+ghost use Rattle.warc_frame.specs.declared.field_name.FieldName.{FieldName};
+ghost use Rattle.warc_frame.specs.FieldNames.{name_text};
+ghost use Rattle.warc_quick.specs.Names.{may_repeat, IsNaming};
 
 use warc_field::is_name;
-use warc_frame::names;
-
-/// A name by which a head is read in place. After four that every head has they are those of the field table, in its
-/// order.
-#[derive(Clone, Copy, Debug, PartialEq, Eq)]
-pub(crate) enum QuickName {
-    Type,
-    RecordId,
-    Date,
-    ContentLength,
-    TargetUri,
-    ConcurrentTo,
-    IpAddress,
-    RefersTo,
-    RefersToTargetUri,
-    RefersToDate,
-    Filename,
-    Profile,
-    WarcinfoId,
-    SegmentNumber,
-    SegmentOriginId,
-    SegmentTotalLength,
-    BlockDigest,
-    PayloadDigest,
-    Truncated,
-    IdentifiedPayloadType,
-    ContentType,
-}
-
-/// How many there are.
-pub(crate) const COUNT: usize = QuickName::ContentType as usize + 1;
+use warc_frame::{FieldName, names};
 
 /// What a field's name is: one of these names, spelled as in the standard, or none of them in any case.
 #[derive(Clone, Copy, Debug, PartialEq, Eq)]
 pub(crate) enum Naming {
-    Known(QuickName),
+    Known(FieldName),
     Other,
-}
-
-/// The only name of this length whose eighth letter is this one, in lower case.
-fn candidate(len: usize, letter: u8) -> Option<QuickName>
-    ensures { result ≡ quick_by len letter }
-{
-    match (len, letter) {
-        (9, b'p') => Some(QuickName::Type),
-        (9, b't') => Some(QuickName::Date),
-        (12, b'-') => Some(QuickName::ContentType),
-        (12, b'o') => Some(QuickName::Profile),
-        (13, _) => Some(QuickName::Filename),
-        (14, b'c') => Some(QuickName::RecordId),
-        (14, b'-') => Some(QuickName::ContentLength),
-        (14, b'f') => Some(QuickName::RefersTo),
-        (14, b'u') => Some(QuickName::Truncated),
-        (15, b'r') => Some(QuickName::TargetUri),
-        (15, b'-') => Some(QuickName::IpAddress),
-        (16, _) => Some(QuickName::WarcinfoId),
-        (17, _) => Some(QuickName::BlockDigest),
-        (18, _) => Some(QuickName::ConcurrentTo),
-        (19, b'f') => Some(QuickName::RefersToDate),
-        (19, b'g') => Some(QuickName::SegmentNumber),
-        (19, b'y') => Some(QuickName::PayloadDigest),
-        (22, _) => Some(QuickName::SegmentOriginId),
-        (25, b'f') => Some(QuickName::RefersToTargetUri),
-        (25, b'g') => Some(QuickName::SegmentTotalLength),
-        (28, _) => Some(QuickName::IdentifiedPayloadType),
-        _ => None,
-    }
-}
-
-/// The eighth letter of a text in lower case, or 0 if it is shorter.
-fn eighth(text: &[u8]) -> u8
-    ensures { result ≡ to_ascii_lowercase (slice_index text.now 7) }
-{
-    if text.len() > 7 {
-        text[7].to_ascii_lowercase()
-    } else {
-        0
-    }
 }
 
 /// How many bytes of a name are compared together.
@@ -115,94 +45,49 @@ fn is_same(text: &[u8], name: &[u8]) -> bool
         & have_same_part(text, name, last)
 }
 
-impl QuickName {
-    /// The name, as the standard writes it.
-    fn text(self) -> &'static str
-        ensures { result.now ≡ quick_name self }
-    {
-        match self {
-            QuickName::Type => names::WARC_TYPE,
-            QuickName::RecordId => names::WARC_RECORD_ID,
-            QuickName::Date => names::WARC_DATE,
-            QuickName::ContentLength => names::CONTENT_LENGTH,
-            QuickName::TargetUri => names::WARC_TARGET_URI,
-            QuickName::ConcurrentTo => names::WARC_CONCURRENT_TO,
-            QuickName::IpAddress => names::WARC_IP_ADDRESS,
-            QuickName::RefersTo => names::WARC_REFERS_TO,
-            QuickName::RefersToTargetUri => names::WARC_REFERS_TO_TARGET_URI,
-            QuickName::RefersToDate => names::WARC_REFERS_TO_DATE,
-            QuickName::Filename => names::WARC_FILENAME,
-            QuickName::Profile => names::WARC_PROFILE,
-            QuickName::WarcinfoId => names::WARC_WARCINFO_ID,
-            QuickName::SegmentNumber => names::WARC_SEGMENT_NUMBER,
-            QuickName::SegmentOriginId => names::WARC_SEGMENT_ORIGIN_ID,
-            QuickName::SegmentTotalLength => names::WARC_SEGMENT_TOTAL_LENGTH,
-            QuickName::BlockDigest => names::WARC_BLOCK_DIGEST,
-            QuickName::PayloadDigest => names::WARC_PAYLOAD_DIGEST,
-            QuickName::Truncated => names::WARC_TRUNCATED,
-            QuickName::IdentifiedPayloadType => names::WARC_IDENTIFIED_PAYLOAD_TYPE,
-            QuickName::ContentType => names::CONTENT_TYPE,
-        }
+/// Whether a text is this name, as the standard writes it.
+#[inline(always)]
+fn is_spelled(name: FieldName, text: &[u8]) -> bool
+    ensures { IsTrue result ↔ (text.now ≡ name_text name) }
+{
+    match name {
+        FieldName::Type => is_same(text, names::WARC_TYPE.as_bytes()),
+        FieldName::RecordId => is_same(text, names::WARC_RECORD_ID.as_bytes()),
+        FieldName::Date => is_same(text, names::WARC_DATE.as_bytes()),
+        FieldName::ContentLength => is_same(text, names::CONTENT_LENGTH.as_bytes()),
+        FieldName::TargetUri => is_same(text, names::WARC_TARGET_URI.as_bytes()),
+        FieldName::ConcurrentTo => is_same(text, names::WARC_CONCURRENT_TO.as_bytes()),
+        FieldName::IpAddress => is_same(text, names::WARC_IP_ADDRESS.as_bytes()),
+        FieldName::RefersTo => is_same(text, names::WARC_REFERS_TO.as_bytes()),
+        FieldName::RefersToTargetUri => is_same(text, names::WARC_REFERS_TO_TARGET_URI.as_bytes()),
+        FieldName::RefersToDate => is_same(text, names::WARC_REFERS_TO_DATE.as_bytes()),
+        FieldName::Filename => is_same(text, names::WARC_FILENAME.as_bytes()),
+        FieldName::Profile => is_same(text, names::WARC_PROFILE.as_bytes()),
+        FieldName::WarcinfoId => is_same(text, names::WARC_WARCINFO_ID.as_bytes()),
+        FieldName::SegmentNumber => is_same(text, names::WARC_SEGMENT_NUMBER.as_bytes()),
+        FieldName::SegmentOriginId => is_same(text, names::WARC_SEGMENT_ORIGIN_ID.as_bytes()),
+        FieldName::SegmentTotalLength => is_same(text, names::WARC_SEGMENT_TOTAL_LENGTH.as_bytes()),
+        FieldName::BlockDigest => is_same(text, names::WARC_BLOCK_DIGEST.as_bytes()),
+        FieldName::PayloadDigest => is_same(text, names::WARC_PAYLOAD_DIGEST.as_bytes()),
+        FieldName::Truncated => is_same(text, names::WARC_TRUNCATED.as_bytes()),
+        FieldName::IdentifiedPayloadType => is_same(
+            text,
+            names::WARC_IDENTIFIED_PAYLOAD_TYPE.as_bytes(),
+        ),
+        FieldName::ContentType => is_same(text, names::CONTENT_TYPE.as_bytes()),
     }
+}
 
-    /// Whether a text is this name, as the standard writes it.
-    #[inline(always)]
-    fn is(self, text: &[u8]) -> bool
-        ensures { IsTrue result ↔ (text.now ≡ quick_name self) }
-    {
-        match self {
-            QuickName::Type => is_same(text, names::WARC_TYPE.as_bytes()),
-            QuickName::RecordId => is_same(text, names::WARC_RECORD_ID.as_bytes()),
-            QuickName::Date => is_same(text, names::WARC_DATE.as_bytes()),
-            QuickName::ContentLength => is_same(text, names::CONTENT_LENGTH.as_bytes()),
-            QuickName::TargetUri => is_same(text, names::WARC_TARGET_URI.as_bytes()),
-            QuickName::ConcurrentTo => is_same(text, names::WARC_CONCURRENT_TO.as_bytes()),
-            QuickName::IpAddress => is_same(text, names::WARC_IP_ADDRESS.as_bytes()),
-            QuickName::RefersTo => is_same(text, names::WARC_REFERS_TO.as_bytes()),
-            QuickName::RefersToTargetUri => is_same(
-                text,
-                names::WARC_REFERS_TO_TARGET_URI.as_bytes(),
-            ),
-            QuickName::RefersToDate => is_same(text, names::WARC_REFERS_TO_DATE.as_bytes()),
-            QuickName::Filename => is_same(text, names::WARC_FILENAME.as_bytes()),
-            QuickName::Profile => is_same(text, names::WARC_PROFILE.as_bytes()),
-            QuickName::WarcinfoId => is_same(text, names::WARC_WARCINFO_ID.as_bytes()),
-            QuickName::SegmentNumber => is_same(text, names::WARC_SEGMENT_NUMBER.as_bytes()),
-            QuickName::SegmentOriginId => is_same(text, names::WARC_SEGMENT_ORIGIN_ID.as_bytes()),
-            QuickName::SegmentTotalLength => is_same(
-                text,
-                names::WARC_SEGMENT_TOTAL_LENGTH.as_bytes(),
-            ),
-            QuickName::BlockDigest => is_same(text, names::WARC_BLOCK_DIGEST.as_bytes()),
-            QuickName::PayloadDigest => is_same(text, names::WARC_PAYLOAD_DIGEST.as_bytes()),
-            QuickName::Truncated => is_same(text, names::WARC_TRUNCATED.as_bytes()),
-            QuickName::IdentifiedPayloadType => is_same(
-                text,
-                names::WARC_IDENTIFIED_PAYLOAD_TYPE.as_bytes(),
-            ),
-            QuickName::ContentType => is_same(text, names::CONTENT_TYPE.as_bytes()),
-        }
-    }
-
-    /// Whether the field table lets it occur more than once.
-    pub(crate) fn may_repeat(self) -> bool
-        ensures { result ≡ may_repeat self }
-    {
-        self == QuickName::ConcurrentTo
-    }
-
-    /// Its place among these names.
-    pub(crate) fn place(self) -> usize
-        ensures place { result ≡ quick_place self }
-        ensures within { result < COUNT }
-    {
-        self as usize
-    }
+/// Whether the field table lets it occur more than once.
+pub(crate) fn may_repeat(name: FieldName) -> bool
+    ensures { result ≡ may_repeat name }
+{
+    name == FieldName::ConcurrentTo
 }
 
 /// A text that none of these names is in any case, if it is a name.
 fn other_name(text: &[u8]) -> Option<Naming>
-    requires { (name : QuickName) → same text.now (quick_name name) ≡ false }
+    requires { (name : FieldName) → same text.now (name_text name) ≡ false }
     ensures { IfSome result (IsNaming text.now) }
 {
     if is_name(text) {
@@ -216,10 +101,10 @@ fn other_name(text: &[u8]) -> Option<Naming>
 pub(crate) fn judge_name(text: &[u8]) -> Option<Naming>
     ensures { IfSome result (IsNaming text.now) }
 {
-    let Some(known) = candidate(text.len(), eighth(text)) else {
+    let Some(known) = FieldName::candidate(text) else {
         return other_name(text);
     };
-    if known.is(text) {
+    if is_spelled(known, text) {
         return Some(Naming::Known(known));
     }
     if text.eq_ignore_ascii_case(known.text().as_bytes()) {

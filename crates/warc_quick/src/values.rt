@@ -1,16 +1,20 @@
 //! The values of the fields by which a head is read in place.
 ghost use Rattle.std.specs.Prelude.{◌≡◌, ◌∷◌, ◌++◌, [], ◌<◌, true, List, None, get_or, unwrap_or};
 ghost use Rattle.warc_field.specs.Area.{Pair, first_value};
-ghost use Rattle.warc_quick.specs.Names.{IsNaming, quick_name};
+ghost use Rattle.warc_frame.specs.declared.field_name.FieldName.{FieldName};
+ghost use Rattle.warc_frame.specs.FieldNames.{name_text};
+ghost use Rattle.warc_quick.specs.Names.{IsNaming};
 ghost use Rattle.warc_quick.specs.Fronts.{AreValues, IsValueOf};
 
 use crate::lines::Line;
-use crate::names::{COUNT, Naming, QuickName};
+use crate::names::{Naming, may_repeat};
+use warc_frame::laws::are_field_names;
+use warc_frame::{FieldName, NAME_COUNT};
 
 /// The value of the first field of each name. Of a name that may not repeat it is the only one.
 #[derive(Clone, Copy)]
 pub(crate) struct Values<'a> {
-    values: [Option<&'a [u8]>; COUNT],
+    values: [Option<&'a [u8]>; NAME_COUNT],
 }
 
 impl<'a> Values<'a> {
@@ -19,7 +23,7 @@ impl<'a> Values<'a> {
         ensures { AreValues [] result.values }
     {
         Values {
-            values: [None; COUNT],
+            values: [None; NAME_COUNT],
         }
     }
 
@@ -29,13 +33,14 @@ impl<'a> Values<'a> {
         ensures { (fields : List Pair) → AreValues fields self.old.values → result ≡ true
             → AreValues (fields ++ (line.now.name.now, line.now.value.now) ∷ []) self.new.values }
     {
+        are_field_names();
         let name = match line.naming {
             Naming::Known(name) => name,
             Naming::Other => return true,
         };
         let place = name.place();
         if self.values[place].is_some() {
-            return name.may_repeat();
+            return may_repeat(name);
         }
         self.values[place] = Some(line.value);
         true
@@ -43,31 +48,31 @@ impl<'a> Values<'a> {
 
     /// The value of the first field of the name that has this place.
     pub(crate) fn at(&self, place: usize) -> Option<&'a [u8]>
-        requires { place < COUNT }
+        requires { place < NAME_COUNT }
         ensures { result ≡ get_or self.now.values place None }
     {
         self.values[place]
     }
 
     /// The value of the first field of a name.
-    pub(crate) fn first(&self, name: QuickName) -> Option<&'a [u8]>
+    pub(crate) fn first(&self, name: FieldName) -> Option<&'a [u8]>
         ensures { (fields : List Pair) → AreValues fields self.now.values → IsValueOf name fields result }
     {
         self.values[name.place()]
     }
 
     /// Whether no field has a name.
-    pub(crate) fn is_absent(&self, name: QuickName) -> bool
+    pub(crate) fn is_absent(&self, name: FieldName) -> bool
         ensures { (fields : List Pair) → AreValues fields self.now.values → result ≡ true
-            → first_value (quick_name name) fields ≡ None }
+            → first_value (name_text name) fields ≡ None }
     {
         self.first(name).is_none()
     }
 
     /// The value of the first field of a name, empty if there is none.
-    pub(crate) fn or_empty(&self, name: QuickName) -> &'a [u8]
+    pub(crate) fn or_empty(&self, name: FieldName) -> &'a [u8]
         ensures { (fields : List Pair) → AreValues fields self.now.values
-            → result.now ≡ unwrap_or (first_value (quick_name name) fields) [] }
+            → result.now ≡ unwrap_or (first_value (name_text name) fields) [] }
     {
         match self.first(name) {
             Some(value) => value,

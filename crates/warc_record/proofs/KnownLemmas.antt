@@ -1,99 +1,18 @@
--- The names that a head is read by, told apart; and what is kept of their fields.
-use Rattle.std.proofs.Common.{◌≡◌, ◌≢◌, ℕ, ◌+◌, ◌<◌, ◌≤◌, Bool, true, false, List, [], ◌∷◌, ◌++◌, ◌==◌, length, length-append, nat_lt, cond, find, slice_index, get_or, set, replicate, Option, Some, None, is_some, option_map, refl, sym, ap, ◌∙◌, arith, if◌then◌else◌}
-use Rattle.std.specs.Char.{to_ascii_lowercase}
-use Rattle.std.proofs.Math.ListN.{get_or-map}
-use Rattle.std.proofs.lemmas.List.{length-map, get_or_append_left, get_or-replicate, get_or-set_same, get_or-set_other}
+-- What is kept of the fields of a head, by their names.
+use Rattle.std.proofs.Common.{◌≡◌, ◌≢◌, ℕ, ◌+◌, ◌<◌, ◌≤◌, Bool, true, false, List, [], ◌∷◌, ◌++◌, length, length-append, nat_lt, cond, find, get_or, set, replicate, Option, Some, None, is_some, option_map, refl, sym, ap, ◌∙◌, arith, if◌then◌else◌}
+use Rattle.std.proofs.lemmas.List.{get_or_append_left, get_or-replicate, get_or-set_same, get_or-set_other}
 use Rattle.std.proofs.Math.Seq.{get_or-append_seam}
 use Rattle.std.proofs.lemmas.Option.{slice_get-get_or}
 use Rattle.std.proofs.lemmas.Bool.{ltb-true, lt-ltb, le-ltb, ltb-false}
 use Rattle.std.specs.List.{slice_get}
 use Rattle.std.proofs.lemmas.List.Sums.{sum_by-append, sum_by-cons}
-use Rattle.std.proofs.lemmas.Slice.Eq.{bytes_eq-Decides}
 use Rattle.warc_field.specs.Area.{Pair, first_value, count_of}
-use Rattle.warc_field.specs.Text.{same, lower}
-use Rattle.warc_record.specs.declared.known.Known.{Known}
-use Rattle.warc_record.specs.declared.known.Known.TheVariants.{«Type», RecordId, Date, TargetUri, ConcurrentTo, IpAddress, RefersTo, RefersToTargetUri, RefersToDate, Filename, Profile, WarcinfoId, SegmentNumber, SegmentOriginId, SegmentTotalLength, BlockDigest, PayloadDigest, Truncated, IdentifiedPayloadType, ContentType}
+use Rattle.warc_field.specs.Text.{same}
+use Rattle.warc_frame.specs.declared.field_name.FieldName.{FieldName}
+use Rattle.warc_frame.specs.FieldNames.{AreFieldNames, name_count, name_place, name_text}
 use Rattle.warc_record.specs.declared.known.Spot.{Spot}
 use Rattle.warc_record.specs.declared.known.Spot.TheVariants.{Absent, Once, Repeated}
-use Rattle.warc_record.specs.Known.{known_name, known_place, known_by, next_spot, spot_value, IsSpotOf, IsWithin, AreSpots}
-
--- each name is the one that its length and its eighth letter tell
-told : (known : Known) → known_by (length (known_name known)) (to_ascii_lowercase (slice_index (known_name known) 7)) ≡ Some known
-told «Type» = refl
-told RecordId = refl
-told Date = refl
-told TargetUri = refl
-told ConcurrentTo = refl
-told IpAddress = refl
-told RefersTo = refl
-told RefersToTargetUri = refl
-told RefersToDate = refl
-told Filename = refl
-told Profile = refl
-told WarcinfoId = refl
-told SegmentNumber = refl
-told SegmentOriginId = refl
-told SegmentTotalLength = refl
-told BlockDigest = refl
-told PayloadDigest = refl
-told Truncated = refl
-told IdentifiedPayloadType = refl
-told ContentType = refl
-
-lower_of : (a b : List ℕ) → same a b ≡ true → lower a ≡ lower b
-lower_of a b is = (bytes_eq-Decides (lower a) (lower b)).0 is
-
-length_of : (a b : List ℕ) → lower a ≡ lower b → length a ≡ length b
-length_of a b is = sym (length-map a to_ascii_lowercase) ∙ ap length is ∙ length-map b to_ascii_lowercase
-
-eighth_of : (a b : List ℕ) → lower a ≡ lower b → to_ascii_lowercase (slice_index a 7) ≡ to_ascii_lowercase (slice_index b 7)
-eighth_of a b is =
-    sym (get_or-map to_ascii_lowercase a 7 0) ∙ ap (λ t. slice_index t 7) is ∙ get_or-map to_ascii_lowercase b 7 0
-
--- a text that is a known name tells it
-pub candidate_is : (text : List ℕ) (known : Known) → same text (known_name known) ≡ true
-    → known_by (length text) (to_ascii_lowercase (slice_index text 7)) ≡ Some known
-candidate_is text known is =
-    let low = lower_of text (known_name known) is in
-    ap (λ n. known_by n (to_ascii_lowercase (slice_index text 7))) (length_of text (known_name known) low)
-    ∙ ap (known_by (length (known_name known))) (eighth_of text (known_name known) low)
-    ∙ told known
-
--- a known name is at one place
-abbrev at_place : ℕ → Known
-at_place place =
-    if place == 0 then «Type» else if place == 1 then RecordId else if place == 2 then Date else if place == 3 then TargetUri
-    else if place == 4 then ConcurrentTo else if place == 5 then IpAddress else if place == 6 then RefersTo
-    else if place == 7 then RefersToTargetUri else if place == 8 then RefersToDate else if place == 9 then Filename
-    else if place == 10 then Profile else if place == 11 then WarcinfoId else if place == 12 then SegmentNumber
-    else if place == 13 then SegmentOriginId else if place == 14 then SegmentTotalLength else if place == 15 then BlockDigest
-    else if place == 16 then PayloadDigest else if place == 17 then Truncated else if place == 18 then IdentifiedPayloadType
-    else ContentType
-
-placed : (known : Known) → at_place (known_place known) ≡ known
-placed «Type» = refl
-placed RecordId = refl
-placed Date = refl
-placed TargetUri = refl
-placed ConcurrentTo = refl
-placed IpAddress = refl
-placed RefersTo = refl
-placed RefersToTargetUri = refl
-placed RefersToDate = refl
-placed Filename = refl
-placed Profile = refl
-placed WarcinfoId = refl
-placed SegmentNumber = refl
-placed SegmentOriginId = refl
-placed SegmentTotalLength = refl
-placed BlockDigest = refl
-placed PayloadDigest = refl
-placed Truncated = refl
-placed IdentifiedPayloadType = refl
-placed ContentType = refl
-
-of_place : (a b : Known) → known_place a ≡ known_place b → a ≡ b
-of_place a b is = sym (placed a) ∙ ap at_place is ∙ placed b
+use Rattle.warc_record.specs.Known.{next_spot, spot_value, IsSpotOf, IsWithin, AreSpots}
 
 -- what one more field changes
 first_push : (name : List ℕ) (fields : List Pair) (field : Pair)
@@ -227,57 +146,36 @@ not_true false not = refl
 
 -- a field of none of the names
 pub other_added : (fields : List Pair) (name value : List ℕ) (spots : List Spot)
-    → ((known : Known) → same name (known_name known) ≡ true → ⊥) → AreSpots fields spots → AreSpots (fields ++ (name, value) ∷ []) spots
+    → ((known : FieldName) → same name (name_text known) ≡ true → ⊥) → AreSpots fields spots → AreSpots (fields ++ (name, value) ∷ []) spots
 other_added fields name value spots other are known =
-    spot_missed (known_name known) fields (name, value) (get_or spots (known_place known) Absent) (not_true (same name (known_name known)) (other known)) (are known)
+    spot_missed (name_text known) fields (name, value) (get_or spots (name_place known) Absent) (not_true (same name (name_text known)) (other known)) (are known)
 
 -- a field of one of them
-pub known_added : (fields : List Pair) (name value : List ℕ) (spots : List Spot) (one : Known) (spot : Spot)
-    → same name (known_name one) ≡ true → ((known : Known) → same name (known_name known) ≡ true → one ≡ known)
-    → known_place one < length spots → spot ≡ next_spot (get_or spots (known_place one) Absent) (length fields)
-    → AreSpots fields spots → AreSpots (fields ++ (name, value) ∷ []) (set spots (known_place one) spot)
-known_added fields name value spots one spot is only lt next are known = by (same name (known_name known)) refl
+pub known_added : AreFieldNames → (fields : List Pair) (name value : List ℕ) (spots : List Spot) (one : FieldName) (spot : Spot)
+    → same name (name_text one) ≡ true → ((known : FieldName) → same name (name_text known) ≡ true → one ≡ known)
+    → name_place one < length spots → spot ≡ next_spot (get_or spots (name_place one) Absent) (length fields)
+    → AreSpots fields spots → AreSpots (fields ++ (name, value) ∷ []) (set spots (name_place one) spot)
+known_added names fields name value spots one spot is only lt next are known = by (same name (name_text known)) refl
   where
     Goal : Type 0
-    Goal = IsSpotOf (known_name known) (fields ++ (name, value) ∷ []) (get_or (set spots (known_place one) spot) (known_place known) Absent)
+    Goal = IsSpotOf (name_text known) (fields ++ (name, value) ∷ []) (get_or (set spots (name_place one) spot) (name_place known) Absent)
 
-    by : (b : Bool) → same name (known_name known) ≡ b → Goal
+    by : (b : Bool) → same name (name_text known) ≡ b → Goal
     by true hit =
         let eq = only known hit in
-        let there : get_or (set spots (known_place one) spot) (known_place known) Absent ≡ next_spot (get_or spots (known_place known) Absent) (length fields) =
-        ap (λ k. get_or (set spots (known_place one) spot) (known_place k) Absent) (sym eq)
-        ∙ get_or-set_same spots (known_place one) spot Absent lt ∙ next
-        ∙ ap (λ k. next_spot (get_or spots (known_place k) Absent) (length fields)) eq in
-        rw there (spot_hit (known_name known) fields (name, value) (get_or spots (known_place known) Absent) hit (are known))
+        let there : get_or (set spots (name_place one) spot) (name_place known) Absent ≡ next_spot (get_or spots (name_place known) Absent) (length fields) =
+        ap (λ k. get_or (set spots (name_place one) spot) (name_place k) Absent) (sym eq)
+        ∙ get_or-set_same spots (name_place one) spot Absent lt ∙ next
+        ∙ ap (λ k. next_spot (get_or spots (name_place k) Absent) (length fields)) eq in
+        rw there (spot_hit (name_text known) fields (name, value) (get_or spots (name_place known) Absent) hit (are known))
     by false miss =
-        let apart : known_place known ≢ known_place one = λ e. cc (miss, is, of_place known one e) in
-        rw (get_or-set_other spots (known_place one) (known_place known) spot Absent apart) (spot_missed (known_name known) fields (name, value) (get_or spots (known_place known) Absent) miss (are known))
-
-below : (known : Known) → known_place known < 20
-below «Type» = omega arith
-below RecordId = omega arith
-below Date = omega arith
-below TargetUri = omega arith
-below ConcurrentTo = omega arith
-below IpAddress = omega arith
-below RefersTo = omega arith
-below RefersToTargetUri = omega arith
-below RefersToDate = omega arith
-below Filename = omega arith
-below Profile = omega arith
-below WarcinfoId = omega arith
-below SegmentNumber = omega arith
-below SegmentOriginId = omega arith
-below SegmentTotalLength = omega arith
-below BlockDigest = omega arith
-below PayloadDigest = omega arith
-below Truncated = omega arith
-below IdentifiedPayloadType = omega arith
-below ContentType = omega arith
+        let apart : name_place known ≢ name_place one = λ e. cc (miss, is, names.places known one e) in
+        rw (get_or-set_other spots (name_place one) (name_place known) spot Absent apart) (spot_missed (name_text known) fields (name, value) (get_or spots (name_place known) Absent) miss (are known))
 
 absent : (name : List ℕ) → IsSpotOf name [] Absent
 absent name = record { within = tt; first = refl; again = refl }
 
 -- of no fields each spot is absent
-pub none_added : AreSpots [] (replicate 20 Absent)
-none_added known = rw (get_or-replicate 20 (known_place known) Absent Absent (below known)) (absent (known_name known))
+pub none_added : AreFieldNames → AreSpots [] (replicate name_count Absent)
+none_added names known =
+    rw (get_or-replicate name_count (name_place known) Absent Absent (names.within known)) (absent (name_text known))

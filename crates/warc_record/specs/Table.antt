@@ -6,7 +6,7 @@ use Rattle.warc_frame.specs.Names.{content_type, warc_target_uri, warc_concurren
 use Rattle.warc_record.specs.declared.types.Kind.{Kind}
 use Rattle.warc_record.specs.declared.types.Kind.TheVariants.{Warcinfo, Response, Resource, Request, Metadata, Revisit, Conversion, Continuation, Other}
 use Rattle.warc_record.specs.declared.table.FieldRule.{FieldRule}
-use Rattle.warc_record.specs.Known.{known_name}
+use Rattle.warc_frame.specs.FieldNames.{name_text}
 
 pub record Rule : Type 0 where
   pub name : List ℕ
@@ -72,7 +72,7 @@ rules =
 -- a row of the table in code
 abbrev pub rule_seen : FieldRule → Rule
 rule_seen row = record {
-  name = known_name row.known;
+  name = name_text row.field;
   required = row.required.now;
   forbidden = row.forbidden.now;
   repeats = row.repeats;

@@ -4,12 +4,12 @@ ghost use Rattle.std.specs.Option.{option_copied};
 ghost use Rattle.std.specs.Str.{is_utf8};
 ghost use Rattle.warc_record.specs.Kinds.{is_known};
 ghost use Rattle.warc_record.specs.Readings.{kind_of, reading_of};
-ghost use Rattle.warc_record.specs.Known.{known_name};
+ghost use Rattle.warc_frame.specs.FieldNames.{name_text};
 ghost use Rattle.warc_record.specs.Table.{rule_seen};
 ghost use Rattle.warc_record.specs.Findings.{stands, broken_rule, is_broken, by_table, once, finding_seen, finding_number, finding_field, is_bad_number, has_bad_segment, lacks_content_type, has_unknown_profile, lacks_origin, has_bare_id, stands_in_brackets, not_utf8, findings_of};
 
 use crate::ids::bare;
-use crate::known::{ByName, Known};
+use crate::known::ByName;
 use crate::readings::{
     SegmentNumber, is_known_profile, key_in, kind_in, number_in, present, segment_number,
 };
@@ -17,6 +17,7 @@ use crate::table::{FieldRule, is_among, rows};
 use crate::types::Kind;
 use std::alloc::{AllocError, Allocator};
 use warc_field::Fields;
+use warc_frame::FieldName;
 
 /// What is wrong with a record that can be read, or with an archive: N1 to N12. Some hold the name of a field.
 #[derive(Clone, Copy, Debug, PartialEq, Eq)]
@@ -123,20 +124,20 @@ impl TableCheck {
 }
 
 /// Whether the field isn't absent. A target is absent too if its bare text is empty.
-fn stands<A: Allocator>(fields: &ByName<'_, A>, name: Known) -> bool
-    ensures { result ≡ stands (known_name name) fields.now }
+fn stands<A: Allocator>(fields: &ByName<'_, A>, name: FieldName) -> bool
+    ensures { result ≡ stands (name_text name) fields.now }
 {
     match present(fields, name) {
-        Some(value) => name != Known::TargetUri || !bare(value.bytes()).is_empty(),
+        Some(value) => name != FieldName::TargetUri || !bare(value.bytes()).is_empty(),
         None => false,
     }
 }
 
 /// Whether a field that may not be repeated occurs again.
 fn stands_again<A: Allocator>(fields: &ByName<'_, A>, rule: &FieldRule) -> bool
-    ensures { result ≡ (not rule.now.repeats && nat_lt 1 (count_of (known_name rule.now.known) fields.now)) }
+    ensures { result ≡ (not rule.now.repeats && nat_lt 1 (count_of (name_text rule.now.field) fields.now)) }
 {
-    !rule.repeats && fields.repeats(rule.known)
+    !rule.repeats && fields.repeats(rule.field)
 }
 
 /// Whether the rule of a field gives the finding that is looked for.
@@ -149,8 +150,8 @@ fn is_broken<A: Allocator>(
     ensures { result ≡ is_broken check kind fields.now (rule_seen rule.now) }
 {
     match check {
-        TableCheck::Lacks => is_among(kind, rule.required) && !stands(fields, rule.known),
-        TableCheck::HasForbidden => stands(fields, rule.known) && is_among(kind, rule.forbidden),
+        TableCheck::Lacks => is_among(kind, rule.required) && !stands(fields, rule.field),
+        TableCheck::HasForbidden => stands(fields, rule.field) && is_among(kind, rule.forbidden),
         TableCheck::Repeats => is_known(kind) && stands_again(fields, rule),
     }
 }
@@ -245,8 +246,8 @@ fn has_bad_segment<A: Allocator>(kind: Kind, fields: &ByName<'_, A>) -> bool
     is_known(kind)
         && (is_bad_number(kind, segment_number(fields))
             || kind == Kind::Continuation
-                && present(fields, Known::SegmentTotalLength).is_some()
-                && number_in(fields, Known::SegmentTotalLength).is_none())
+                && present(fields, FieldName::SegmentTotalLength).is_some()
+                && number_in(fields, FieldName::SegmentTotalLength).is_none())
 }
 
 /// Whether the record has a block and no content type.
@@ -256,7 +257,7 @@ fn lacks_content_type<A: Allocator>(kind: Kind, fields: &ByName<'_, A>, block_le
     is_known(kind)
         && kind != Kind::Continuation
         && block_len != 0
-        && present(fields, Known::ContentType).is_none()
+        && present(fields, FieldName::ContentType).is_none()
 }
 
 /// Whether the record is a revisit whose profile isn't known.
@@ -267,7 +268,7 @@ fn has_unknown_profile<A: Allocator>(kind: Kind, fields: &ByName<'_, A>) -> bool
     if kind != Kind::Revisit {
         return false;
     }
-    match present(fields, Known::Profile) {
+    match present(fields, FieldName::Profile) {
         Some(profile) => !is_known_profile(profile.bytes()),
         None => false,
     }
@@ -282,10 +283,10 @@ fn lacks_origin<A: Allocator + Copy>(
     requires { kind ≡ kind_of fields.now }
     ensures { IfOk result (λ lacks. lacks ≡ lacks_origin (reading_of fields.now) fields.now) }
 {
-    if kind != Kind::Continuation || present(fields, Known::SegmentOriginId).is_none() {
+    if kind != Kind::Continuation || present(fields, FieldName::SegmentOriginId).is_none() {
         return Ok(false);
     }
-    Ok(key_in(alloc, fields, Known::SegmentOriginId)?.is_none())
+    Ok(key_in(alloc, fields, FieldName::SegmentOriginId)?.is_none())
 }
 
 /// Whether the text begins with `<` and ends with `>`.
@@ -299,7 +300,7 @@ pub fn stands_in_brackets(text: &[u8]) -> bool
 fn has_bare_id<A: Allocator>(fields: &ByName<'_, A>) -> bool
     ensures { result ≡ has_bare_id (reading_of fields.now) }
 {
-    match fields.first(Known::RecordId) {
+    match fields.first(FieldName::RecordId) {
         Some(id) => !stands_in_brackets(id.bytes()),
         None => false,
     }

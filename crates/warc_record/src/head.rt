@@ -3,16 +3,17 @@ ghost use Rattle.std.specs.Option.{option_copied};
 ghost use Rattle.warc_field.specs.Area.{first_value};
 ghost use Rattle.warc_value.specs.Dates.{instant_of};
 ghost use Rattle.warc_frame.specs.FaultText.{name_of};
+ghost use Rattle.warc_frame.specs.FieldNames.{name_text};
 ghost use Rattle.warc_frame.specs.Names.{warc_type, warc_record_id, warc_date, warc_refers_to_target_uri};
 ghost use Rattle.warc_frame.specs.Names.{warc_refers_to_date};
 ghost use Rattle.warc_record.specs.Ids.{is_id};
 ghost use Rattle.warc_record.specs.Readings.{bare_present, both, present_bare, instant_in, unless_empty, reference_of, segment_reading, digest_wanted, reading_of, target_of};
-ghost use Rattle.warc_record.specs.Known.{ArePlaces, known_name, value_at};
+ghost use Rattle.warc_record.specs.Known.{ArePlaces, value_at};
 ghost use Rattle.warc_record.specs.Heads.{count_fault, type_fault, id_fault, head_fault};
 ghost use Rattle.warc_record.specs.Seen.{pair_said, reference_said, segment_said, said, RefusesFor};
 
 use crate::ids::{IdKey, bare, id_key, is_bare_id};
-use crate::known::{ByName, Known, Places};
+use crate::known::{ByName, Places};
 use crate::readings::{
     SegmentNumber, bare_in, is_known_profile, key_in, number_in, present, segment_number, text_in,
 };
@@ -20,7 +21,7 @@ use crate::types::Kind;
 use std::alloc::{AllocError, Allocator, Global};
 use std::marker::Model;
 use warc_field::{Fields, Value, is_name};
-use warc_frame::{FaultKind, Mandatory};
+use warc_frame::{FaultKind, FieldName, Mandatory};
 use warc_value::{Moment, Wanted, read_date};
 
 /// A target and an instant that a revisit names.
@@ -85,8 +86,8 @@ pub struct Typed<A: Allocator = Global> {
 }
 
 /// The date that the first field's value is.
-fn instant_in<A: Allocator>(fields: &ByName<'_, A>, name: Known) -> Option<Moment>
-    ensures { result ≡ instant_in (known_name name) fields.now }
+fn instant_in<A: Allocator>(fields: &ByName<'_, A>, name: FieldName) -> Option<Moment>
+    ensures { result ≡ instant_in (name_text name) fields.now }
 {
     read_date(present(fields, name)?.bytes())
 }
@@ -100,10 +101,10 @@ fn named_pair<A: Allocator + Copy>(
         ≡ both (present_bare warc_refers_to_target_uri fields.now)
         (instant_in warc_refers_to_date fields.now)) }
 {
-    let Some(target) = bare_in(alloc, fields, Known::RefersToTargetUri)? else {
+    let Some(target) = bare_in(alloc, fields, FieldName::RefersToTargetUri)? else {
         return Ok(None);
     };
-    match instant_in(fields, Known::RefersToDate) {
+    match instant_in(fields, FieldName::RefersToDate) {
         Some(moment) => Ok(Some(NamedPair { target, moment })),
         None => Ok(None),
     }
@@ -116,13 +117,13 @@ fn read_reference<A: Allocator + Copy>(
 ) -> Result<Reference<A>, AllocError>
     ensures { IfOk result (λ reference. reference_said reference ≡ reference_of fields.now) }
 {
-    let known_profile = match present(fields, Known::Profile) {
+    let known_profile = match present(fields, FieldName::Profile) {
         Some(value) => is_known_profile(value.bytes()),
         None => false,
     };
     Ok(Reference {
         known_profile,
-        named_id: key_in(alloc, fields, Known::RefersTo)?,
+        named_id: key_in(alloc, fields, FieldName::RefersTo)?,
         named_pair: named_pair(alloc, fields)?,
     })
 }
@@ -136,8 +137,8 @@ fn read_segment<A: Allocator + Copy>(
 {
     Ok(Segment {
         number: segment_number(fields),
-        origin: key_in(alloc, fields, Known::SegmentOriginId)?,
-        total: number_in(fields, Known::SegmentTotalLength),
+        origin: key_in(alloc, fields, FieldName::SegmentOriginId)?,
+        total: number_in(fields, FieldName::SegmentTotalLength),
     })
 }
 
@@ -152,7 +153,7 @@ pub fn wanted<A: Allocator>(fields: &Fields<A>) -> Wanted
 fn wanted_in<A: Allocator>(fields: &ByName<'_, A>) -> Wanted
     ensures { result ≡ digest_wanted fields.now }
 {
-    match present(fields, Known::BlockDigest) {
+    match present(fields, FieldName::BlockDigest) {
         Some(value) => Wanted::of(value.bytes()),
         None => Wanted::Unchecked,
     }
@@ -161,10 +162,10 @@ fn wanted_in<A: Allocator>(fields: &ByName<'_, A>) -> Wanted
 /// The value of a field that must occur exactly once.
 fn only<'a, A: Allocator>(
     fields: &ByName<'a, A>,
-    name: Known,
+    name: FieldName,
     field: Mandatory,
 ) -> Result<&'a Value<A>, FaultKind>
-    requires { known_name name ≡ name_of field }
+    requires { name_text name ≡ name_of field }
     ensures { MatchResult result
         (λ value. (count_fault field fields.now ≡ None) × (first_value (name_of field) fields.now ≡ Some value.now))
         (λ fault. count_fault field fields.now ≡ Some fault) }
@@ -185,7 +186,7 @@ fn type_text<'a, A: Allocator>(fields: &ByName<'a, A>) -> Result<&'a Value<A>, F
         (λ value. (type_fault fields.now ≡ None) × (first_value warc_type fields.now ≡ Some value.now))
         (λ fault. type_fault fields.now ≡ Some fault) }
 {
-    let value = only(fields, Known::Type, Mandatory::Type)?;
+    let value = only(fields, FieldName::Type, Mandatory::Type)?;
     if is_name(value.bytes()) {
         Ok(value)
     } else {
@@ -200,7 +201,7 @@ fn id_text<'a, A: Allocator>(fields: &ByName<'a, A>) -> Result<&'a Value<A>, Fau
         × (is_id value.now ≡ true))
         (λ fault. id_fault fields.now ≡ Some fault) }
 {
-    let value = only(fields, Known::RecordId, Mandatory::RecordId)?;
+    let value = only(fields, FieldName::RecordId, Mandatory::RecordId)?;
     if is_bare_id(bare(value.bytes())) {
         Ok(value)
     } else {
@@ -234,12 +235,12 @@ fn read_typed<A: Allocator + Copy>(
         date_text: Value::from_checked(alloc, date_text.bytes())?,
         id,
         moment,
-        target: bare_in(alloc, fields, Known::TargetUri)?,
+        target: bare_in(alloc, fields, FieldName::TargetUri)?,
         reference: read_reference(alloc, fields)?,
         segment: read_segment(alloc, fields)?,
         wanted: wanted_in(fields),
-        payload_digest: text_in(alloc, fields, Known::PayloadDigest)?,
-        truncated: present(fields, Known::Truncated).is_some(),
+        payload_digest: text_in(alloc, fields, FieldName::PayloadDigest)?,
+        truncated: present(fields, FieldName::Truncated).is_some(),
     })
 }
 
@@ -254,7 +255,7 @@ pub fn type_head<A: Allocator + Copy>(alloc: A, fields: &Fields<A>) -> Result<Ty
     let fields = &ByName::new(fields);
     let type_text = type_text(fields)?;
     let id_text = id_text(fields)?;
-    let date_text = only(fields, Known::Date, Mandatory::Date)?;
+    let date_text = only(fields, FieldName::Date, Mandatory::Date)?;
     let Some(moment) = read_date(date_text.bytes()) else {
         return Err(FaultKind::Date);
     };
@@ -273,7 +274,7 @@ fn judge<A: Allocator>(fields: &ByName<'_, A>) -> Result<Places, FaultKind>
 {
     type_text(fields)?;
     id_text(fields)?;
-    let date_text = only(fields, Known::Date, Mandatory::Date)?;
+    let date_text = only(fields, FieldName::Date, Mandatory::Date)?;
     match read_date(date_text.bytes()) {
         Some(_) => Ok(fields.places()),
         None => Err(FaultKind::Date),

@@ -1,13 +1,14 @@
 ghost use Rattle.std.specs.Prelude.{◌≡◌, IfOk, Some};
 ghost use Rattle.std.specs.Option.{option_copied};
-ghost use Rattle.warc_record.specs.Known.{known_name};
+ghost use Rattle.warc_frame.specs.FieldNames.{name_text};
 ghost use Rattle.warc_record.specs.Readings.{present_value, present_bare, key_in, kind_of, number_in, is_known_profile, segment_number};
 
 use crate::ids::{IdKey, bare, id_key};
-use crate::known::{ByName, Known};
+use crate::known::ByName;
 use crate::types::Kind;
 use std::alloc::{AllocError, Allocator};
 use warc_field::{Value, decimal};
+use warc_frame::FieldName;
 
 /// The segment number that a head states.
 #[derive(Clone, Copy, Debug, PartialEq, Eq)]
@@ -23,8 +24,11 @@ pub enum SegmentNumber {
 }
 
 /// The value of the first field of the name, if it isn't empty.
-pub(crate) fn present<'a, A: Allocator>(fields: &ByName<'a, A>, name: Known) -> Option<&'a Value<A>>
-    ensures { option_copied result ≡ present_value (known_name name) fields.now }
+pub(crate) fn present<'a, A: Allocator>(
+    fields: &ByName<'a, A>,
+    name: FieldName,
+) -> Option<&'a Value<A>>
+    ensures { option_copied result ≡ present_value (name_text name) fields.now }
 {
     let value = fields.first(name)?;
     if value.bytes().is_empty() {
@@ -38,9 +42,9 @@ pub(crate) fn present<'a, A: Allocator>(fields: &ByName<'a, A>, name: Known) -> 
 pub(crate) fn text_in<A: Allocator + Copy>(
     alloc: A,
     fields: &ByName<'_, A>,
-    name: Known,
+    name: FieldName,
 ) -> Result<Option<Value<A>>, AllocError>
-    ensures { IfOk result (λ value. value ≡ present_value (known_name name) fields.now) }
+    ensures { IfOk result (λ value. value ≡ present_value (name_text name) fields.now) }
 {
     match present(fields, name) {
         Some(value) => Ok(Some(Value::from_checked(alloc, value.bytes())?)),
@@ -53,9 +57,9 @@ pub(crate) fn text_in<A: Allocator + Copy>(
 pub(crate) fn bare_in<A: Allocator + Copy>(
     alloc: A,
     fields: &ByName<'_, A>,
-    name: Known,
+    name: FieldName,
 ) -> Result<Option<Value<A>>, AllocError>
-    ensures { IfOk result (λ text. text ≡ present_bare (known_name name) fields.now) }
+    ensures { IfOk result (λ text. text ≡ present_bare (name_text name) fields.now) }
 {
     let Some(value) = present(fields, name) else {
         return Ok(None);
@@ -72,9 +76,9 @@ pub(crate) fn bare_in<A: Allocator + Copy>(
 pub(crate) fn key_in<A: Allocator + Copy>(
     alloc: A,
     fields: &ByName<'_, A>,
-    name: Known,
+    name: FieldName,
 ) -> Result<Option<IdKey<A>>, AllocError>
-    ensures { IfOk result (λ key. key ≡ key_in (known_name name) fields.now) }
+    ensures { IfOk result (λ key. key ≡ key_in (name_text name) fields.now) }
 {
     match present(fields, name) {
         Some(value) => id_key(alloc, value.bytes()),
@@ -86,15 +90,15 @@ pub(crate) fn key_in<A: Allocator + Copy>(
 pub(crate) fn kind_in<A: Allocator>(fields: &ByName<'_, A>) -> Kind
     ensures { result ≡ kind_of fields.now }
 {
-    match fields.first(Known::Type) {
+    match fields.first(FieldName::Type) {
         Some(value) => Kind::named(value.bytes()),
         None => Kind::Other,
     }
 }
 
 /// The number that the first field's value is.
-pub(crate) fn number_in<A: Allocator>(fields: &ByName<'_, A>, name: Known) -> Option<u64>
-    ensures { result ≡ number_in (known_name name) fields.now }
+pub(crate) fn number_in<A: Allocator>(fields: &ByName<'_, A>, name: FieldName) -> Option<u64>
+    ensures { result ≡ number_in (name_text name) fields.now }
 {
     decimal(present(fields, name)?.bytes())
 }
@@ -103,7 +107,7 @@ pub(crate) fn number_in<A: Allocator>(fields: &ByName<'_, A>, name: Known) -> Op
 pub(crate) fn segment_number<A: Allocator>(fields: &ByName<'_, A>) -> SegmentNumber
     ensures { result ≡ segment_number fields.now }
 {
-    match present(fields, Known::SegmentNumber) {
+    match present(fields, FieldName::SegmentNumber) {
         None => SegmentNumber::Absent,
         Some(value) => match decimal(value.bytes()) {
             Some(number) => SegmentNumber::Number(number),

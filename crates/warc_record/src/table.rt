@@ -1,14 +1,14 @@
 ghost use Rattle.std.specs.Prelude.{◌≡◌, map};
-ghost use Rattle.warc_record.specs.Known.{known_name};
+ghost use Rattle.warc_frame.specs.FieldNames.{name_text};
 ghost use Rattle.warc_record.specs.Table.{rules, rule_seen, column_of, is_among};
 
-use crate::known::Known;
 use crate::types::Kind;
+use warc_frame::FieldName;
 
 /// A row of the field table.
 pub struct FieldRule {
-    /// Its name, by which heads are read.
-    pub(crate) known: Known,
+    /// The field that it is about.
+    pub(crate) field: FieldName,
 
     /// The kinds of record that must have the field.
     pub required: &'static [Kind],
@@ -23,9 +23,9 @@ pub struct FieldRule {
 impl FieldRule {
     /// The name of the field.
     pub fn name(&self) -> &'static str
-        ensures { result.now ≡ known_name self.now.known }
+        ensures { result.now ≡ name_text self.now.field }
     {
-        self.known.name()
+        self.field.text()
     }
 }
 
@@ -61,7 +61,7 @@ const ALL_BUT_CONTINUATION: &[Kind] = &[
 
 static FIELD_RULES: [FieldRule; 17] = [
     FieldRule {
-        known: Known::TargetUri,
+        field: FieldName::TargetUri,
         required: &[
             Kind::Response,
             Kind::Resource,
@@ -74,19 +74,19 @@ static FIELD_RULES: [FieldRule; 17] = [
         repeats: false,
     },
     FieldRule {
-        known: Known::ConcurrentTo,
+        field: FieldName::ConcurrentTo,
         required: &[],
         forbidden: &[Kind::Warcinfo, Kind::Conversion, Kind::Continuation],
         repeats: true,
     },
     FieldRule {
-        known: Known::IpAddress,
+        field: FieldName::IpAddress,
         required: &[],
         forbidden: &[Kind::Warcinfo, Kind::Conversion, Kind::Continuation],
         repeats: false,
     },
     FieldRule {
-        known: Known::RefersTo,
+        field: FieldName::RefersTo,
         required: &[],
         forbidden: &[
             Kind::Warcinfo,
@@ -98,79 +98,79 @@ static FIELD_RULES: [FieldRule; 17] = [
         repeats: false,
     },
     FieldRule {
-        known: Known::RefersToTargetUri,
+        field: FieldName::RefersToTargetUri,
         required: &[],
         forbidden: ALL_BUT_REVISIT,
         repeats: false,
     },
     FieldRule {
-        known: Known::RefersToDate,
+        field: FieldName::RefersToDate,
         required: &[],
         forbidden: ALL_BUT_REVISIT,
         repeats: false,
     },
     FieldRule {
-        known: Known::Filename,
+        field: FieldName::Filename,
         required: &[],
         forbidden: ALL_BUT_WARCINFO,
         repeats: false,
     },
     FieldRule {
-        known: Known::Profile,
+        field: FieldName::Profile,
         required: &[Kind::Revisit],
         forbidden: &[],
         repeats: false,
     },
     FieldRule {
-        known: Known::WarcinfoId,
+        field: FieldName::WarcinfoId,
         required: &[],
         forbidden: &[Kind::Warcinfo],
         repeats: false,
     },
     FieldRule {
-        known: Known::SegmentNumber,
+        field: FieldName::SegmentNumber,
         required: &[Kind::Continuation],
         forbidden: &[],
         repeats: false,
     },
     FieldRule {
-        known: Known::SegmentOriginId,
+        field: FieldName::SegmentOriginId,
         required: &[Kind::Continuation],
         forbidden: ALL_BUT_CONTINUATION,
         repeats: false,
     },
     FieldRule {
-        known: Known::SegmentTotalLength,
+        field: FieldName::SegmentTotalLength,
         required: &[],
         forbidden: ALL_BUT_CONTINUATION,
         repeats: false,
     },
     FieldRule {
-        known: Known::BlockDigest,
+        field: FieldName::BlockDigest,
         required: &[],
         forbidden: &[],
         repeats: false,
     },
     FieldRule {
-        known: Known::PayloadDigest,
+        field: FieldName::PayloadDigest,
         required: &[],
         forbidden: &[],
         repeats: false,
     },
     FieldRule {
-        known: Known::Truncated,
+        field: FieldName::Truncated,
         required: &[],
         forbidden: &[],
         repeats: false,
     },
     FieldRule {
-        known: Known::IdentifiedPayloadType,
+        field: FieldName::IdentifiedPayloadType,
         required: &[],
         forbidden: &[],
         repeats: false,
     },
     FieldRule {
-        known: Known::ContentType,
+        field: FieldName::ContentType,
         required: &[],
         forbidden: &[],
         repeats: false,

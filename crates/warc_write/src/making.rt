@@ -9,14 +9,14 @@ ghost use Rattle.warc_record.specs.Heads.{is_date};
 ghost use Rattle.warc_write.specs.Making.{Makes, fitted, is_target, is_one_text, made, made_fields};
 ghost use Rattle.warc_write.specs.Making.{make_fault_text, planned, type_of};
 
-use crate::parts::{Label, add_field, add_number};
+use crate::parts::{add_field, add_number};
 use crate::written::{digest_text, id_text};
 use std::alloc::{AllocError, Allocator};
 use std::fmt;
 use thiserror::Error;
 use uuid::Uuid;
 use warc_field::{Fields, is_value};
-use warc_frame::{Framed, MAX_BLOCK, Version};
+use warc_frame::{FieldName, Framed, MAX_BLOCK, Version};
 use warc_record::{Kind, bare};
 use warc_value::laws::date_is_value;
 use warc_value::{digest, read_date};
@@ -119,18 +119,23 @@ fn made_fields<A: Allocator + Copy>(
         (planned Kind.Resource uri.now date.now [] content_type.now block.now)) }
 {
     let mut fields = Fields::new(alloc);
-    add_field(alloc, &mut fields, Label::Type, kind)?;
-    add_field(alloc, &mut fields, Label::RecordId, &id_text(uuid))?;
-    add_field(alloc, &mut fields, Label::Date, date)?;
-    add_field(alloc, &mut fields, Label::TargetUri, uri)?;
-    add_field(alloc, &mut fields, Label::ContentType, content_type)?;
+    add_field(alloc, &mut fields, FieldName::Type, kind)?;
+    add_field(alloc, &mut fields, FieldName::RecordId, &id_text(uuid))?;
+    add_field(alloc, &mut fields, FieldName::Date, date)?;
+    add_field(alloc, &mut fields, FieldName::TargetUri, uri)?;
+    add_field(alloc, &mut fields, FieldName::ContentType, content_type)?;
     add_field(
         alloc,
         &mut fields,
-        Label::BlockDigest,
+        FieldName::BlockDigest,
         &digest_text(&digest(block)),
     )?;
-    add_number(alloc, &mut fields, Label::ContentLength, block.len() as u64)?;
+    add_number(
+        alloc,
+        &mut fields,
+        FieldName::ContentLength,
+        block.len() as u64,
+    )?;
     Ok(fields)
 }
 

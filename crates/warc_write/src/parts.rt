@@ -2,12 +2,12 @@
 ghost use Rattle.std.specs.Prelude.{◌≡◌, [], ◌∷◌, ◌++◌, true, OnOk, decimal};
 ghost use Rattle.warc_field.specs.Text.{is_name, is_value};
 ghost use Rattle.warc_frame.specs.Record.{IsFramed};
-ghost use Rattle.warc_write.specs.Written.{label_text};
+ghost use Rattle.warc_frame.specs.FieldNames.{name_text};
 
 use itoa::Buffer;
 use std::alloc::{AllocError, Allocator};
 use warc_field::{Fields, Name, Value};
-use warc_frame::{Framed, Version, names};
+use warc_frame::{FieldName, Framed, Version};
 
 /// The record of these parts.
 pub(crate) fn framed_of<A: Allocator>(
@@ -21,43 +21,6 @@ pub(crate) fn framed_of<A: Allocator>(
     match Framed::new(version, fields, block) {
         Ok(framed) => framed,
         Err(_) => unreachable!(),
-    }
-}
-
-/// The fields that are written.
-#[derive(Clone, Copy)]
-pub(crate) enum Label {
-    Type,
-    RecordId,
-    Date,
-    TargetUri,
-    ContentType,
-    BlockDigest,
-    ContentLength,
-    SegmentNumber,
-    SegmentOriginId,
-    SegmentTotalLength,
-}
-
-impl Label {
-    /// The field's name, as the standard writes it.
-    #[tactic(auto, unfolding(warc_field::specs::Text::is_name, warc_field::specs::Text::is_name_byte))]
-    fn name(self) -> &'static str
-        ensures text { result.now ≡ label_text self }
-        ensures named { is_name result.now ≡ true }
-    {
-        match self {
-            Label::Type => names::WARC_TYPE,
-            Label::RecordId => names::WARC_RECORD_ID,
-            Label::Date => names::WARC_DATE,
-            Label::TargetUri => names::WARC_TARGET_URI,
-            Label::ContentType => names::CONTENT_TYPE,
-            Label::BlockDigest => names::WARC_BLOCK_DIGEST,
-            Label::ContentLength => names::CONTENT_LENGTH,
-            Label::SegmentNumber => names::WARC_SEGMENT_NUMBER,
-            Label::SegmentOriginId => names::WARC_SEGMENT_ORIGIN_ID,
-            Label::SegmentTotalLength => names::WARC_SEGMENT_TOTAL_LENGTH,
-        }
     }
 }
 
@@ -82,13 +45,13 @@ pub(crate) fn add_copy<A: Allocator + Copy>(
 pub(crate) fn add_field<A: Allocator + Copy>(
     alloc: A,
     fields: &mut Fields<A>,
-    label: Label,
+    name: FieldName,
     value: &[u8],
 ) -> Result<(), AllocError>
     requires { is_value value.now ≡ true }
-    ensures { OnOk result (fields.new ≡ fields.old ++ (label_text label, value.now) ∷ []) }
+    ensures { OnOk result (fields.new ≡ fields.old ++ (name_text name, value.now) ∷ []) }
 {
-    add_copy(alloc, fields, label.name().as_bytes(), value)
+    add_copy(alloc, fields, name.text().as_bytes(), value)
 }
 
 /// Adds a field at the end, by its name and the number that its value writes.
@@ -109,10 +72,10 @@ pub(crate) fn add_digits<A: Allocator + Copy>(
 pub(crate) fn add_number<A: Allocator + Copy>(
     alloc: A,
     fields: &mut Fields<A>,
-    label: Label,
+    name: FieldName,
     number: u64,
 ) -> Result<(), AllocError>
-    ensures { OnOk result (fields.new ≡ fields.old ++ (label_text label, decimal number) ∷ []) }
+    ensures { OnOk result (fields.new ≡ fields.old ++ (name_text name, decimal number) ∷ []) }
 {
-    add_digits(alloc, fields, label.name().as_bytes(), number)
+    add_digits(alloc, fields, name.text().as_bytes(), number)
 }

@@ -18,7 +18,7 @@ ghost use Rattle.warc_write.specs.Splitting.{may_be_split, next_fields, origin_f
 ghost use Rattle.warc_write.specs.Splitting.{segment_fields, split_fault_text, splittable, total_fields};
 ghost use Rattle.warc_write.specs.Splitting.{value_in, version_5};
 
-use crate::parts::{Label, add_copy, add_digits, add_field, add_number, framed_of};
+use crate::parts::{add_copy, add_digits, add_field, add_number, framed_of};
 use crate::written::{digest_text, id_text};
 use itoa::Buffer;
 use std::alloc::{AllocError, Allocator};
@@ -26,7 +26,7 @@ use std::fmt;
 use thiserror::Error;
 use uuid::Uuid;
 use warc_field::{Fields, Name, Value};
-use warc_frame::{FaultKind, Framed, names};
+use warc_frame::{FaultKind, FieldName, Framed, names};
 use warc_record::laws::{bare_texts_of_values, good_heads_read};
 use warc_record::{Kind, bare, type_head, urn_uuid, wanted};
 use warc_value::{Running, digest};
@@ -238,11 +238,11 @@ fn first_fields<A: Allocator + Copy>(
 {
     let mut fields = Fields::new(alloc);
     add_kept(alloc, given.as_slice(), part.len, &mut fields)?;
-    add_field(alloc, &mut fields, Label::SegmentNumber, b"1")?;
+    add_field(alloc, &mut fields, FieldName::SegmentNumber, b"1")?;
     add_field(
         alloc,
         &mut fields,
-        Label::BlockDigest,
+        FieldName::BlockDigest,
         &digest_text(&part.digest),
     )?;
     Ok(fields)
@@ -260,24 +260,24 @@ fn origin_fields<A: Allocator + Copy>(
     bare_texts_of_values();
     let target = bare(value_in(given, names::WARC_TARGET_URI));
     let mut fields = Fields::new(alloc);
-    add_field(alloc, &mut fields, Label::Type, b"continuation")?;
+    add_field(alloc, &mut fields, FieldName::Type, b"continuation")?;
     add_field(
         alloc,
         &mut fields,
-        Label::RecordId,
+        FieldName::RecordId,
         &id_text(&segment_id(uuid, number)),
     )?;
     add_field(
         alloc,
         &mut fields,
-        Label::Date,
+        FieldName::Date,
         value_in(given, names::WARC_DATE),
     )?;
-    add_field(alloc, &mut fields, Label::TargetUri, target)?;
+    add_field(alloc, &mut fields, FieldName::TargetUri, target)?;
     add_field(
         alloc,
         &mut fields,
-        Label::SegmentOriginId,
+        FieldName::SegmentOriginId,
         value_in(given, names::WARC_RECORD_ID),
     )?;
     Ok(fields)
@@ -292,7 +292,7 @@ fn add_total<A: Allocator + Copy>(
     ensures { OnOk result (fields.new ≡ fields.old ++ total_fields total) }
 {
     match total {
-        Some(total) => add_number(alloc, fields, Label::SegmentTotalLength, total),
+        Some(total) => add_number(alloc, fields, FieldName::SegmentTotalLength, total),
         None => Ok(()),
     }
 }
@@ -307,15 +307,15 @@ fn next_fields<A: Allocator + Copy>(
     ensures { IfOk result (λ fields. fields ≡ next_fields given.now uuid.now part.now) }
 {
     let mut fields = origin_fields(alloc, given, uuid, part.number)?;
-    add_number(alloc, &mut fields, Label::SegmentNumber, part.number)?;
+    add_number(alloc, &mut fields, FieldName::SegmentNumber, part.number)?;
     add_total(alloc, part.total, &mut fields)?;
     add_field(
         alloc,
         &mut fields,
-        Label::BlockDigest,
+        FieldName::BlockDigest,
         &digest_text(&part.digest),
     )?;
-    add_number(alloc, &mut fields, Label::ContentLength, part.len)?;
+    add_number(alloc, &mut fields, FieldName::ContentLength, part.len)?;
     Ok(fields)
 }
 

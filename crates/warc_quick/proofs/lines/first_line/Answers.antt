@@ -15,7 +15,7 @@ returns c =
     let after : drop (k + 1) text ≡ rest ++ (crlf ++ more) = grind (arith, common_steps, c.in_ok-rest.ensures.text) in
     record {
       bytes = take k text ++ 58 ∷ rest ++ crlf;
-      is = record { rest = rest; name = named_is_name (take k text) c.in_ok-naming.naming c.in_ok-naming.ensures; value = c.plain_value.ensures; text = refl };
+      is = record { rest = rest; name = named_is_name c.are_field_names.ensures (take k text) c.in_ok-naming.naming c.in_ok-naming.ensures; value = c.plain_value.ensures; text = refl };
       named = c.in_ok-naming.ensures;
       text_is = line_is text rest more k first.0 first.1 after;
     }
