@@ -18,11 +18,7 @@ pub(crate) fn send_range<S: Source, W: Sink>(
 {
     let mut scratch = [0; PIECE];
     let mut buffer = OutBuffer::new();
-    if let Err(fault) = put_range(source, at, len, &mut scratch, &mut buffer, out) {
-        return Err(fault);
-    }
-    match buffer.flush(out) {
-        Ok(()) => Ok(()),
-        Err(fault) => Err(OutFault::Write(fault.sent)),
-    }
+    put_range(source, at, len, &mut scratch, &mut buffer, out)?;
+    buffer.flush(out)?;
+    Ok(())
 }

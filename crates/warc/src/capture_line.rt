@@ -265,13 +265,8 @@ pub(crate) fn list_outcomes<W: Sink, A: Allocator>(
 {
     let mut buffer = OutBuffer::new();
     'listing: for outcome in outcomes {
-        match put_line(rows, outcome, &mut buffer, out) {
-            Ok(()) => {}
-            Err(fault) => return Err(OutFault::Write(fault.sent)),
-        }
+        put_line(rows, outcome, &mut buffer, out)?;
     }
-    match buffer.flush(out) {
-        Ok(()) => Ok(()),
-        Err(fault) => Err(OutFault::Write(fault.sent)),
-    }
+    buffer.flush(out)?;
+    Ok(())
 }

@@ -185,10 +185,7 @@ pub(crate) fn judge_all<S: Source, A: Allocator + Copy>(
     };
     let mut outcomes = Vec::new(alloc);
     'judging: for position in positions {
-        let outcome = match outcome_once(source, rows, lookup, *position, &slots, &outcomes) {
-            Ok(outcome) => outcome,
-            Err(fault) => return Err(fault),
-        };
+        let outcome = outcome_once(source, rows, lookup, *position, &slots, &outcomes)?;
         let origin = outcome.given;
         let Ok(count) = push_outcome(&mut outcomes, outcome) else {
             return Err(OutFault::Memory(0));

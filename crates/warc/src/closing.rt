@@ -52,10 +52,7 @@ fn take_segments_of<S: Source, A: Allocator + Copy>(
     ensures takes { TakesOne rows.now parts.now position marks.old marks.new (S.seen source.old)
         (S.seen source.new) result }
 {
-    let head = match head_at(source, rows, position) {
-        Ok(head) => head,
-        Err(fault) => return Err(fault),
-    };
+    let head = head_at(source, rows, position)?;
     match take_series(parts, marks, &head.typed) {
         Ok(()) => Ok(()),
         Err(_) => Err(OutFault::Memory(0)),
@@ -77,10 +74,7 @@ fn take_segments<S: Source, A: Allocator + Copy>(
         if is_free(marks, position) {
             continue;
         }
-        match take_segments_of(source, rows, parts, marks, position) {
-            Ok(()) => {}
-            Err(fault) => return Err(fault),
-        }
+        take_segments_of(source, rows, parts, marks, position)?;
     }
     Ok(())
 }
@@ -119,10 +113,7 @@ pub(crate) fn closed_positions<S: Source, A: Allocator + Copy>(
         return Err(OutFault::Memory(0));
     };
     mark_ways(&lookup.index, &mut marks, positions);
-    match take_all(source, rows, &lookup.parts, &mut marks) {
-        Ok(()) => {}
-        Err(fault) => return Err(fault),
-    }
+    take_all(source, rows, &lookup.parts, &mut marks)?;
     match marked_positions(alloc, &marks) {
         Ok(closed) => Ok(closed),
         Err(_) => Err(OutFault::Memory(0)),
@@ -142,10 +133,7 @@ fn judge_segments_of<S: Source, A: Allocator + Copy>(
     ensures judges { JudgesRecord rows.now parts.now position standings.old standings.new (S.seen source.old)
         (S.seen source.new) result }
 {
-    let head = match head_at(source, rows, position) {
-        Ok(head) => head,
-        Err(fault) => return Err(fault),
-    };
+    let head = head_at(source, rows, position)?;
     match leave_if_named(parts, standings, &head.typed, position) {
         Ok(()) => Ok(()),
         Err(_) => Err(OutFault::Memory(0)),
@@ -168,10 +156,7 @@ fn judge_segments<S: Source, A: Allocator + Copy>(
         if is_named(standings, position) {
             continue;
         }
-        match judge_segments_of(source, rows, parts, standings, position) {
-            Ok(()) => {}
-            Err(fault) => return Err(fault),
-        }
+        judge_segments_of(source, rows, parts, standings, position)?;
     }
     Ok(())
 }
@@ -210,10 +195,7 @@ fn stand<S: Source, A: Allocator + Copy>(
         (S.seen source.old) (S.seen source.new) result }
 {
     name_all(standings, positions);
-    match judge_all(source, rows, &lookup.parts, standings) {
-        Ok(()) => {}
-        Err(fault) => return Err(fault),
-    }
+    judge_all(source, rows, &lookup.parts, standings)?;
     settle_all(&lookup.index, standings);
     Ok(())
 }
@@ -233,10 +215,7 @@ pub(crate) fn standing_positions<S: Source, A: Allocator + Copy>(
     let Ok(mut standings) = open_standings(alloc, rows.len()) else {
         return Err(OutFault::Memory(0));
     };
-    match stand(source, rows, lookup, &mut standings, positions) {
-        Ok(()) => {}
-        Err(fault) => return Err(fault),
-    }
+    stand(source, rows, lookup, &mut standings, positions)?;
     match kept_positions(alloc, &standings) {
         Ok(kept) => Ok(kept),
         Err(_) => Err(OutFault::Memory(0)),

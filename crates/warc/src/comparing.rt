@@ -83,7 +83,7 @@ fn own_verdict<S: Source, A: Allocator + Copy>(
 pub(crate) enum Holder {
     /// In its own block.
     Itself,
-    /// In that of the origin that its replay gives.
+    /// In the block of the origin that its replay gives.
     Origin,
     /// Nowhere.
     Nobody,
@@ -158,10 +158,7 @@ pub(crate) fn compare_at<S: Source, A: Allocator + Copy>(
     let Some(row) = rows.get(position) else {
         return Err(OutFault::Read(0));
     };
-    let head = match head_of_row(rows.allocator(), source, &row) {
-        Ok(head) => head,
-        Err(fault) => return Err(fault),
-    };
+    let head = head_of_row(rows.allocator(), source, &row)?;
     match verdict_by_head(source, rows, lookup, position, &row, &head, digested) {
         Ok(verdict) => Ok(Compared { head, verdict }),
         Err(fault) => Err(fault),

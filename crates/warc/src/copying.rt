@@ -47,14 +47,9 @@ fn put_block<S: Source, W: Sink>(
         (W.seen out.new) buffer.old buffer.new result }
     ensures reads { ReadsRange start len (S.seen source.old) (S.seen source.new) }
 {
-    match put_range(source, start, len, scratch, buffer, out) {
-        Ok(()) => {}
-        Err(fault) => return Err(fault),
-    }
-    match buffer.put(out, b"\r\n\r\n") {
-        Ok(()) => Ok(()),
-        Err(fault) => Err(OutFault::Write(fault.sent)),
-    }
+    put_range(source, start, len, scratch, buffer, out)?;
+    buffer.put(out, b"\r\n\r\n")?;
+    Ok(())
 }
 
 /// Adds a row's record to the output as it is: its head, whose text is at the front of the scratch, its block, and what
@@ -72,10 +67,7 @@ pub(crate) fn put_same<S: Source, W: Sink>(
         (W.seen out.old) (W.seen out.new) buffer.old buffer.new result }
     ensures reads { ReadsRange row.now.block_start row.now.block_len (S.seen source.old) (S.seen source.new) }
 {
-    match buffer.put(out, &scratch[..len]) {
-        Ok(()) => {}
-        Err(fault) => return Err(OutFault::Write(fault.sent)),
-    }
+    buffer.put(out, &scratch[..len])?;
     put_block(row.block_start, row.block_len, source, scratch, buffer, out)
 }
 
@@ -93,10 +85,7 @@ pub(crate) fn put_copied<S: Source, A: Allocator, W: Sink>(
     ensures reads { ReadsOnly (IsInRange copy.now.block_start copy.now.block_len) copy.now.block_len
         (S.seen source.old) (S.seen source.new) }
 {
-    match put_head(copy.version, &copy.fields, buffer, out) {
-        Ok(()) => {}
-        Err(fault) => return Err(OutFault::Write(fault.sent)),
-    }
+    put_head(copy.version, &copy.fields, buffer, out)?;
     let (start, len) = (copy.block_start, copy.block_len);
     put_block(start, len, source, scratch, buffer, out)
 }

@@ -157,10 +157,7 @@ fn digest_once<S: Source, A: Allocator + Copy>(
     if let Some(one) = recalled(&digested.slots, &digested.known, origin, algorithm) {
         return Ok(one.digest);
     }
-    let digest = match origin_digest(source, rows, lookup, origin, algorithm) {
-        Ok(digest) => digest,
-        Err(fault) => return Err(fault),
-    };
+    let digest = origin_digest(source, rows, lookup, origin, algorithm)?;
     match digested.add(origin, algorithm, digest) {
         Ok(()) => Ok(digest),
         Err(_) => Err(OutFault::Memory(0)),

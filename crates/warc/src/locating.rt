@@ -33,10 +33,7 @@ fn locate_on<S: Source, A: Allocator + Copy>(
     fails_before_all();
     places_are_of_records();
     places_are_as_long();
-    let origin = match origin_at(source, rows, lookup, path.given) {
-        Ok(origin) => origin,
-        Err(fault) => return Err(fault),
-    };
+    let origin = origin_at(source, rows, lookup, path.given)?;
     locate_joined(
         rows.allocator(),
         source,

@@ -41,10 +41,7 @@ fn look_at<S: Source, A: Allocator + Copy>(
 {
     places_are_of_records();
     places_are_as_long();
-    let origin = match origin_at(source, rows, lookup, position) {
-        Ok(origin) => origin,
-        Err(fault) => return Err(fault),
-    };
+    let origin = origin_at(source, rows, lookup, position)?;
     let alloc = rows.allocator();
     let own = own_type(&origin.head.fields);
     match judge_joined(alloc, source, &origin.head.typed, own, &origin.places) {
@@ -83,10 +80,7 @@ pub(crate) fn send_origin<S: Source, W: Sink, A: Allocator + Copy>(
     ensures { SendsStored rows.now lookup.now.parts position (S.seen source.old) (S.seen source.new)
         (W.seen out.old) (W.seen out.new) result }
 {
-    let look = match look_at(source, rows, lookup, position) {
-        Ok(look) => look,
-        Err(fault) => return Err(fault),
-    };
+    let look = look_at(source, rows, lookup, position)?;
     match send_blocks(source, &look.places, look.stored.head_len, out) {
         Ok(()) => Ok(look.stored),
         Err(fault) => Err(ReplayFault::Out(fault)),

@@ -266,10 +266,7 @@ fn judge_next<S: Source, A: Allocator + Copy>(
     ensures { JudgesMorePayloads rows.now lookup.now.index lookup.now.parts position digested.old.known.items
         digested.new.known.items payloads.old payloads.new (S.seen source.old) (S.seen source.new) result }
 {
-    let next = match compare_at(source, rows, lookup, position, digested) {
-        Ok(next) => next,
-        Err(fault) => return Err(fault),
-    };
+    let next = compare_at(source, rows, lookup, position, digested)?;
     let value = payload_value(&next.head.fields);
     payloads.add_or_fail(rows.allocator(), next.verdict, value)
 }
@@ -290,10 +287,7 @@ pub(crate) fn judge_payloads<S: Source, A: Allocator + Copy>(
     };
     let mut payloads = Payloads::new(alloc);
     'judging: for position in 0..rows.len() {
-        match judge_next(source, rows, lookup, position, &mut digested, &mut payloads) {
-            Ok(()) => {}
-            Err(fault) => return Err(fault),
-        }
+        judge_next(source, rows, lookup, position, &mut digested, &mut payloads)?;
     }
     Ok(payloads)
 }

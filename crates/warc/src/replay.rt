@@ -64,10 +64,7 @@ pub(crate) fn replay_on<S: Source, W: Sink, A: Allocator + Copy>(
     fails_before_all();
     places_are_of_records();
     places_are_as_long();
-    let origin = match origin_at(source, rows, lookup, path.given) {
-        Ok(origin) => origin,
-        Err(fault) => return Err(fault),
-    };
+    let origin = origin_at(source, rows, lookup, path.given)?;
     replay_joined(source, path, &origin.head.typed, &origin.places, out)
 }
 

@@ -110,10 +110,7 @@ fn put_records<S: Source, A: Allocator + Copy, W: Sink>(
         let Some(row) = rows.get(position) else {
             unreachable!()
         };
-        match put_record(alloc, source, replacement, &row, scratch, buffer, out) {
-            Ok(()) => {}
-            Err(fault) => return Err(fault),
-        }
+        put_record(alloc, source, replacement, &row, scratch, buffer, out)?;
     }
     Ok(())
 }
@@ -136,7 +133,7 @@ pub(crate) fn write_rows<S: Source, A: Allocator + Copy, W: Sink>(
         return Err(OutFault::Memory(0));
     };
     let mut buffer = OutBuffer::new();
-    match put_records(
+    put_records(
         alloc,
         source,
         replacement,
@@ -144,12 +141,7 @@ pub(crate) fn write_rows<S: Source, A: Allocator + Copy, W: Sink>(
         &mut scratch,
         &mut buffer,
         out,
-    ) {
-        Ok(()) => {}
-        Err(fault) => return Err(fault),
-    }
-    match buffer.flush(out) {
-        Ok(()) => Ok(()),
-        Err(fault) => Err(OutFault::Write(fault.sent)),
-    }
+    )?;
+    buffer.flush(out)?;
+    Ok(())
 }

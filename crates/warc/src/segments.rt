@@ -95,10 +95,7 @@ fn put_segments<S: Source, A: Allocator + Copy, W: Sink>(
         return Err(OutFault::Read(buffer.sent()));
     }
     'splitting: for at in 0..segment_count(cut.size, cut.block_len) {
-        match put_segment(alloc, cut, at, source, scratch, buffer, out) {
-            Ok(()) => {}
-            Err(fault) => return Err(fault),
-        }
+        put_segment(alloc, cut, at, source, scratch, buffer, out)?;
     }
     Ok(())
 }

@@ -60,10 +60,7 @@ fn put_selected<S: Source, A: Allocator, W: Sink>(
         let Some(row) = rows.get(*position) else {
             unreachable!()
         };
-        match put_whole(&row, source, scratch, buffer, out) {
-            Ok(()) => {}
-            Err(fault) => return Err(fault),
-        }
+        put_whole(&row, source, scratch, buffer, out)?;
     }
     Ok(())
 }
@@ -83,14 +80,9 @@ pub(crate) fn send_selected<S: Source, A: Allocator, W: Sink>(
 {
     let mut scratch = [0; PIECE];
     let mut buffer = OutBuffer::new();
-    match put_selected(source, rows, positions, &mut scratch, &mut buffer, out) {
-        Ok(()) => {}
-        Err(fault) => return Err(fault),
-    }
-    match buffer.flush(out) {
-        Ok(()) => Ok(()),
-        Err(fault) => Err(OutFault::Write(fault.sent)),
-    }
+    put_selected(source, rows, positions, &mut scratch, &mut buffer, out)?;
+    buffer.flush(out)?;
+    Ok(())
 }
 
 /// How many bytes the records at positions have.

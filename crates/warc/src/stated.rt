@@ -96,10 +96,7 @@ fn judge_pieces<S: Source>(
     'judging: while done < len {
         let want = (len - done).min(scratch.len() as u64) as usize;
         let piece = &mut scratch[..want];
-        match read_range(source, at + done, piece) {
-            Ok(()) => {}
-            Err(fault) => return Err(fault),
-        }
+        read_range(source, at + done, piece)?;
         judge.update(piece);
         done += want as u64;
     }

@@ -98,6 +98,17 @@ pub enum ReplayFault {
     Out(OutFault),
 }
 
+impl From<OutFault> for ReplayFault {
+    ghost use Rattle.std.specs.Prelude.{◌≡◌};
+    ghost use Rattle.warc_answer.specs.declared.answer.ReplayFault.TheVariants.{Out};
+
+    ghost from_gives = { λ fault e. e ≡ Out fault };
+
+    fn from(fault: OutFault) -> ReplayFault {
+        ReplayFault::Out(fault)
+    }
+}
+
 impl fmt::Display for ReplayFault {
     ghost output = { λ fault. Some (replay_fault_text fault) };
 

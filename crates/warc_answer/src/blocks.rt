@@ -52,10 +52,7 @@ fn judge_block<S: Source>(
     ensures fails { FailsBy (HasRange place.now.start place.now.len) (read_result result) (S.seen source.old)
         (S.seen source.new) }
 {
-    match read_bytes(source, place.start, front) {
-        Ok(()) => {}
-        Err(fault) => return Err(fault),
-    }
+    read_bytes(source, place.start, front)?;
     if let Wanted::Unchecked = place.wanted {
         return Ok(Verdict::Unchecked);
     }
@@ -63,10 +60,8 @@ fn judge_block<S: Source>(
     running.update(front);
     let done = front.len() as u64;
     let at = place.start.saturating_add(done);
-    match update_range(source, at, place.len - done, scratch, &mut running) {
-        Ok(()) => Ok(running.verdict(&place.wanted)),
-        Err(fault) => Err(fault),
-    }
+    update_range(source, at, place.len - done, scratch, &mut running)?;
+    Ok(running.verdict(&place.wanted))
 }
 
 /// Judges the joined blocks one after another, through `scratch`, and fills the buffer with their front, as far as
@@ -88,10 +83,7 @@ fn judge_each<S: Source>(
     let mut filled = 0;
     'judging: for place in places {
         let want = (front.len() - filled).min(place.len as usize);
-        let verdict = match judge_block(source, place, &mut front[filled..filled + want], scratch) {
-            Ok(verdict) => verdict,
-            Err(fault) => return Err(fault),
-        };
+        let verdict = judge_block(source, place, &mut front[filled..filled + want], scratch)?;
         if verdict.is_bad() {
             return Ok(None);
         }
@@ -128,10 +120,7 @@ pub(crate) fn any_bad<S: Source>(source: &mut S, places: &[Place]) -> Result<boo
     ensures reads { ReadsToJudge false places.now (S.seen source.old) (S.seen source.new) }
     ensures fails { FailsBy (LieIn places.now) (read_result result) (S.seen source.old) (S.seen source.new) }
 {
-    match judge_blocks(source, places, &mut []) {
-        Ok(filled) => Ok(filled.is_none()),
-        Err(fault) => Err(fault),
-    }
+    Ok(judge_blocks(source, places, &mut [])?.is_none())
 }
 
 /// Adds the joined blocks to the output, without their first `skip` bytes.
@@ -154,9 +143,7 @@ fn put_blocks<S: Source, W: Sink>(
     'putting: for place in places {
         let gone = left.min(place.len);
         let at = place.start.saturating_add(gone);
-        if let Err(fault) = put_range(source, at, place.len - gone, scratch, buffer, out) {
-            return Err(fault);
-        }
+        put_range(source, at, place.len - gone, scratch, buffer, out)?;
         left -= gone;
     }
     Ok(())
@@ -177,13 +164,9 @@ fn send_through<S: Source, W: Sink>(
     ensures reads { ReadsPlaces places.now (len_of places.now) (S.seen source.old) (S.seen source.new) }
 {
     let mut buffer = OutBuffer::new();
-    if let Err(fault) = put_blocks(source, places, skip, scratch, &mut buffer, out) {
-        return Err(fault);
-    }
-    match buffer.flush(out) {
-        Ok(()) => Ok(()),
-        Err(fault) => Err(OutFault::Write(fault.sent)),
-    }
+    put_blocks(source, places, skip, scratch, &mut buffer, out)?;
+    buffer.flush(out)?;
+    Ok(())
 }
 
 /// Writes the joined blocks, without their first `skip` bytes.

@@ -60,10 +60,7 @@ fn hash_range<S: Source>(
     'hashing: while done < len {
         let want = (len - done).min(scratch.len() as u64) as usize;
         let piece = &mut scratch[..want];
-        match read_range(source, at + done, piece) {
-            Ok(()) => {}
-            Err(fault) => return Err(fault),
-        }
+        read_range(source, at + done, piece)?;
         hasher.update(piece);
         done += want as u64;
     }
@@ -89,10 +86,7 @@ fn hash_blocks<S: Source>(
     'adding: for place in places {
         let gone = left.min(place.len);
         let at = place.start.saturating_add(gone);
-        match hash_range(source, at, place.len - gone, scratch, hasher) {
-            Ok(()) => {}
-            Err(fault) => return Err(fault),
-        }
+        hash_range(source, at, place.len - gone, scratch, hasher)?;
         left -= gone;
     }
     Ok(())
@@ -116,10 +110,8 @@ fn digest_after<S: Source>(
 {
     let mut hasher = Hasher::new(algorithm);
     hasher.update(begun);
-    match hash_blocks(source, places, skip, scratch, &mut hasher) {
-        Ok(()) => Ok(hasher.finish()),
-        Err(fault) => Err(fault),
-    }
+    hash_blocks(source, places, skip, scratch, &mut hasher)?;
+    Ok(hasher.finish())
 }
 
 /// The same, through a buffer of its own, which is short where the joined blocks are.
@@ -160,28 +152,24 @@ fn digest_through<S: Source>(
 {
     front_tells_head();
     front_tells_no_head();
-    let n = match judge_blocks(source, places, front) {
-        Ok(Some(n)) => n,
-        Ok(None) => return Ok(None),
-        Err(fault) => return Err(fault),
+    let Some(n) = judge_blocks(source, places, front)? else {
+        return Ok(None);
     };
     let info = match body_start(&front[..n]) {
         Ok(info) => info,
         Err(_) => return Ok(None),
     };
-    match digest_from(
+    let digest = digest_from(
         source,
         &front[info.head_len..n],
         places,
         n as u64,
         algorithm,
-    ) {
-        Ok(digest) => Ok(Some(PayloadDigest {
-            digest,
-            coded: info.transfer_coded,
-        })),
-        Err(fault) => Err(fault),
-    }
+    )?;
+    Ok(Some(PayloadDigest {
+        digest,
+        coded: info.transfer_coded,
+    }))
 }
 
 /// The same, through a buffer of its own that has room for any HTTP head.
@@ -231,18 +219,14 @@ fn digest_whole<S: Source>(
         (S.seen source.new) }
     ensures fails { FailsBy (LieIn places.now) (read_result result) (S.seen source.old) (S.seen source.new) }
 {
-    match any_bad(source, places) {
-        Ok(false) => {}
-        Ok(true) => return Ok(None),
-        Err(fault) => return Err(fault),
+    if any_bad(source, places)? {
+        return Ok(None);
     }
-    match digest_from(source, b"", places, 0, algorithm) {
-        Ok(digest) => Ok(Some(PayloadDigest {
-            digest,
-            coded: false,
-        })),
-        Err(fault) => Err(fault),
-    }
+    let digest = digest_from(source, b"", places, 0, algorithm)?;
+    Ok(Some(PayloadDigest {
+        digest,
+        coded: false,
+    }))
 }
 
 /// The digest of the payload in joined blocks, as it is stored: of an HTTP response the bytes after its head, else all.

@@ -107,10 +107,7 @@ pub fn locate_joined<S: Source, A: Allocator + Copy>(
     ensures reads { ReadsPlaces places.now (len_of places.now) (S.seen source.old) (S.seen source.new) }
     ensures fails { FailsBy (AreBlocksIn places.now) (out_result result) (S.seen source.old) (S.seen source.new) }
 {
-    let begun = match begin_body(source, path, origin, places) {
-        Ok(begun) => begun,
-        Err(fault) => return Err(fault),
-    };
+    let begun = begin_body(source, path, origin, places)?;
     match cut_front(alloc, places, begun.skip) {
         Ok(spans) => Ok(Located {
             answer: begun.answer,

@@ -70,10 +70,7 @@ pub(crate) fn begin_body<S: Source, A: Allocator>(
 {
     one_of_three();
     joined_has_total();
-    let start = match find_body(source, is_http_response(origin), places) {
-        Ok(start) => start,
-        Err(fault) => return Err(fault),
-    };
+    let start = find_body(source, is_http_response(origin), places)?;
     Ok(Begun {
         answer: Answer {
             chosen: path.chosen,
@@ -109,12 +106,7 @@ pub fn replay_joined<S: Source, W: Sink, A: Allocator>(
         (S.seen source.old) (S.seen source.new) }
     ensures fails { FailsBy (AreBlocksIn places.now) (out_result result) (S.seen source.old) (S.seen source.new) }
 {
-    let begun = match begin_body(source, path, origin, places) {
-        Ok(begun) => begun,
-        Err(fault) => return Err(fault),
-    };
-    match send_blocks(source, places, begun.skip, out) {
-        Ok(()) => Ok(begun.answer),
-        Err(fault) => Err(ReplayFault::Out(fault)),
-    }
+    let begun = begin_body(source, path, origin, places)?;
+    send_blocks(source, places, begun.skip, out)?;
+    Ok(begun.answer)
 }

@@ -127,10 +127,7 @@ fn judge_http<S: Source, A: Allocator + Copy>(
     ensures reads { ReadsPlaces places.now (len_of places.now) (S.seen source.old) (S.seen source.new) }
     ensures fails { FailsBy (LieIn places.now) (out_result result) (S.seen source.old) (S.seen source.new) }
 {
-    let head = match find_head(alloc, source, places) {
-        Ok(head) => head,
-        Err(fault) => return Err(fault),
-    };
+    let head = find_head(alloc, source, places)?;
     let head_len = head.info.head_len as u64;
     Ok(Stored {
         status: Some(head.info.status),

@@ -46,10 +46,7 @@ pub fn judge_again<S: Source, A: Allocator + Copy>(
     ensures reads { ReadsOnly (IsInRow row.now) (row_len row.now) (S.seen source.old) (S.seen source.new) }
     ensures fails { FailsBy (HasTextOf row.now) (reread_result result) (S.seen source.old) (S.seen source.new) }
 {
-    let head = match reread_good(alloc, source, row, buf) {
-        Ok(head) => head,
-        Err(fault) => return Err(fault),
-    };
+    let head = reread_good(alloc, source, row, buf)?;
     let wanted = head.wanted();
     match judge_range(source, row.block_start, row.block_len, &wanted, buf) {
         Ok(verdict) => Ok(Rejudged {
@@ -81,10 +78,7 @@ fn judge_each<S: Source, A: Allocator + Copy>(
         let Some(row) = rows.get(position) else {
             unreachable!()
         };
-        match judging.add_reread(alloc, source, &row, head) {
-            Ok(()) => {}
-            Err(fault) => return Err(fault),
-        }
+        judging.add_reread(alloc, source, &row, head)?;
     }
     Ok(())
 }
@@ -105,10 +99,8 @@ fn judge_rows<S: Source, A: Allocator + Copy>(
         return Err(RereadFault::Memory);
     };
     let mut judging = Judging::new(alloc);
-    match judge_each(alloc, source, rows, &mut judging, &mut head) {
-        Ok(()) => Ok(judging.into_findings()),
-        Err(fault) => Err(fault),
-    }
+    judge_each(alloc, source, rows, &mut judging, &mut head)?;
+    Ok(judging.into_findings())
 }
 
 /// Writes a line for each finding of the records of an archive with these rows, in their order, or that there is no

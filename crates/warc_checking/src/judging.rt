@@ -82,10 +82,7 @@ fn add_good_head<A: Allocator + Copy>(
     ensures more { OnOk result ((found : Found) × (findings.new ≡ findings.old ++ found ∷ [])) }
     ensures err { OnErr result (findings.new ≡ findings.old) }
 {
-    let head = match good_head_in(alloc, text, block_len) {
-        Ok(head) => head,
-        Err(fault) => return Err(fault),
-    };
+    let head = good_head_in(alloc, text, block_len)?;
     match findings.add(alloc, head.fields(), block_len) {
         Ok(()) => Ok(head.wanted()),
         Err(_) => Err(RereadFault::Memory),
@@ -209,10 +206,7 @@ fn reread_head<S: Source, A: Allocator + Copy>(
     ensures reads { ReadsHeads (row.now ∷ []) (S.seen source.old) (S.seen source.new) }
     ensures fails { FailsBy (HasHeadOf row.now) (reread_result result) (S.seen source.old) (S.seen source.new) }
 {
-    let len = match reread_text(source, row, buf) {
-        Ok(len) => len,
-        Err(fault) => return Err(fault),
-    };
+    let len = reread_text(source, row, buf)?;
     add_head(alloc, &buf[..len], row.block_len, findings)
 }
 
@@ -237,10 +231,7 @@ fn add_reread<S: Source, A: Allocator + Copy>(
     ensures fails { FailsBy (HasTextOf row.now) (reread_result result) (S.seen source.old) (S.seen source.new) }
 {
     let count = findings.len();
-    let wanted = match reread_head(alloc, source, row, findings, buf) {
-        Ok(wanted) => wanted,
-        Err(fault) => return Err(fault),
-    };
+    let wanted = reread_head(alloc, source, row, findings, buf)?;
     match batch.add_read(source, row.block_start, row.block_len, &wanted, buf) {
         Ok(()) => Ok(()),
         Err(fault) => {

@@ -58,8 +58,6 @@ pub(crate) fn put_none<W: Sink>(buffer: &mut OutBuffer, out: &mut W) -> Result<u
     ensures cause { (W.seen out.new).faults ≡ failed_by result (W.seen out.old).faults }
     ensures unread { IfErr result (λ e. is_read e ≡ false) }
 {
-    match buffer.put(out, b"- N12\n") {
-        Ok(()) => Ok(1),
-        Err(fault) => Err(OutFault::Write(fault.sent)),
-    }
+    buffer.put(out, b"- N12\n")?;
+    Ok(1)
 }

@@ -61,10 +61,7 @@ fn put_next<A: Allocator + Copy, W: Sink>(
     let Ok(used) = ids.add(alloc, position, row.id) else {
         return Err(OutFault::Memory(buffer.sent()));
     };
-    match findings.put(position, used, buffer, out) {
-        Ok(number) => Ok(number),
-        Err(fault) => Err(OutFault::Write(fault.sent)),
-    }
+    Ok(findings.put(position, used, buffer, out)?)
 }
 
 /// Adds the lines of all records' findings to the output, and returns their number, up to 2^64 - 1.
@@ -144,8 +141,6 @@ pub(crate) fn tell_rows<A: Allocator + Copy, W: Sink>(
 {
     let mut buffer = OutBuffer::new();
     let number = put_rows(alloc, rows, findings, &mut buffer, out)?;
-    match buffer.flush(out) {
-        Ok(()) => Ok(number),
-        Err(fault) => Err(OutFault::Write(fault.sent)),
-    }
+    buffer.flush(out)?;
+    Ok(number)
 }

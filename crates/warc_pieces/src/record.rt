@@ -110,10 +110,7 @@ fn find_end<S: Source>(source: &mut S, from: u64, to: u64) -> Result<u64, ReadFa
             return Ok(low);
         }
         let middle = low + (high - low) / 2;
-        let has = match has_byte(source, middle) {
-            Ok(has) => has,
-            Err(fault) => return Err(fault),
-        };
+        let has = has_byte(source, middle)?;
         if has {
             low = middle + 1;
         } else {
@@ -160,10 +157,7 @@ fn read_block_end<A: Allocator + Copy>(alloc: A, text: &[u8]) -> Result<u64, Fau
     if text.is_empty() {
         return Err(FaultKind::Truncated.at(0));
     }
-    let head = match read_head(alloc, text) {
-        Ok(head) => head,
-        Err(fault) => return Err(fault),
-    };
+    let head = read_head(alloc, text)?;
     let end = head.len as u64 + head.block_len;
     let _good = match judge_head(head.fields) {
         Ok(good) => good,
@@ -202,10 +196,7 @@ fn find_block_end<S: Source, A: Allocator + Copy>(
                 }
             }
         }
-        let _goes_on = match window.more(source, at) {
-            Ok(goes_on) => goes_on,
-            Err(fault) => return Err(fault),
-        };
+        window.more(source, at)?;
     }
 }
 
@@ -276,10 +267,7 @@ fn judged_len<S: Source, A: Allocator + Copy>(
     ensures far { IfOk result (λ len. at + len ≤ max_archive) }
     ensures reads { ReadsBy own_reads result window.old window.new (S.seen source.old) (S.seen source.new) }
 {
-    let end = match find_block_end(alloc, source, window, at) {
-        Ok(end) => end,
-        Err(fault) => return Err(fault),
-    };
+    let end = find_block_end(alloc, source, window, at)?;
     close_record(source, window, at, end)
 }
 

@@ -116,10 +116,7 @@ pub fn good_head_in<A: Allocator + Copy>(
     ensures whole { IfOk result (λ head. (version : Version) × (head_of any_fields text.now
         ≡ Ok (record { version = version; fields = head; len = length text.now; block_len = block_len }))) }
 {
-    let head = match head_in(alloc, text, block_len) {
-        Ok(head) => head,
-        Err(fault) => return Err(fault),
-    };
+    let head = head_in(alloc, text, block_len)?;
     judged(head.fields)
 }
 
@@ -188,10 +185,7 @@ pub fn reread_head<S: Source, A: Allocator + Copy>(
     ensures reads { ReadsHeads (row.now ∷ []) (S.seen source.old) (S.seen source.new) }
     ensures fails { FailsBy (HasHeadOf row.now) (reread_result result) (S.seen source.old) (S.seen source.new) }
 {
-    let len = match reread_text(source, row, buf) {
-        Ok(len) => len,
-        Err(fault) => return Err(fault),
-    };
+    let len = reread_text(source, row, buf)?;
     head_in(alloc, &buf[..len], row.block_len)
 }
 
@@ -211,10 +205,7 @@ pub fn read_again<S: Source, A: Allocator + Copy>(
     ensures reads { ReadsHeads (row.now ∷ []) (S.seen source.old) (S.seen source.new) }
     ensures fails { FailsBy (HasHeadOf row.now) (reread_result result) (S.seen source.old) (S.seen source.new) }
 {
-    let head = match reread_head(alloc, source, row, buf) {
-        Ok(head) => head,
-        Err(fault) => return Err(fault),
-    };
+    let head = reread_head(alloc, source, row, buf)?;
     typed(alloc, head)
 }
 
@@ -233,9 +224,6 @@ pub fn reread_good<S: Source, A: Allocator + Copy>(
     ensures reads { ReadsHeads (row.now ∷ []) (S.seen source.old) (S.seen source.new) }
     ensures fails { FailsBy (HasHeadOf row.now) (reread_result result) (S.seen source.old) (S.seen source.new) }
 {
-    let len = match reread_text(source, row, buf) {
-        Ok(len) => len,
-        Err(fault) => return Err(fault),
-    };
+    let len = reread_text(source, row, buf)?;
     good_head_in(alloc, &buf[..len], row.block_len)
 }

@@ -22,11 +22,11 @@ returns-in-Ok-marked_positions g c =
     let back : c.deref_mut-2.result.now ≡ c.mark_ways.new.marks = c.deref_mut-2.ensures.value
     ∙ take_at c.mark_ways.new.marks _ _ (omega (arith, c.mark_ways.ensures.same, c.deref_mut.ensures.len)) in
     let left : c.deref.result.now ≡ c.take_all.new.marks = c.deref.ensures.value
-    ∙ take_at c.take_all.new.marks _ _ (omega (arith, c.in-Ok-take_all.ensures.same, c.deref_mut-2.ensures.len)) in
+    ∙ take_at c.take_all.new.marks _ _ (omega (arith, c.in_ok-take_all.ensures.same, c.deref_mut-2.ensures.len)) in
     let begun : length c.deref_mut.result.now ≡ length rows =
     ap length first ∙ (length-replicate c.len.result Free ∙ c.len.ensures) in
     let long : length c.take_all.new.marks ≡ length rows =
-    c.in-Ok-take_all.ensures.same ∙ (ap length back ∙ (c.mark_ways.ensures.same ∙ begun)) in
+    c.in_ok-take_all.ensures.same ∙ (ap length back ∙ (c.mark_ways.ensures.same ∙ begun)) in
     let listed : AreWhere (λ p. marks_needed (mark_in c.take_all.new.marks p)) (length c.take_all.new.marks) closed =
     subst (λ (marks : List Mark). AreWhere (λ p. marks_needed (mark_in marks p)) (length marks) closed) left
     c.in-Ok-marked_positions.ensures in
@@ -40,11 +40,11 @@ returns-in-Ok-marked_positions g c =
           (subst (λ (n : ℕ). All (λ p. p < n) positions) many c.requires.below) in
           let plain : HasNoSegment c.mark_ways.new.marks =
           c.mark_ways.ensures.plain (none_segment c.deref_mut.result.now c.len.result first) in
-          let taken = c.in-Ok-take_all.ensures.takes.told bytes held is are.parts_are (subst HasNoSegment (sym back) plain) in
+          let taken = c.in_ok-take_all.ensures.takes.told bytes held is are.parts_are (subst HasNoSegment (sym back) plain) in
           closed_are bytes rows positions closed c.deref_mut-2.result.now c.take_all.new.marks is long
           (subst (AreMarked (next_of all) positions) (sym back) ways) taken listed;
       are = subst (λ (n : ℕ). ArePositions n closed) long listed.are;
-      reads = c.in-Ok-take_all.ensures.takes.reads;
+      reads = c.in_ok-take_all.ensures.takes.reads;
       early = tt;
-      fails = fails_never c.in-Ok-take_all.ensures.takes.fails.may;
+      fails = fails_never c.in_ok-take_all.ensures.takes.fails.may;
     }

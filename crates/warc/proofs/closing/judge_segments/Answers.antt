@@ -1,4 +1,5 @@
 use Rattle.std.proofs.Common.{◌+◌, ◌<◌, length, refl, ◌∙◌, arith}
+use Rattle.std.proofs.lemmas.Result.{err_from_is_err_and}
 use Rattle.warc_frame.proofs.EffectLemmas.{fails_after, fails_never, reads_none}
 use Rattle.warc.proofs.TakenLemmas.{heads_all, heads_more, heads_past, record_there, some_at}
 use Rattle.warc.proofs.LeftLemmas.{judged_fewer, judged_fresh, judged_next, judged_past}
@@ -27,7 +28,7 @@ judging-preserved-then-is_named g c =
 pub judging-preserved : goal.judging-preserved
 judging-preserved g c =
     let old = c.judging.invariant in
-    let next = c.in-Ok.ensures in
+    let next = c.in_ok-judge_segments_of.ensures in
     let within : c.judging.position < length c.args.rows.now = omega (arith, c.judging-test.true, c.len-position-end.ensures) in
     let (row, at) = some_at c.args.rows.now c.judging.position within in
     record {
@@ -43,19 +44,20 @@ judging-preserved g c =
       sound = next.judges.fails.may ∙ old.sound;
     }
 
-pub returns-in-Err-clause-judges : goal.returns-in-Err-clause-judges
-returns-in-Err-clause-judges g c =
+pub returns-in_err-judge_segments_of-clause-judges : goal.returns-in_err-judge_segments_of-clause-judges
+returns-in_err-judge_segments_of-clause-judges g c =
+    let p = err_from_is_err_and c.from_residual.result c.from_residual.ensures.1 in
     let old = c.judging.invariant in
-    let next = c.in-Err.ensures in
+    let next = c.in_err-judge_segments_of.ensures in
     let within : c.judging.position < length c.args.rows.now = omega (arith, c.judging-test.true, c.len-position-end.ensures) in
     let (row, at) = some_at c.args.rows.now c.judging.position within in
-    record {
+    rw (p.1, p.2) (record {
       told = λ bytes held is parts fresh. tt;
       early = next.judges.early;
       reads = heads_all c.args.rows.now (c.judging.position + 1)
           (heads_more c.args.rows.now c.judging.position row at old.reads (next.judges.reads row at));
       fails = fails_after old.reads.kept old.sound next.judges.fails;
-    }
+    })
 
 pub returns-clause-judges : goal.returns-clause-judges
 returns-clause-judges g c =

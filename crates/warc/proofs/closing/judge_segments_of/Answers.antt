@@ -6,13 +6,13 @@ use Rattle.warc.specs.Marks.{pieces_of}
 use Rattle.warc.specs.Standings.{LeavesIfNamed}
 use Rattle.warc.proofs.closing.judge_segments_of.Goals as goal
 
-pub returns-in-Ok-leave_if_named-clause-judges : goal.returns-in-Ok-leave_if_named-clause-judges
-returns-in-Ok-leave_if_named-clause-judges g c = record {
+pub returns-in-Ok-clause-judges : goal.returns-in-Ok-clause-judges
+returns-in-Ok-clause-judges g c = record {
   told = λ bytes held is p there parts memos.
       subst (λ (h : Reading). LeavesIfNamed (pieces_of is.are.records) h c.args.position c.args.standings.now c.leave_if_named.new.standings)
-      (c.in-Ok.ensures.told bytes held is p there)
-      (c.in-Ok-leave_if_named.ensures.judges (map placed_record is.are.records) parts memos);
+      (c.in_ok-head.ensures.told bytes held is p there)
+      (c.in-Ok.ensures.judges (map placed_record is.are.records) parts memos);
   early = tt;
-  reads = c.in-Ok.ensures.reads;
-  fails = fails_never c.in-Ok.ensures.fails.may;
+  reads = c.in_ok-head.ensures.reads;
+  fails = fails_never c.in_ok-head.ensures.fails.may;
 }

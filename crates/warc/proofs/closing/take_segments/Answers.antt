@@ -1,4 +1,5 @@
 use Rattle.std.proofs.Common.{◌+◌, ◌<◌, length, ◌∙◌, arith}
+use Rattle.std.proofs.lemmas.Result.{err_from_is_err_and}
 use Rattle.warc_frame.proofs.EffectLemmas.{fails_after, fails_never}
 use Rattle.warc.proofs.TakenLemmas.{heads_all, heads_more, heads_past, record_there, some_at, taken_fewer, taken_next, taken_past}
 use Rattle.warc.proofs.closing.take_segments.Goals as goal
@@ -18,7 +19,7 @@ taking-preserved-then-is_free g c =
 pub taking-preserved : goal.taking-preserved
 taking-preserved g c =
     let old = c.taking.invariant in
-    let next = c.in-Ok.ensures in
+    let next = c.in_ok-take_segments_of.ensures in
     let within : c.taking.position < length c.args.rows.now = omega (arith, c.taking-test.true, c.len-position-end.ensures) in
     let (row, at) = some_at c.args.rows.now c.taking.position within in
     record {
@@ -33,19 +34,20 @@ taking-preserved g c =
       sound = next.takes.fails.may ∙ old.sound;
     }
 
-pub returns-in-Err-clause-takes : goal.returns-in-Err-clause-takes
-returns-in-Err-clause-takes g c =
+pub returns-in_err-take_segments_of-clause-takes : goal.returns-in_err-take_segments_of-clause-takes
+returns-in_err-take_segments_of-clause-takes g c =
+    let p = err_from_is_err_and c.from_residual.result c.from_residual.ensures.1 in
     let old = c.taking.invariant in
-    let next = c.in-Err.ensures in
+    let next = c.in_err-take_segments_of.ensures in
     let within : c.taking.position < length c.args.rows.now = omega (arith, c.taking-test.true, c.len-position-end.ensures) in
     let (row, at) = some_at c.args.rows.now c.taking.position within in
-    record {
+    rw (p.1, p.2) (record {
       told = λ bytes held is parts none. tt;
       early = next.takes.early;
       reads = heads_all c.args.rows.now (c.taking.position + 1)
           (heads_more c.args.rows.now c.taking.position row at old.reads (next.takes.reads row at));
       fails = fails_after old.reads.kept old.sound next.takes.fails;
-    }
+    })
 
 pub returns-clause-takes : goal.returns-clause-takes
 returns-clause-takes g c =

@@ -1,5 +1,6 @@
 use Rattle.std.proofs.Common.{◌≡◌, ◌<◌, inl, length, Some, refl, sym, ap, ◌∙◌}
 use Rattle.std.specs.List.{slice_get}
+use Rattle.std.proofs.lemmas.Result.{err_from_is_err_and}
 use Rattle.warc_frame.proofs.EffectLemmas.{fails_after, fails_as, fails_more, fails_never}
 use Rattle.warc_reading.specs.Archive.{contents}
 use Rattle.warc_reading.proofs.PlacedLemmas.{content_at, placed}
@@ -22,24 +23,25 @@ returns-in_default g c = record {
   };
 }
 
-pub returns-in-Err : goal.returns-in-Err
-returns-in-Err g c =
+pub returns-in_err-head : goal.returns-in_err-head
+returns-in_err-head g c =
+    let p = err_from_is_err_and c.from_residual.result c.from_residual.ensures.1 in
     let at : slice_get c.args.rows.now c.args.position ≡ Some c.in-Some.row = sym c.get.ensures ∙ c.in-Some.is in
-    record {
+    rw (p.1, p.2) (record {
       told = λ bytes held is are known. tt;
-      early = c.in-Err.ensures.early;
+      early = c.in_err-head.ensures.early;
       inside = λ bytes (is, are).
           let (p, there, same) = placed is.are.records c.args.position c.in-Some.row (ap (λ l. slice_get l c.args.position) (sym is.are.rows_are) ∙ at) in
-          head_inside bytes is.are.records c.args.position p is.are.spelled there c.in-Some.row _ _ same c.in-Err.ensures.reads;
-      keeps = record { kept = c.in-Err.ensures.reads.kept; watched = c.in-Err.ensures.reads.watched };
-      fails = fails_more (λ bytes held (is, are, low). text_there c.head_of_spelled.ensures bytes c.args.rows.now c.args.position c.in-Some.row is at) (fails_as _ _ c.in-Err.ensures.fails);
-    }
+          head_inside bytes is.are.records c.args.position p is.are.spelled there c.in-Some.row _ _ same c.in_err-head.ensures.reads;
+      keeps = record { kept = c.in_err-head.ensures.reads.kept; watched = c.in_err-head.ensures.reads.watched };
+      fails = fails_more (λ bytes held (is, are, low). text_there c.head_of_spelled.ensures bytes c.args.rows.now c.args.position c.in-Some.row is at) (fails_as _ _ c.in_err-head.ensures.fails);
+    })
 
-pub returns-in-Ok-verdict_by_head : goal.returns-in-Ok-verdict_by_head
-returns-in-Ok-verdict_by_head g c =
+pub returns-in-Ok : goal.returns-in-Ok
+returns-in-Ok g c =
     let at : slice_get c.args.rows.now c.args.position ≡ Some c.in-Some.row = sym c.get.ensures ∙ c.in-Some.is in
-    let head = c.in-Ok.ensures in
-    let next = c.in-Ok-verdict_by_head.ensures in
+    let head = c.in_ok-head.ensures in
+    let next = c.in-Ok.ensures in
     record {
       told = λ bytes held is are known.
           let (p, there, same) = placed is.are.records c.args.position c.in-Some.row (ap (λ l. slice_get l c.args.position) (sym is.are.rows_are) ∙ at) in
@@ -54,11 +56,11 @@ returns-in-Ok-verdict_by_head g c =
       fails = fails_never ((next.fails at).may ∙ head.fails.may);
     }
 
-pub returns-in-Err-verdict_by_head : goal.returns-in-Err-verdict_by_head
-returns-in-Err-verdict_by_head g c =
+pub returns-in-Err : goal.returns-in-Err
+returns-in-Err g c =
     let at : slice_get c.args.rows.now c.args.position ≡ Some c.in-Some.row = sym c.get.ensures ∙ c.in-Some.is in
-    let head = c.in-Ok.ensures in
-    let next = c.in-Err-verdict_by_head.ensures in
+    let head = c.in_ok-head.ensures in
+    let next = c.in-Err.ensures in
     record {
       told = λ bytes held is are known. tt;
       early = next.early;

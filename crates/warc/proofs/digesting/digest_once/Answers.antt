@@ -1,4 +1,5 @@
 use Rattle.std.proofs.Common.{refl}
+use Rattle.std.proofs.lemmas.Result.{err_from_is_err_and}
 use Rattle.warc_reading.specs.Archive.{contents}
 use Rattle.warc.proofs.DigestLemmas.{once_known}
 use Rattle.warc.proofs.digesting.digest_once.Goals as goal
@@ -12,30 +13,32 @@ returns-in-Some g c = record {
   fails = record { may = refl; failed = λ bytes held is. refl };
 }
 
+pub returns-in_err-digest : goal.returns-in_err-digest
+returns-in_err-digest g c =
+    let p = err_from_is_err_and c.from_residual.result c.from_residual.ensures.1 in
+    rw (p.1, p.2) (record {
+      told = λ bytes held is parts known. tt;
+      early = c.in_err-digest.ensures.early;
+      inside = c.in_err-digest.ensures.inside;
+      keeps = c.in_err-digest.ensures.keeps;
+      fails = c.in_err-digest.ensures.fails;
+    })
+
+pub returns-in-Ok : goal.returns-in-Ok
+returns-in-Ok g c = record {
+  told = λ bytes held is parts known.
+      let has = c.in_ok-digest.ensures.told bytes held is parts in (has, c.in-Ok.ensures (contents is.are.records) known has);
+  early = tt;
+  inside = c.in_ok-digest.ensures.inside;
+  keeps = c.in_ok-digest.ensures.keeps;
+  fails = c.in_ok-digest.ensures.fails;
+}
+
 pub returns-in-Err : goal.returns-in-Err
 returns-in-Err g c = record {
   told = λ bytes held is parts known. tt;
-  early = c.in-Err.ensures.early;
-  inside = c.in-Err.ensures.inside;
-  keeps = c.in-Err.ensures.keeps;
-  fails = c.in-Err.ensures.fails;
-}
-
-pub returns-in-Ok-add : goal.returns-in-Ok-add
-returns-in-Ok-add g c = record {
-  told = λ bytes held is parts known.
-      let has = c.in-Ok.ensures.told bytes held is parts in (has, c.in-Ok-add.ensures (contents is.are.records) known has);
-  early = tt;
-  inside = c.in-Ok.ensures.inside;
-  keeps = c.in-Ok.ensures.keeps;
-  fails = c.in-Ok.ensures.fails;
-}
-
-pub returns-in-Err-add : goal.returns-in-Err-add
-returns-in-Err-add g c = record {
-  told = λ bytes held is parts known. tt;
   early = refl;
-  inside = c.in-Ok.ensures.inside;
-  keeps = c.in-Ok.ensures.keeps;
-  fails = record { may = c.in-Ok.ensures.fails.may; failed = λ bytes held is. c.in-Ok.ensures.fails.may };
+  inside = c.in_ok-digest.ensures.inside;
+  keeps = c.in_ok-digest.ensures.keeps;
+  fails = record { may = c.in_ok-digest.ensures.fails.may; failed = λ bytes held is. c.in_ok-digest.ensures.fails.may };
 }

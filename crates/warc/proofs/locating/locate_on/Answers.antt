@@ -1,4 +1,5 @@
 use Rattle.std.proofs.Common.{Ok, sym, subst, ◌∙◌, arith}
+use Rattle.std.proofs.lemmas.Result.{err_from_is_err_and}
 use Rattle.warc_frame.proofs.EffectLemmas.{fails_after, fails_more}
 use Rattle.warc_segment.specs.Joined.{ArePlacesOf}
 use Rattle.warc_answer.specs.Payloads.{read_record}
@@ -8,26 +9,28 @@ use Rattle.warc.proofs.OriginLemmas.{fault_replayed, places_in, on_path, preserv
 use Rattle.warc.proofs.ReplayLemmas.{found_as, places_are, then_inside}
 use Rattle.warc.proofs.locating.locate_on.Goals as goal
 
-pub returns-in-Err : goal.returns-in-Err
-returns-in-Err g c = λ way leads.
-    let found = c.in-Err.ensures in
+pub returns-in_err-origin : goal.returns-in_err-origin
+returns-in_err-origin g c =
+    let p = err_from_is_err_and c.from_residual.result c.from_residual.ensures.1 in
+    rw (p.1, p.2) (λ way leads.
+    let found = c.in_err-origin.ensures in
     record {
       held = λ bytes held is are. record {
         located = λ tells.
-            fault_replayed (Unit {0}) c.reasons_are_answers.ensures c.fails_before_all.ensures c.places_are_of_records.ensures bytes is.are.records (way (contents is.are.records)) c.args.path c.in-Err.fault tells
+            fault_replayed (Unit {0}) c.reasons_are_answers.ensures c.fails_before_all.ensures c.places_are_of_records.ensures bytes is.are.records (way (contents is.are.records)) c.args.path c.in_err-origin.field-0.0 tells
             is.are.spelled (leads.is bytes is are) (leads.ends bytes is are) found.early (found.told bytes held is are.parts_are);
         reads = on_path is.are.records _ c.args.path (leads.is bytes is are) (read_less 0 2 (λ n. omega arith) is.are.records _ (found.reads bytes held is are.parts_are));
       };
       inside = λ bytes (is, are). (found.inside bytes is are.parts_are).asks;
       keeps = found.keeps;
-      fails = fails_more (λ bytes held (is, are). (is, are.parts_are, leads.ends bytes is are c.args.path (leads.is bytes is are))) (fault_fails (Unit {0}) (Unit {0}) c.in-Err.fault found.fails);
-    }
+      fails = fails_more (λ bytes held (is, are). (is, are.parts_are, leads.ends bytes is are c.args.path (leads.is bytes is are))) (fault_fails (Unit {0}) (Unit {0}) c.in_err-origin.field-0.0 found.fails);
+    })
 
 pub returns : goal.returns
 returns g c = λ way leads.
-    let found = c.in-Ok.ensures in
+    let found = c.in_ok-origin.ensures in
     let given = c.locate_joined.ensures in
-    let items = c.in-Ok.origin.places.items in
+    let items = c.in_ok-origin.origin.places.items in
     record {
       held = λ bytes held is are.
           let at = found.told bytes held is are.parts_are in

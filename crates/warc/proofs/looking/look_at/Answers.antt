@@ -1,4 +1,5 @@
 use Rattle.std.proofs.Common.{Ok, refl, sym, ap, subst, ◌∙◌, arith}
+use Rattle.std.proofs.lemmas.Result.{err_from_is_err_and}
 use Rattle.warc_frame.proofs.EffectLemmas.{fails_after, fails_more}
 use Rattle.warc_segment.specs.Joined.{ArePlacesOf}
 use Rattle.warc_answer.specs.Stored.{own_type}
@@ -9,29 +10,30 @@ use Rattle.warc.proofs.OriginLemmas.{places_in, preserves_both, read_less, then_
 use Rattle.warc.proofs.ReplayLemmas.{found_as, places_are, then_inside}
 use Rattle.warc.proofs.looking.look_at.Goals as goal
 
-pub returns-in-Err : goal.returns-in-Err
-returns-in-Err g c =
-    let found = c.in-Err.ensures in
-    record {
-      told = λ bytes held is parts. gap_looked (Unit {0}) (Unit {0}) bytes is.are.records c.args.position c.in-Err.fault is.are.spelled c.places_are_of_records.ensures (found.told bytes held is parts);
+pub returns-in_err-origin : goal.returns-in_err-origin
+returns-in_err-origin g c =
+    let p = err_from_is_err_and c.from_residual.result c.from_residual.ensures.1 in
+    let found = c.in_err-origin.ensures in
+    rw (p.1, p.2) (record {
+      told = λ bytes held is parts. gap_looked (Unit {0}) (Unit {0}) bytes is.are.records c.args.position c.in_err-origin.field-0.0 is.are.spelled c.places_are_of_records.ensures (found.told bytes held is parts);
       reads = λ bytes held is parts. record { reads = read_less 0 1 (λ n. omega arith) is.are.records _ (found.reads bytes held is parts); places = tt };
       inside = λ bytes is parts. record { asks = (found.inside bytes is parts).asks; ends = tt };
       early = found.early;
       keeps = found.keeps;
-      fails = fault_fails (Unit {0}) (Unit {0}) c.in-Err.fault found.fails;
-    }
+      fails = fault_fails (Unit {0}) (Unit {0}) c.in_err-origin.field-0.0 found.fails;
+    })
 
-pub returns-in-Err-judge_joined : goal.returns-in-Err-judge_joined
-returns-in-Err-judge_joined g c =
-    let found = c.in-Ok.ensures in
-    let given = c.in-Err-judge_joined.ensures in
-    let items = c.in-Ok.origin.places.items in
+pub returns-in-Err : goal.returns-in-Err
+returns-in-Err g c =
+    let found = c.in_ok-origin.ensures in
+    let given = c.in-Err.ensures in
+    let items = c.in_ok-origin.origin.places.items in
     let path : Path = record { chosen = c.args.position; given = c.args.position } in
     record {
       told = λ bytes held is parts.
           let at = found.told bytes held is parts in
           let (joined, whole, places) = places_are bytes is.are.records c.args.position at.placed is.are.spelled at.there items c.places_are_of_records.ensures at.places_are in
-          look_failed (Unit {0}) (Unit {0}) bytes is.are.records c.args.position at.placed joined c.in-Err-judge_joined.fault at.there whole
+          look_failed (Unit {0}) (Unit {0}) bytes is.are.records c.args.position at.placed joined c.in-Err.fault at.there whole
           (given.judged bytes (found.keeps.kept ∙ held) at.placed.content joined (record {
             records = contents is.are.records;
             found = Ok path;
@@ -57,20 +59,20 @@ returns-in-Err-judge_joined g c =
           let at = found.told bytes (sym found.keeps.kept ∙ held) is parts in
           let (joined, whole, places) = places_are bytes is.are.records c.args.position at.placed is.are.spelled at.there items c.places_are_of_records.ensures at.places_are in
           record { joined = joined; short = is.short; places_are = subst (λ l. ArePlacesOf bytes l joined) (sym c.deref.ensures.value) places })
-          (fault_fails (Unit {0}) (Unit {0}) c.in-Err-judge_joined.fault given.fails));
+          (fault_fails (Unit {0}) (Unit {0}) c.in-Err.fault given.fails));
     }
 
-pub returns-in-Ok-judge_joined : goal.returns-in-Ok-judge_joined
-returns-in-Ok-judge_joined g c =
-    let found = c.in-Ok.ensures in
-    let given = c.in-Ok-judge_joined.ensures in
-    let items = c.in-Ok.origin.places.items in
+pub returns-in-Ok : goal.returns-in-Ok
+returns-in-Ok g c =
+    let found = c.in_ok-origin.ensures in
+    let given = c.in-Ok.ensures in
+    let items = c.in_ok-origin.origin.places.items in
     let path : Path = record { chosen = c.args.position; given = c.args.position } in
     record {
       told = λ bytes held is parts.
           let at = found.told bytes held is parts in
           let (joined, whole, places) = places_are bytes is.are.records c.args.position at.placed is.are.spelled at.there items c.places_are_of_records.ensures at.places_are in
-          look_made bytes is.are.records c.args.position at.placed joined c.in-Ok-judge_joined.stored c.in-Ok.origin.places is.short at.there whole places
+          look_made bytes is.are.records c.args.position at.placed joined c.in-Ok.stored c.in_ok-origin.origin.places is.short at.there whole places
           (given.judged bytes (found.keeps.kept ∙ held) at.placed.content joined (record {
             records = contents is.are.records;
             found = Ok path;

@@ -1,4 +1,5 @@
 use Rattle.std.proofs.Common.{Ok, sym, subst, ◌∙◌, arith}
+use Rattle.std.proofs.lemmas.Result.{err_from_is_err_and}
 use Rattle.warc_frame.proofs.EffectLemmas.{fails_after, fails_more}
 use Rattle.warc_record.specs.Seen.{said}
 use Rattle.warc_segment.specs.Joined.{ArePlacesOf}
@@ -10,25 +11,27 @@ use Rattle.warc.proofs.OriginLemmas.{early_late, fault_replayed, places_in, on_p
 use Rattle.warc.proofs.ReplayLemmas.{found_as, places_are, then_inside}
 use Rattle.warc.proofs.replay.replay_on.Goals as goal
 
-pub returns-in-Err : goal.returns-in-Err
-returns-in-Err g c = λ way leads.
-    let found = c.in-Err.ensures in
+pub returns-in_err-origin : goal.returns-in_err-origin
+returns-in_err-origin g c =
+    let p = err_from_is_err_and c.from_residual.result c.from_residual.ensures.1 in
+    rw (p.1, p.2) (λ way leads.
+    let found = c.in_err-origin.ensures in
     record {
       told = λ bytes held is are.
-          fault_replayed (Unit {0}) c.reasons_are_answers.ensures c.fails_before_all.ensures c.places_are_of_records.ensures bytes is.are.records (way (contents is.are.records)) c.args.path c.in-Err.fault _
+          fault_replayed (Unit {0}) c.reasons_are_answers.ensures c.fails_before_all.ensures c.places_are_of_records.ensures bytes is.are.records (way (contents is.are.records)) c.args.path c.in_err-origin.field-0.0 _
           is.are.spelled (leads.is bytes is are) (leads.ends bytes is are) found.early (found.told bytes held is are.parts_are);
       reads = λ bytes held is are. on_path is.are.records _ c.args.path (leads.is bytes is are) (read_less 0 2 (λ n. omega arith) is.are.records _ (found.reads bytes held is are.parts_are));
       inside = λ bytes (is, are). (found.inside bytes is are.parts_are).asks;
       keeps = found.keeps;
-      late = early_late c.in-Err.fault _ found.early;
-      fails = fails_more (λ bytes held (is, are). (is, are.parts_are, leads.ends bytes is are c.args.path (leads.is bytes is are))) (fault_fails (Unit {0}) (Unit {0}) c.in-Err.fault found.fails);
-    }
+      late = early_late c.in_err-origin.field-0.0 _ found.early;
+      fails = fails_more (λ bytes held (is, are). (is, are.parts_are, leads.ends bytes is are c.args.path (leads.is bytes is are))) (fault_fails (Unit {0}) (Unit {0}) c.in_err-origin.field-0.0 found.fails);
+    })
 
 pub returns : goal.returns
 returns g c = λ way leads.
-    let found = c.in-Ok.ensures in
+    let found = c.in_ok-origin.ensures in
     let given = c.replay_joined.ensures in
-    let items = c.in-Ok.origin.places.items in
+    let items = c.in_ok-origin.origin.places.items in
     record {
       told = λ bytes held is are.
           let at = found.told bytes held is are.parts_are in
@@ -46,7 +49,7 @@ returns g c = λ way leads.
           let places = places_in bytes is.are.records c.args.path.given is.are.spelled items at c.places_are_of_records.ensures c.places_are_as_long.ensures in
           on_path is.are.records _ c.args.path (leads.is bytes is are)
           (then_read 0 2 2 (λ n. omega arith) is.are.records _ items c.deref.result.now _ (found.reads bytes held is are.parts_are) places c.deref.ensures.value
-          (body_within (is_http_response (said c.in-Ok.origin.head.typed)) c.deref.result.now) given.reads);
+          (body_within (is_http_response (said c.in_ok-origin.origin.head.typed)) c.deref.result.now) given.reads);
       inside = λ bytes (is, are).
           let stays = found.inside bytes is are.parts_are in
           then_inside bytes items c.deref.result.now (g.S.Source.seen c.args.source.now) (g.S.Source.seen c.origin_at.new.source) (g.S.Source.seen c.replay_joined.new.source) found.keeps.watched stays.asks stays.ends c.deref.ensures.value given.reads.near;

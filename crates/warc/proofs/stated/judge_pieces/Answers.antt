@@ -16,13 +16,13 @@ judging-preserved g c =
       taken = λ bytes held value before has.
           let text = drop at bytes in
           let piece : c.read_range.new.buf ≡ take n (drop (at + done) bytes) =
-          c.in-Ok.ensures.bytes bytes (c.judging.invariant.reads.kept ∙ held) ∙ ap (λ k. take k (drop (at + done) bytes)) size in
+          c.in_ok-read_range.ensures.bytes bytes (c.judging.invariant.reads.kept ∙ held) ∙ ap (λ k. take k (drop (at + done) bytes)) size in
           let whole : take done text ++ c.read_range.new.buf ≡ take (done + n) text =
           ap (λ l. take done text ++ l) (piece ∙ ap (take n) (sym (drop-drop done at bytes))) ∙ sym (take-add done n text) in
           let P : List ℕ → Type 0 = λ l. JudgeHasTaken c.update.new.self value l in
           let together : (before ++ take done text) ++ c.read_range.new.buf ≡ before ++ take (done + n) text =
           append_assoc before (take done text) c.read_range.new.buf ∙ ap (λ l. before ++ l) whole in
           subst P together (c.update.ensures value (before ++ take done text) (c.judging.invariant.taken bytes held value before has));
-      reads = reads_more at done n _ size c.judging.invariant.reads c.in-Ok.ensures.reads;
-      sound = c.in-Ok.ensures.fails.may ∙ c.judging.invariant.sound;
+      reads = reads_more at done n _ size c.judging.invariant.reads c.in_ok-read_range.ensures.reads;
+      sound = c.in_ok-read_range.ensures.fails.may ∙ c.judging.invariant.sound;
     }

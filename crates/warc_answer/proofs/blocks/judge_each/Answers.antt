@@ -1,4 +1,5 @@
 use Rattle.std.proofs.Common.{rules, ◌≡◌, ◌+◌, ◌-◌, ◌<◌, ◌≤◌, ◌++◌, [], false, true, length, min, take, drop, get_or, arith, refl, sym, ap, ◌∙◌}
+use Rattle.std.proofs.lemmas.Result.{err_from_is_err_and}
 use borrow.Rule.Slice.PartMut.{mid_of, put_mid, same_len_mid}
 use Rattle.warc_value.specs.Digests.{is_bad}
 use Rattle.warc_value.specs.declared.hash.Wanted.TheVariants.{Sha1}
@@ -49,7 +50,7 @@ judging-preserved g c =
           let front : take (filled + (filled + want - filled)) (put_mid filled (filled + want - filled) buf part) ≡ take filled buf ++ part =
           filled_front buf part filled (filled + want - filled) c.judging.invariant.within size in
           let all : filled + want ≡ filled + (filled + want - filled) = omega arith in
-          let read = c.in-Ok.ensures.bytes bytes (c.judging.invariant.read.kept ∙ held) in
+          let read = c.in_ok-verdict.ensures.bytes bytes (c.judging.invariant.read.kept ∙ held) in
           let read_is : part ≡ take (min p.len (length buf - filled)) (drop p.start bytes) = read ∙ ap (λ n. take n (drop p.start bytes)) (mid ∙ (k ∙ want_is)) in
           let more : take filled buf ++ take (min p.len (length buf - filled)) (drop p.start bytes) ≡ take (length buf) (text_at (take (i + 1) places) bytes) =
           front_more bytes places i (length buf) filled none (take filled buf) lt (c.judging.invariant.bytes bytes held lie) (c.judging.invariant.count bytes lie) in
@@ -58,7 +59,7 @@ judging-preserved g c =
       good = λ bytes held lie.
           let range : HasRange p.start p.len bytes = (lies bytes places i none lie lt, lie.short) in
           let here : is_bad_at bytes p ≡ false =
-          sym (ap is_bad (c.in-Ok.ensures.verdict bytes (c.judging.invariant.read.kept ∙ held) range)) ∙ (sym c.is_bad.ensures ∙ c.if-is_bad.false) in
+          sym (ap is_bad (c.in_ok-verdict.ensures.verdict bytes (c.judging.invariant.read.kept ∙ held) range)) ∙ (sym c.is_bad.ensures ∙ c.if-is_bad.false) in
           none_bad bytes places i none lt (c.judging.invariant.good bytes held lie) here;
       sound = search rules;
       read = read_more places i p.start _ none _ _ _ lt (omega arith) (omega (arith, mid, c.min-want.ensures, judged_short p.wanted (p.len - length (mid_of filled (filled + want - filled) buf))))
@@ -67,8 +68,8 @@ judging-preserved g c =
           (c.judging.invariant.checked (omega (arith, whole, empty))) c.judge_block.ensures.reads;
     }
 
-pub returns-in-Err-clause-reads : goal.returns-in-Err-clause-reads
-returns-in-Err-clause-reads g c =
+pub returns-in_err-verdict-clause-reads : goal.returns-in_err-verdict-clause-reads
+returns-in_err-verdict-clause-reads g c =
     let i = c.judging.place-index in
     let places = c.args.places.now in
     let buf = c.judging.front in
@@ -83,8 +84,8 @@ returns-in-Err-clause-reads g c =
     c.judging.invariant.read c.judge_block.ensures.reads in
     read_no_more places (len_of (take (i + 1) places)) (len_of places) _ _ (len_front places (i + 1)) read
 
-pub returns-in-Err-clause-checked : goal.returns-in-Err-clause-checked
-returns-in-Err-clause-checked g c = λ empty.
+pub returns-in_err-verdict-clause-checked : goal.returns-in_err-verdict-clause-checked
+returns-in_err-verdict-clause-checked g c = λ empty.
     let i = c.judging.place-index in
     let places = c.args.places.now in
     let buf = c.judging.front in
@@ -99,13 +100,15 @@ returns-in-Err-clause-checked g c = λ empty.
     (checked_more places i _ none _ _ _ lt (front_none p.wanted p.len _ (omega (arith, mid, empty)))
     (c.judging.invariant.checked (omega (arith, empty))) c.judge_block.ensures.reads)
 
-pub returns-in-Err-clause-fails : goal.returns-in-Err-clause-fails
-returns-in-Err-clause-fails g c =
+pub returns-in_err-verdict-clause-fails : goal.returns-in_err-verdict-clause-fails
+returns-in_err-verdict-clause-fails g c =
     let i = c.judging.place-index in
     let places = c.args.places.now in
     let lt : i < length places = omega (arith, c.judging-test.true) in
-    fails_after c.judging.invariant.read.kept c.judging.invariant.sound
-    (fails_more (λ bytes held lie. (lies bytes places i none lie lt, lie.short)) c.in-Err.ensures.fails)
+    let p = err_from_is_err_and c.from_residual.result c.from_residual.ensures.1 in
+    rw p.1
+    (fails_after c.judging.invariant.read.kept c.judging.invariant.sound
+    (fails_more (λ bytes held lie. (lies bytes places i none lie lt, lie.short)) c.in_err-verdict.ensures.fails))
 
 pub returns-then-is_bad-clause-judged : goal.returns-then-is_bad-clause-judged
 returns-then-is_bad-clause-judged g c = λ bytes held lie.
@@ -115,7 +118,7 @@ returns-then-is_bad-clause-judged g c = λ bytes held lie.
     let lt : i < length places = omega (arith, c.judging-test.true) in
     let range : HasRange p.start p.len bytes = (lies bytes places i none lie lt, lie.short) in
     let here : is_bad_at bytes p ≡ true =
-    sym (ap is_bad (c.in-Ok.ensures.verdict bytes (c.judging.invariant.read.kept ∙ held) range)) ∙ (sym c.is_bad.ensures ∙ c.if-is_bad.true) in
+    sym (ap is_bad (c.in_ok-verdict.ensures.verdict bytes (c.judging.invariant.read.kept ∙ held) range)) ∙ (sym c.is_bad.ensures ∙ c.if-is_bad.true) in
     one_bad bytes places i none lt here
 
 pub returns-then-is_bad-clause-reads : goal.returns-then-is_bad-clause-reads

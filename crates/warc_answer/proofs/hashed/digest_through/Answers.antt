@@ -5,30 +5,30 @@ use Rattle.warc_answer.proofs.GiveLemmas.{front_is, some_front, info_at, none_at
 use Rattle.warc_answer.proofs.HashedLemmas.{behind_digest, behind_head, head_taken, no_head_digest, some_within}
 use Rattle.warc_answer.proofs.hashed.digest_through.Goals as goal
 
-pub returns-in-Err-body_start-clause-digest : goal.returns-in-Err-body_start-clause-digest
-returns-in-Err-body_start-clause-digest g c = λ bytes held lie.
+pub returns-in-Err-clause-digest : goal.returns-in-Err-clause-digest
+returns-in-Err-clause-digest g c = λ bytes held lie.
     let text : List ℕ = text_at c.args.places.now bytes in
-    let judged = some_front _ _ _ _ _ c.in-Ok-Some.field-0-is (c.in-Ok-Some.ensures.judged bytes held lie) in
-    let same = front_is bytes c.args.places.now c.judge_blocks.new.front c.in-Ok-Some.n (length c.args.front.now) lie c.requires judged.1 in
-    no_head_digest _ text c.args.algorithm judged.0 (c.front_tells_no_head.ensures text (none_at _ text same c.in-Err-body_start.ensures.none))
+    let judged = some_front _ _ _ _ _ c.in-Some.is (c.in_ok-n.ensures.judged bytes held lie) in
+    let same = front_is bytes c.args.places.now c.judge_blocks.new.front c.in-Some.n (length c.args.front.now) lie c.requires judged.1 in
+    no_head_digest _ text c.args.algorithm judged.0 (c.front_tells_no_head.ensures text (none_at _ text same c.in-Err.ensures.none))
 
-pub returns-in-Ok-digest_from-clause-digest : goal.returns-in-Ok-digest_from-clause-digest
-returns-in-Ok-digest_from-clause-digest g c = λ bytes held lie.
+pub returns-clause-digest : goal.returns-clause-digest
+returns-clause-digest g c = λ bytes held lie.
     let text : List ℕ = text_at c.args.places.now bytes in
     let front : List ℕ = c.judge_blocks.new.front in
-    let n : ℕ = c.in-Ok-Some.n in
-    let within : n ≤ length front = some_within _ _ _ c.in-Ok-Some.field-0-is c.in-Ok-Some.ensures.within in
-    let judged = some_front _ _ _ _ _ c.in-Ok-Some.field-0-is (c.in-Ok-Some.ensures.judged bytes held lie) in
+    let n : ℕ = c.in-Some.n in
+    let within : n ≤ length front = some_within _ _ _ c.in-Some.is c.in_ok-n.ensures.within in
+    let judged = some_front _ _ _ _ _ c.in-Some.is (c.in_ok-n.ensures.judged bytes held lie) in
     let same = front_is bytes c.args.places.now front n (length c.args.front.now) lie c.requires judged.1 in
     let info = c.in-Ok.info in
     let found = c.in-Ok.ensures.found in
     let is = c.front_tells_head.ensures text info found.0 (info_at _ text info found.0 same found.1) in
-    behind_digest _ text _ info found.0 c.args.algorithm c.in-Ok-digest_from.digest judged.0 is
+    behind_digest _ text _ info found.0 c.args.algorithm c.in_ok-digest.digest judged.0 is
     (behind_head text front n info.head_len within same (head_taken front n info found.0 within found.1))
-    (c.in-Ok-digest_from.ensures.digest bytes (c.in-Ok-Some.ensures.reads.kept ∙ held) lie)
+    (c.in_ok-digest.ensures.digest bytes (c.in_ok-n.ensures.reads.kept ∙ held) lie)
 
-pub returns-in-Ok-digest_from-clause-reads : goal.returns-in-Ok-digest_from-clause-reads
-returns-in-Ok-digest_from-clause-reads g c = reads_both c.in-Ok-Some.ensures.reads c.in-Ok-digest_from.ensures.reads
+pub returns-clause-reads : goal.returns-clause-reads
+returns-clause-reads g c = reads_both c.in_ok-n.ensures.reads c.in_ok-digest.ensures.reads
 
-pub returns-in-Err-digest_from-clause-reads : goal.returns-in-Err-digest_from-clause-reads
-returns-in-Err-digest_from-clause-reads g c = reads_both c.in-Ok-Some.ensures.reads c.in-Err-digest_from.ensures.reads
+pub returns-in_err-digest-clause-reads : goal.returns-in_err-digest-clause-reads
+returns-in_err-digest-clause-reads g c = reads_both c.in_ok-n.ensures.reads c.in_err-digest.ensures.reads

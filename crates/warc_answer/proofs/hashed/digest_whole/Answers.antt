@@ -6,22 +6,22 @@ use Rattle.warc_answer.proofs.PlaceLemmas.{read_no_more}
 use Rattle.warc_answer.proofs.HashedLemmas.{once_less, whole_digest}
 use Rattle.warc_answer.proofs.hashed.digest_whole.Goals as goal
 
-pub returns-in-Ok-clause-digest : goal.returns-in-Ok-clause-digest
-returns-in-Ok-clause-digest g c = λ bytes held lie.
-    whole_digest _ (text_at c.args.places.now bytes) c.args.algorithm c.in-Ok.digest
-    (sym (c.in-Ok-false.ensures.judged bytes held lie) ∙ c.in-Ok-false.field-0-test)
-    (c.in-Ok.ensures.digest bytes (c.in-Ok-false.ensures.reads.kept ∙ held) lie)
+pub returns-clause-digest : goal.returns-clause-digest
+returns-clause-digest g c = λ bytes held lie.
+    whole_digest _ (text_at c.args.places.now bytes) c.args.algorithm c.in_ok-digest.digest
+    (sym (c.in_ok-any_bad.ensures.judged bytes held lie) ∙ c.if-branch.false)
+    (c.in_ok-digest.ensures.digest bytes (c.in_ok-any_bad.ensures.reads.kept ∙ held) lie)
 
-pub returns-in-Ok-clause-reads : goal.returns-in-Ok-clause-reads
-returns-in-Ok-clause-reads g c = reads_both (reads_once false c.args.places.now c.in-Ok-false.ensures.reads) c.in-Ok.ensures.reads
+pub returns-clause-reads : goal.returns-clause-reads
+returns-clause-reads g c = reads_both (reads_once false c.args.places.now c.in_ok-any_bad.ensures.reads) c.in_ok-digest.ensures.reads
 
-pub returns-in-Err-digest_from-clause-reads : goal.returns-in-Err-digest_from-clause-reads
-returns-in-Err-digest_from-clause-reads g c = reads_both (reads_once false c.args.places.now c.in-Ok-false.ensures.reads) c.in-Err-digest_from.ensures.reads
+pub returns-in_err-digest-clause-reads : goal.returns-in_err-digest-clause-reads
+returns-in_err-digest-clause-reads g c = reads_both (reads_once false c.args.places.now c.in_ok-any_bad.ensures.reads) c.in_err-digest.ensures.reads
 
-pub returns-in-Ok-true-clause-reads : goal.returns-in-Ok-true-clause-reads
-returns-in-Ok-true-clause-reads g c =
-    read_no_more c.args.places.now _ _ _ _ (once_less (len_of c.args.places.now)) (reads_once false c.args.places.now c.in-Ok-true.ensures.reads)
+pub returns-then-branch-clause-reads : goal.returns-then-branch-clause-reads
+returns-then-branch-clause-reads g c =
+    read_no_more c.args.places.now _ _ _ _ (once_less (len_of c.args.places.now)) (reads_once false c.args.places.now c.in_ok-any_bad.ensures.reads)
 
-pub returns-in-Err-clause-reads : goal.returns-in-Err-clause-reads
-returns-in-Err-clause-reads g c =
-    read_no_more c.args.places.now _ _ _ _ (once_less (len_of c.args.places.now)) (reads_once false c.args.places.now c.in-Err.ensures.reads)
+pub returns-in_err-any_bad-clause-reads : goal.returns-in_err-any_bad-clause-reads
+returns-in_err-any_bad-clause-reads g c =
+    read_no_more c.args.places.now _ _ _ _ (once_less (len_of c.args.places.now)) (reads_once false c.args.places.now c.in_err-any_bad.ensures.reads)

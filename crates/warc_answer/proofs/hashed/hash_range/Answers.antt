@@ -16,13 +16,13 @@ hashing-preserved g c =
       taken = λ bytes held by before has.
           let text = drop at bytes in
           let piece : c.read_range.new.buf ≡ take n (drop (at + done) bytes) =
-          c.in-Ok.ensures.bytes bytes (c.hashing.invariant.reads.kept ∙ held) ∙ ap (λ k. take k (drop (at + done) bytes)) size in
+          c.in_ok-read_range.ensures.bytes bytes (c.hashing.invariant.reads.kept ∙ held) ∙ ap (λ k. take k (drop (at + done) bytes)) size in
           let whole : take done text ++ c.read_range.new.buf ≡ take (done + n) text =
           ap (λ l. take done text ++ l) (piece ∙ ap (take n) (sym (drop-drop done at bytes))) ∙ sym (take-add done n text) in
           let P : List ℕ → Type 0 = λ l. HasherHasTaken c.update.new.self by l in
           let together : (before ++ take done text) ++ c.read_range.new.buf ≡ before ++ take (done + n) text =
           append_assoc before (take done text) c.read_range.new.buf ∙ ap (λ l. before ++ l) whole in
           subst P together (c.update.ensures by (before ++ take done text) (c.hashing.invariant.taken bytes held by before has));
-      reads = reads_more at done n _ size c.hashing.invariant.reads c.in-Ok.ensures.reads;
-      sound = c.in-Ok.ensures.fails.may ∙ c.hashing.invariant.sound;
+      reads = reads_more at done n _ size c.hashing.invariant.reads c.in_ok-read_range.ensures.reads;
+      sound = c.in_ok-read_range.ensures.fails.may ∙ c.hashing.invariant.sound;
     }

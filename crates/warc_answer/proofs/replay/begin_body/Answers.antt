@@ -1,4 +1,5 @@
 use Rattle.std.proofs.Common.{◌≡◌, ◌≤◌, length, length-drop, drop, ap, ◌∙◌, arith}
+use Rattle.std.proofs.lemmas.Result.{err_from_is_err_and}
 use Rattle.warc_frame.specs.Record.{max_archive}
 use Rattle.warc_record.specs.Readings.{Reading}
 use Rattle.warc_answer.specs.Payloads.{is_http_response, whole_block}
@@ -8,22 +9,26 @@ use Rattle.warc_answer.specs.declared.replay.Begun.{Begun}
 use Rattle.warc_answer.proofs.GiveLemmas.{places_lie, places_text, places_len, joined_short, replay_of_none, answer_of_body, fails_of_blocks}
 use Rattle.warc_answer.proofs.replay.begin_body.Goals as goal
 
-pub returns-in-Err-clause-refused : goal.returns-in-Err-clause-refused
-returns-in-Err-clause-refused g c = λ bytes held records way is told.
+pub returns-in_err-start-clause-refused : goal.returns-in_err-start-clause-refused
+returns-in_err-start-clause-refused g c =
+    let p = err_from_is_err_and c.from_residual.result c.from_residual.ensures.1 in
+    rw (p.1, p.2) (λ bytes held records way is told.
     let places = c.args.places.now in
     let http : c.is_http_response.result ≡ is_http_response is.origin.head =
     c.is_http_response.ensures ∙ ap (λ (h : Reading). is_http_response h) is.head_is in
     replay_of_none c.one_of_three.ensures bytes records way c.args.path is.origin is.joined places told
-    c.is_http_response.result c.in-Err.fault is.leads is.places_are http
-    (c.in-Err.ensures.begun bytes held (places_lie bytes places is.joined is.short is.places_are))
+    c.is_http_response.result c.in_err-start.field-0.0 is.leads is.places_are http
+    (c.in_err-start.ensures.begun bytes held (places_lie bytes places is.joined is.short is.places_are)))
 
-pub returns-in-Err-clause-fails : goal.returns-in-Err-clause-fails
-returns-in-Err-clause-fails g c = fails_of_blocks BodyStart Begun c.in-Err.fault c.args.places.now c.in-Err.ensures.fails
+pub returns-in_err-start-clause-fails : goal.returns-in_err-start-clause-fails
+returns-in_err-start-clause-fails g c =
+    let p = err_from_is_err_and c.from_residual.result c.from_residual.ensures.1 in
+    rw (p.1, p.2) (fails_of_blocks BodyStart Begun c.in_err-start.field-0.0 c.args.places.now c.in_err-start.ensures.fails)
 
 pub returns-clause-begun : goal.returns-clause-begun
 returns-clause-begun g c = λ bytes held records way is.
     let places = c.args.places.now in
-    let start = c.in-Ok.start in
+    let start = c.in_ok-start.start in
     let lie = places_lie bytes places is.joined is.short is.places_are in
     let http : c.is_http_response.result ≡ is_http_response is.origin.head =
     c.is_http_response.ensures ∙ ap (λ (h : Reading). is_http_response h) is.head_is in
@@ -34,4 +39,4 @@ returns-clause-begun g c = λ bytes held records way is.
     omega (arith, c.saturating_sub.ensures, c.total.ensures, places_len bytes places is.joined is.places_are, ap length text, length-drop start.skip (text_at places bytes)) in
     answer_of_body bytes records way c.args.path is.origin is.joined places c.is_http_response.result start
     c.any_truncated.result c.saturating_sub.result is.leads is.places_are http
-    (c.in-Ok.ensures.begun bytes held lie) c.any_truncated.ensures len
+    (c.in_ok-start.ensures.begun bytes held lie) c.any_truncated.ensures len

@@ -1,14 +1,17 @@
 use Rattle.std.proofs.Common.{Some, ap, arith}
+use Rattle.std.proofs.lemmas.Result.{err_from_is_err_and}
 use Rattle.warc_answer.proofs.StoredLemmas.{headless_seen}
 use Rattle.warc_answer.proofs.stored.judge_http.Goals as goal
 
-pub returns-in-Err-clause-seen : goal.returns-in-Err-clause-seen
-returns-in-Err-clause-seen g c = λ bytes held fields lie.
-    headless_seen (Unit {0}) (Unit {0}) bytes fields c.args.places.now c.in-Err.fault (c.in-Err.ensures.begins bytes held lie)
+pub returns-in_err-head-clause-seen : goal.returns-in_err-head-clause-seen
+returns-in_err-head-clause-seen g c =
+    let p = err_from_is_err_and c.from_residual.result c.from_residual.ensures.1 in
+    rw (p.1, p.2) (λ bytes held fields lie.
+    headless_seen (Unit {0}) (Unit {0}) bytes fields c.args.places.now c.in_err-head.field-0.0 (c.in_err-head.ensures.begins bytes held lie))
 
 pub returns-clause-seen : goal.returns-clause-seen
 returns-clause-seen g c = λ bytes held fields lie.
-    let is = c.in-Ok.ensures.begins bytes held lie in (
+    let is = c.in_ok-head.ensures.begins bytes held lie in (
       is.1,
       (
         record { head = is.0; front = is.2.front; status_is = ap Some is.2.status; coded_is = is.2.coded; texts = is.3 },

@@ -4,14 +4,14 @@ use Rattle.warc_checking.specs.OwnFindings.{shown_by}
 use Rattle.warc_checking.proofs.JudgingLemmas.{shown_then}
 use Rattle.warc_checking.proofs.judging.add_good_head.Goals as goal
 
-pub returns-in-Ok-add-clause-is : goal.returns-in-Ok-add-clause-is
-returns-in-Ok-add-clause-is g c = λ r reads good.
-    let same = c.in-Ok.ensures.is r reads good in
+pub returns-in-Ok-clause-is : goal.returns-in-Ok-clause-is
+returns-in-Ok-clause-is g c = λ r reads good.
+    let same = c.in_ok-head.ensures.is r reads good in
     let len = c.args.block_len in (
       c.wanted.ensures ∙ ap digest_wanted same,
       record {
         found = shown_by r.fields len false;
-        new_is = c.in-Ok-add.ensures.ok
+        new_is = c.in-Ok.ensures.ok
             ∙ ap (λ l. c.args.findings.now ++ shown_by l len false ∷ []) (c.fields.ensures.fields ∙ same);
         shows = shown_then r.fields len;
       },

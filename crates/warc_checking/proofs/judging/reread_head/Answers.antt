@@ -10,21 +10,21 @@ use Rattle.warc_checking.proofs.judging.reread_head.Goals as goal
 pub returns-clause-read : goal.returns-clause-read
 returns-clause-read g c = λ bytes held is.
     let fields = is.placed.content.fields in
-    let P : Row → Type 0 = λ r. IsHeadText is.placed.content r (take c.in-Ok.len c.reread_text.new.buf) in
-    let text = subst P (sym c.row.view_is) (c.in-Ok.ensures.text bytes held is) in
+    let P : Row → Type 0 = λ r. IsHeadText is.placed.content r (take c.in_ok-len.len c.reread_text.new.buf) in
+    let text = subst P (sym c.row.view_is) (c.in_ok-len.ensures.text bytes held is) in
     let Q : Row → Type 0 = λ r. IfOk c.add_head.result (λ wanted.
     (wanted ≡ digest_wanted fields) × IsOneMore fields r.block_len c.args.findings.now c.add_head.new.findings) in
     subst Q c.row.view_is (read_or_memory c.add_head.result _ (c.add_head.ensures.is is.placed.content text is.has.good))
 
 pub returns-clause-size : goal.returns-clause-size
 returns-clause-size g c =
-    if_ok c.add_head.result (c.args.row.now.offset ≤ c.args.row.now.block_start) (omega (arith, c.in-Ok.ensures.size.1))
+    if_ok c.add_head.result (c.args.row.now.offset ≤ c.args.row.now.block_start) (omega (arith, c.in_ok-len.ensures.size.1))
 
 pub returns-clause-fails : goal.returns-clause-fails
 returns-clause-fails g c = record {
-  may = may_be_sound c.add_head.result _ _ c.in-Ok.ensures.fails.may;
+  may = may_be_sound c.add_head.result _ _ c.in_ok-len.ensures.fails.may;
   failed = λ bytes held is.
-      let P : Row → Type 0 = λ r. IsHeadText is.placed.content r (take c.in-Ok.len c.reread_text.new.buf) in
-      let text = subst P (sym c.row.view_is) (c.in-Ok.ensures.text bytes held is) in
-      only_memory c.add_head.result _ _ _ (c.add_head.ensures.is is.placed.content text is.has.good) c.in-Ok.ensures.fails.may;
+      let P : Row → Type 0 = λ r. IsHeadText is.placed.content r (take c.in_ok-len.len c.reread_text.new.buf) in
+      let text = subst P (sym c.row.view_is) (c.in_ok-len.ensures.text bytes held is) in
+      only_memory c.add_head.result _ _ _ (c.add_head.ensures.is is.placed.content text is.has.good) c.in_ok-len.ensures.fails.may;
 }

@@ -1,4 +1,5 @@
 use Rattle.std.proofs.Common.{◌≢◌, Ok, inl, inr, refl, sym, subst, ◌∙◌, arith}
+use Rattle.std.proofs.lemmas.Result.{err_from_is_err_and}
 use Rattle.warc_frame.specs.Record.{max_archive}
 use Rattle.warc_frame.specs.declared.fault.Fault.{Fault}
 use Rattle.warc_frame.specs.declared.fault.FaultKind.{FaultKind}
@@ -27,20 +28,22 @@ returns-then-is_last-clause-misses g c = λ bytes held shows there.
 pub more-requires-clause-room : goal.more-requires-clause-room
 more-requires-clause-room g c = room_for c.shown.result.now c.args.at c.reading.window c.in-Err.fault c.shown.ensures.shown c.reading.invariant.begin c.in-Err.ensures.exact (c.is_cut.ensures.cut c.if-not-is_cut.false)
 
-pub returns-in-Err-more-clause-misses : goal.returns-in-Err-more-clause-misses
-returns-in-Err-more-clause-misses g c = λ bytes held shows there.
-    let P : FaultKind → Type 0 = λ k. MissesBy k c.args.at bytes c.in-Err-more.fault in
-    subst P (sym c.in-Err-more.ensures.fault.0) (unread_more bytes c.shown.result.now c.args.at c.in-Err-more.fault.offset c.reading.window c.more.new.self c.in-Err.fault c.shown.ensures.shown c.reading.invariant.begin there (c.reading.invariant.shows bytes held shows there)
-    c.in-Err.ensures.exact (c.is_cut.ensures.cut c.if-not-is_cut.false) c.in-Err-more.ensures.fault.1 c.in-Err-more.ensures.fault.2)
+pub returns-in_err-more-clause-misses : goal.returns-in_err-more-clause-misses
+returns-in_err-more-clause-misses g c = λ bytes held shows there.
+    let P : FaultKind → Type 0 = λ k. MissesBy k c.args.at bytes c.in_err-more.field-0.0 in
+    let p = err_from_is_err_and c.from_residual.result c.from_residual.ensures.1 in
+    rw (p.1, p.2)
+    (subst P (sym c.in_err-more.ensures.fault.0) (unread_more bytes c.shown.result.now c.args.at c.in_err-more.field-0.0.offset c.reading.window c.more.new.self c.in-Err.fault c.shown.ensures.shown c.reading.invariant.begin there (c.reading.invariant.shows bytes held shows there)
+    c.in-Err.ensures.exact (c.is_cut.ensures.cut c.if-not-is_cut.false) c.in_err-more.ensures.fault.1 c.in_err-more.ensures.fault.2))
 
 pub reading-preserved : goal.reading-preserved
 reading-preserved g c = record {
-  begin = omega (arith, c.in-Ok-more.ensures.begin);
-  shows = λ bytes held shows there. c.in-Ok-more.ensures.shows bytes (c.reading.invariant.reads.kept ∙ held) (c.reading.invariant.shows bytes held shows there) there;
+  begin = omega (arith, c.in_ok-more.ensures.begin);
+  shows = λ bytes held shows there. c.in_ok-more.ensures.shows bytes (c.reading.invariant.reads.kept ∙ held) (c.reading.invariant.shows bytes held shows there) there;
   reads =
-      read_then (slack c.reading.window.is_last) (reads_beside (Ok c.in-Ok-more.goes_on)) (slack c.more.new.self.is_last) tt (Ok c.in-Ok-more.goes_on) (Ok tt) _ _ _ _ _ _ c.reading.invariant.reads c.in-Ok-more.ensures.reads
-      (omega (arith, slack_none c.reading.window.is_last (sym c.is_last.ensures ∙ c.if-is_last.false), slack_by c.reading.window c.more.new.self c.args.at c.in-Ok-more.goes_on c.in-Ok-more.ensures.goes_on)) (λ n. refl);
+      read_then (slack c.reading.window.is_last) (reads_beside (Ok c.in_ok-more.field-0)) (slack c.more.new.self.is_last) tt (Ok c.in_ok-more.field-0) (Ok tt) _ _ _ _ _ _ c.reading.invariant.reads c.in_ok-more.ensures.reads
+      (omega (arith, slack_none c.reading.window.is_last (sym c.is_last.ensures ∙ c.if-is_last.false), slack_by c.reading.window c.more.new.self c.args.at c.in_ok-more.field-0 c.in_ok-more.ensures.goes_on)) (λ n. refl);
 }
 
 pub reading-smaller : goal.reading-smaller
-reading-smaller g c = closer max_archive c.reading.window c.more.new.self c.args.at c.in-Ok-more.goes_on c.in-Ok-more.ensures.goes_on (sym c.is_last.ensures ∙ c.if-is_last.false) c.in-Ok-more.ensures.far.1 c.in-Ok-more.ensures.limit
+reading-smaller g c = closer max_archive c.reading.window c.more.new.self c.args.at c.in_ok-more.field-0 c.in_ok-more.ensures.goes_on (sym c.is_last.ensures ∙ c.if-is_last.false) c.in_ok-more.ensures.far.1 c.in_ok-more.ensures.limit

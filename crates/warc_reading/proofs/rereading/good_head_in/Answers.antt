@@ -9,9 +9,9 @@ use Rattle.warc_reading.proofs.rereading.good_head_in.Goals as goal
 
 pub returns-clause-is : goal.returns-clause-is
 returns-clause-is g c = λ r reads good.
-    let read = c.in-Ok.ensures.is r reads in
-    let good_too : head_fault c.in-Ok.head.fields ≡ None = ap head_fault read.fields ∙ good in
-    MatchResult-weaker c.judged.result {P = λ x. x ≡ c.in-Ok.head.fields} {P' = λ x. x ≡ r.fields}
+    let read = c.in_ok-head.ensures.is r reads in
+    let good_too : head_fault c.in_ok-head.head.fields ≡ None = ap head_fault read.fields ∙ good in
+    MatchResult-weaker c.judged.result {P = λ x. x ≡ c.in_ok-head.head.fields} {P' = λ x. x ≡ r.fields}
     {Q = λ e. e ≡ Memory} {Q' = λ e. e ≡ Memory} (c.judged.ensures.read good_too) (λ x e. e ∙ read.fields) (λ f e. e)
 
 pub returns-clause-whole : goal.returns-clause-whole
@@ -19,4 +19,4 @@ returns-clause-whole g c =
     let text = c.args.text.now in
     let P : List Pair → Type 0 = λ fields. (version : Version) × (head_of any_fields text
     ≡ Ok (record { version = version; fields = fields; len = length text; block_len = c.args.block_len })) in
-    IfOk-weaker c.judged.result _ _ (λ x e. subst P (sym e) (c.in-Ok.head.version, c.in-Ok.ensures.whole)) c.judged.ensures.fields
+    IfOk-weaker c.judged.result _ _ (λ x e. subst P (sym e) (c.in_ok-head.head.version, c.in_ok-head.ensures.whole)) c.judged.ensures.fields
