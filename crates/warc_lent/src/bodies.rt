@@ -163,7 +163,7 @@ pub fn put_replay<S: Source, A: Allocator + Copy>(
         Ok(located) => Ok(put_located(&located, answer, spans)),
         Err(fault) => {
             put_path(archive.path_for(uri, &moment), answer);
-            Err(Problem::of_replay(fault))
+            Err(Problem::from(fault))
         }
     }
 }
@@ -188,7 +188,7 @@ pub fn put_body<S: Source, A: Allocator + Copy>(
         Ok(located) => Ok(put_located(&located, answer, spans)),
         Err(fault) => {
             put_path_at(fault, archive.path_at(position), answer);
-            Err(Problem::of_body(fault))
+            Err(Problem::from(fault))
         }
     }
 }

@@ -72,14 +72,11 @@ fn put_walk<S: Source, A: Allocator + Copy>(
 {
     let mut count = 0;
     'putting: loop {
-        match reader.next() {
-            Ok(Some(piece)) => {
-                put_piece(piece, count, out);
-                count += 1;
-            }
-            Ok(None) => return Ok(count),
-            Err(fault) => return Err(fault),
-        }
+        let Some(piece) = reader.next()? else {
+            return Ok(count);
+        };
+        put_piece(piece, count, out);
+        count += 1;
     }
 }
 

@@ -1,7 +1,7 @@
 //! What goes wrong, as a value, as numbers and as a text.
 ghost use Rattle.std.specs.Prelude.{◌≡◌, IfSome, Some};
 ghost use Rattle.std.specs.Bool.{OnTrue};
-ghost use Rattle.warc_lent.specs.Problems.{fault_numbers, field_number, gap_numbers, kind_numbers, made_code, problem_numbers, problem_of_body, problem_of_out, problem_of_replay, problem_of_take, problem_text, reason_numbers, unfound_code};
+ghost use Rattle.warc_lent.specs.Problems.{fault_numbers, field_number, gap_numbers, kind_numbers, made_code, problem_numbers, problem_of_take, problem_text, reason_numbers, unfound_code};
 
 use std::fmt;
 use thiserror::Error;
@@ -340,37 +340,6 @@ impl Problem {
         Problem::Reason(Reason::NotFound(unfound))
     }
 
-    /// Why an output that memory takes whole ends early.
-    pub fn of_out(fault: OutFault) -> Problem
-        ensures { result ≡ problem_of_out fault }
-    {
-        match fault {
-            OutFault::Read(_) => Problem::Changed,
-            OutFault::Write(_) | OutFault::Memory(_) => Problem::Memory,
-        }
-    }
-
-    /// Why a replay gives no body.
-    pub fn of_replay(fault: ReplayFault) -> Problem
-        ensures { result ≡ problem_of_replay fault }
-    {
-        match fault {
-            ReplayFault::Reason(reason) => Problem::Reason(reason),
-            ReplayFault::Out(fault) => Problem::of_out(fault),
-        }
-    }
-
-    /// Why the record at a position gives no body.
-    pub fn of_body(fault: BodyFault) -> Problem
-        ensures { result ≡ problem_of_body fault }
-    {
-        match fault {
-            BodyFault::NoRecord => Problem::NoRecord,
-            BodyFault::NoCapture => Problem::NoCapture,
-            BodyFault::Replay(fault) => Problem::of_replay(fault),
-        }
-    }
-
     /// Why a record isn't given.
     pub fn of_take(fault: TakeFault) -> Problem
         ensures { result ≡ problem_of_take fault }
@@ -379,6 +348,52 @@ impl Problem {
             TakeFault::NoRecord => Problem::NoRecord,
             TakeFault::Read => Problem::Changed,
             TakeFault::Memory => Problem::Memory,
+        }
+    }
+}
+
+impl From<OutFault> for Problem {
+    ghost use Rattle.std.specs.Prelude.{◌≡◌};
+    ghost use Rattle.warc_lent.specs.Problems.{problem_of_out};
+
+    ghost from_gives = { λ fault problem. problem ≡ problem_of_out fault };
+
+    /// Why an output that memory takes whole ends early.
+    fn from(fault: OutFault) -> Problem {
+        match fault {
+            OutFault::Read(_) => Problem::Changed,
+            OutFault::Write(_) | OutFault::Memory(_) => Problem::Memory,
+        }
+    }
+}
+
+impl From<ReplayFault> for Problem {
+    ghost use Rattle.std.specs.Prelude.{◌≡◌};
+    ghost use Rattle.warc_lent.specs.Problems.{problem_of_replay};
+
+    ghost from_gives = { λ fault problem. problem ≡ problem_of_replay fault };
+
+    /// Why a replay gives no body.
+    fn from(fault: ReplayFault) -> Problem {
+        match fault {
+            ReplayFault::Reason(reason) => Problem::Reason(reason),
+            ReplayFault::Out(fault) => Problem::from(fault),
+        }
+    }
+}
+
+impl From<BodyFault> for Problem {
+    ghost use Rattle.std.specs.Prelude.{◌≡◌};
+    ghost use Rattle.warc_lent.specs.Problems.{problem_of_body};
+
+    ghost from_gives = { λ fault problem. problem ≡ problem_of_body fault };
+
+    /// Why the record at a position gives no body.
+    fn from(fault: BodyFault) -> Problem {
+        match fault {
+            BodyFault::NoRecord => Problem::NoRecord,
+            BodyFault::NoCapture => Problem::NoCapture,
+            BodyFault::Replay(fault) => Problem::from(fault),
         }
     }
 }

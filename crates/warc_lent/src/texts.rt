@@ -32,10 +32,8 @@ pub fn list_text<A: Allocator + Copy, S: Source>(
     ensures memory { IfErr result (λ problem. problem ≡ Problem.Memory) }
 {
     let mut lines = MemSink::new(Vec::new(alloc));
-    match archive.list(&mut lines) {
-        Ok(()) => Ok(lines.into_inner()),
-        Err(fault) => Err(Problem::of_out(fault)),
-    }
+    archive.list(&mut lines)?;
+    Ok(lines.into_inner())
 }
 
 /// The lines that `warc check` writes of an archive.
@@ -52,10 +50,8 @@ pub fn check_text<A: Allocator + Copy, S: Source>(
         (S.seen archive.old.listing.source) (S.seen archive.new.listing.source) }
 {
     let mut lines = MemSink::new(Vec::new(alloc));
-    match archive.check(&mut lines) {
-        Ok(_) => Ok(lines.into_inner()),
-        Err(fault) => Err(Problem::of_out(fault)),
-    }
+    archive.check(&mut lines)?;
+    Ok(lines.into_inner())
 }
 
 /// The lines that `warc fixity` writes of these bytes.
@@ -68,10 +64,8 @@ pub fn fixity_text<A: Allocator + Copy>(alloc: A, bytes: &[u8]) -> Result<Vec<u8
         Err((fault, _source)) => return Err(Problem::Fault(fault)),
     };
     let mut lines = MemSink::new(Vec::new(alloc));
-    match fixity.list(&mut lines) {
-        Ok(()) => Ok(lines.into_inner()),
-        Err(fault) => Err(Problem::of_out(fault)),
-    }
+    fixity.list(&mut lines)?;
+    Ok(lines.into_inner())
 }
 
 /// The lines that `warc check` writes of these bytes.
@@ -84,10 +78,8 @@ pub fn findings_text<A: Allocator + Copy>(alloc: A, bytes: &[u8]) -> Result<Vec<
         Err((fault, _source)) => return Err(Problem::Fault(fault)),
     };
     let mut lines = MemSink::new(Vec::new(alloc));
-    match checked.check(&mut lines) {
-        Ok(_) => Ok(lines.into_inner()),
-        Err(fault) => Err(Problem::of_out(fault)),
-    }
+    checked.check(&mut lines)?;
+    Ok(lines.into_inner())
 }
 
 /// Puts the text of the problem with these numbers, as far as there is room, and answers its length; 0 where no problem

@@ -60,10 +60,7 @@ pub fn write_lent<A: Allocator + Copy, W: Sink>(
 ) -> Result<(), Problem>
     ensures { WritesLent (text_as form) bytes.now (W.seen out.old) (W.seen out.new) result sent.old sent.new }
 {
-    let mut listing = match listing(alloc, bytes) {
-        Ok(listing) => listing,
-        Err(problem) => return Err(problem),
-    };
+    let mut listing = listing(alloc, bytes)?;
     match listing.write_as(form, out) {
         Ok(()) => Ok(()),
         Err(fault) => Err(cut_off(fault, sent)),
@@ -80,10 +77,7 @@ pub fn split_lent<A: Allocator + Copy, W: Sink>(
 ) -> Result<(), Problem>
     ensures { WritesLent (split_text size) bytes.now (W.seen out.old) (W.seen out.new) result sent.old sent.new }
 {
-    let mut listing = match listing(alloc, bytes) {
-        Ok(listing) => listing,
-        Err(problem) => return Err(problem),
-    };
+    let mut listing = listing(alloc, bytes)?;
     match listing.split(size, out) {
         Ok(()) => Ok(()),
         Err(fault) => Err(cut_off(fault, sent)),
@@ -139,10 +133,7 @@ fn chosen<A: Allocator + Copy, S: Source>(
     ensures refused { IfErr result (λ problem. (problem ≡ Problem.Memory)
         ⊎ NamesNoRecord (length listing.now.rows) positions.now problem) }
 {
-    let named = match named(alloc, listing.count(), positions) {
-        Ok(named) => named,
-        Err(problem) => return Err(problem),
-    };
+    let named = named(alloc, listing.count(), positions)?;
     if !except {
         return Ok(named);
     }
@@ -165,14 +156,8 @@ pub fn select_lent<A: Allocator + Copy, W: Sink>(
 ) -> Result<(), Problem>
     ensures { SelectsLent except positions.now bytes.now (W.seen out.old) (W.seen out.new) result sent.old sent.new }
 {
-    let mut listing = match listing(alloc, bytes) {
-        Ok(listing) => listing,
-        Err(problem) => return Err(problem),
-    };
-    let chosen = match chosen(alloc, &listing, positions, except) {
-        Ok(chosen) => chosen,
-        Err(problem) => return Err(problem),
-    };
+    let mut listing = listing(alloc, bytes)?;
+    let chosen = chosen(alloc, &listing, positions, except)?;
     match listing.select(&chosen, out) {
         Ok(()) => Ok(()),
         Err(fault) => Err(cut_off(fault, sent)),
@@ -233,18 +218,9 @@ pub fn select_closed_lent<A: Allocator + Copy, W: Sink>(
 ) -> Result<(), Problem>
     ensures { SelectsClosed except positions.now bytes.now (W.seen out.old) (W.seen out.new) result sent.old sent.new }
 {
-    let mut archive = match archive(alloc, bytes) {
-        Ok(archive) => archive,
-        Err(problem) => return Err(problem),
-    };
-    let named = match named(alloc, archive.count(), positions) {
-        Ok(named) => named,
-        Err(problem) => return Err(problem),
-    };
-    let closed = match closure(&mut archive, &named, except) {
-        Ok(closed) => closed,
-        Err(problem) => return Err(problem),
-    };
+    let mut archive = archive(alloc, bytes)?;
+    let named = named(alloc, archive.count(), positions)?;
+    let closed = closure(&mut archive, &named, except)?;
     match archive.select(&closed, out) {
         Ok(()) => Ok(()),
         Err(fault) => Err(cut_off(fault, sent)),

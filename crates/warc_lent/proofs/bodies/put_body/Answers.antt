@@ -17,7 +17,7 @@ returns-in-Err-clause-puts g c = λ bytes held is.
     record {
       fault = c.in-Err.fault;
       is = c.in-Err.ensures.locates.located bytes held is.listed is.kept;
-      problem_is = c.of_body.ensures;
+      problem_is = c.from.ensures;
       path =
           c.put_path_at.ensures
           ∙ ap (λ p. path_numbers_at c.in-Err.fault p c.args.answer.now) (c.path_at.ensures ps kept ∙ same_path_at ps c.args.position);
@@ -25,4 +25,4 @@ returns-in-Err-clause-puts g c = λ bytes held is.
 
 pub returns-in-Err-clause-fails : goal.returns-in-Err-clause-fails
 returns-in-Err-clause-fails g c =
-    rw c.of_body.ensures (fails_of_body _ c.in-Err.fault _ _ c.in-Err.ensures.locates.fails)
+    rw c.from.ensures (fails_of_body _ c.in-Err.fault _ _ c.in-Err.ensures.locates.fails)

@@ -21,11 +21,11 @@ returns-in-Err-clause-puts g c = λ bytes held is.
     let at : instant_of c.args.date.now ≡ Some c.in-Some.moment = sym c.read_date.ensures ∙ c.in-Some.is in
     let ps = is.listed.are.records in
     let kept = kept_on ps _ _ _ _ c.in-Err.ensures.index c.in-Err.ensures.parts is.kept in
-    subst (λ o. PutsReplay bytes (contents ps) c.args.uri.now o (Err c.of_replay.result) c.args.answer.now c.put_path.new.answer c.args.spans.now)
+    subst (λ o. PutsReplay bytes (contents ps) c.args.uri.now o (Err c.from.result) c.args.answer.now c.put_path.new.answer c.args.spans.now)
     (sym at) (record {
       fault = c.in-Err.fault;
       is = (c.in-Err.ensures.locates.held bytes held is.listed is.kept).located;
-      problem_is = c.of_replay.ensures;
+      problem_is = c.from.ensures;
       path =
           c.put_path.ensures
           ∙ ap (λ p. path_numbers p c.args.answer.now) (c.path_for.ensures ps kept ∙ same_path_for ps c.args.uri.now c.in-Some.moment);
@@ -33,4 +33,4 @@ returns-in-Err-clause-puts g c = λ bytes held is.
 
 pub returns-in-Err-clause-fails : goal.returns-in-Err-clause-fails
 returns-in-Err-clause-fails g c =
-    rw c.of_replay.ensures (fails_of_replay _ c.in-Err.fault _ _ c.in-Err.ensures.locates.fails)
+    rw c.from.ensures (fails_of_replay _ c.in-Err.fault _ _ c.in-Err.ensures.locates.fails)

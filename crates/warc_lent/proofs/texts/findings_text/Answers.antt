@@ -11,14 +11,14 @@ returns-in-Err-clause-refused g c =
           (c.in-Err.ensures.refused c.args.bytes.now (ap Some c.new.ensures.bytes)),
     )
 
-pub returns-in-Ok-check-clause-lines : goal.returns-in-Ok-check-clause-lines
-returns-in-Ok-check-clause-lines g c =
+pub returns-clause-lines : goal.returns-clause-lines
+returns-clause-lines g c =
     let is = c.in-Ok.ensures.accepted c.args.bytes.now (ap Some c.new.ensures.bytes) in
     record {
       rows = c.in-Ok.checked.listing.rows;
       is = is.listed;
       lines =
           c.into_inner.ensures
-          ∙ taken_whole c.check.new.out.bytes c.new-lines.result.bytes _ (c.in-Ok-check.ensures.tells c.args.bytes.now is).told
+          ∙ taken_whole c.check.new.out.bytes c.new-lines.result.bytes _ (c.in_ok-check.ensures.tells c.args.bytes.now is).told
           (c.new-lines.ensures.bytes ∙ c.new-2.ensures.items);
     }

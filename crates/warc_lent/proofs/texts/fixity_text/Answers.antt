@@ -11,13 +11,13 @@ returns-in-Err-clause-refused g c =
           (c.in-Err.ensures.refused c.args.bytes.now (ap Some c.new.ensures.bytes)),
     )
 
-pub returns-in-Ok-list-clause-lines : goal.returns-in-Ok-list-clause-lines
-returns-in-Ok-list-clause-lines g c = record {
+pub returns-clause-lines : goal.returns-clause-lines
+returns-clause-lines g c = record {
   rows = c.in-Ok.fixity.listing.rows;
   judged = c.in-Ok.fixity.judged;
   are = c.in-Ok.ensures.accepted c.args.bytes.now (ap Some c.new.ensures.bytes);
   lines =
       c.into_inner.ensures
-      ∙ taken_whole c.list.new.out.bytes c.new-lines.result.bytes _ c.in-Ok-list.ensures.told
+      ∙ taken_whole c.list.new.out.bytes c.new-lines.result.bytes _ c.in_ok-list.ensures.told
       (c.new-lines.ensures.bytes ∙ c.new-2.ensures.items);
 }
