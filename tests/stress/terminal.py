@@ -144,7 +144,8 @@ def judge_progress(
 def progress(stress: Stress) -> None:
     stress.begin("progress on a terminal")
     damaged = stress.file("damaged.warc", stress.data + b"WARC/1.1\r\n")
-    fault = b"warc: F11 Truncated at %d\n" % (len(stress.data) + 10)
+    refusal = b"warc: F11 Truncated at %d\n" % (len(stress.data) + 10)
+    refusal += b"to see what is whole: warc pieces %s\n" % damaged.encode()
     for command in COMMANDS:
         words = words_for(command, stress.archive)
         seen, seconds = run(stress, words, slow(stress, stress.archive))
@@ -152,7 +153,7 @@ def progress(stress: Stress) -> None:
         if command[0] not in ("write", "salvage"):
             words = words_for(command, damaged)
             seen, seconds = run(stress, words, slow(stress, damaged))
-            judge_progress(stress, words, seen, seconds, Result(b"", fault, 2))
+            judge_progress(stress, words, seen, seconds, Result(b"", refusal, 2))
     stress.end()
 
 
