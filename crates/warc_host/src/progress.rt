@@ -1,4 +1,5 @@
 //! The line on standard error that shows how far a long reading is.
+ghost use Rattle.std.specs.Prelude.{◌≡◌};
 
 use arrayvec::{ArrayString, ArrayVec};
 use itoa::Buffer;
@@ -153,7 +154,9 @@ pub struct ErasingSink<'a, W> {
 
 impl<'a, W> ErasingSink<'a, W> {
     /// Nothing was written yet.
-    pub fn new(sink: W, progress: &'a Progress<'a>) -> ErasingSink<'a, W> {
+    pub fn new(sink: W, progress: &'a Progress<'a>) -> ErasingSink<'a, W>
+        ensures { result.sink ≡ sink }
+    {
         ErasingSink {
             sink,
             progress,
