@@ -256,7 +256,7 @@ enum {
     WARC_PAYLOAD_NONE = 2,      /* No digest is stated: the first WARC-Payload-Digest is empty, or there is none. */
     WARC_PAYLOAD_REVISIT = 3,   /* The revisit gives no body. */
     WARC_PAYLOAD_REQUEST = 4,   /* The record is a request: its payload isn't judged. */
-    WARC_PAYLOAD_SEGMENT = 5,   /* WARC-Segment-Number isn't empty: the digest is that of the joined payload. */
+    WARC_PAYLOAD_SEGMENT = 5,   /* WARC-Segment-Number isn't empty: the digest is of the joined payload. */
     WARC_PAYLOAD_ALGORITHM = 6, /* The value states no digest of an algorithm that is known. */
     WARC_PAYLOAD_HEAD = 7,      /* The block of an HTTP response begins with no HTTP head. */
     WARC_PAYLOAD_CODED = 8      /* The digest differs, and a Transfer-Encoding says that the payload is coded. */

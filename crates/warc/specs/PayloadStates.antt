@@ -37,7 +37,7 @@ use Rattle.warc.specs.declared.payload.PayloadVerdict.{PayloadVerdict}
 use Rattle.warc.specs.declared.payload.PayloadVerdict.TheVariants.{Unchecked}
 use Rattle.warc.specs.declared.payload.Unjudged.TheVariants.{Request}
 
--- the algorithm by which a payload is digested: that of the digest that a value states, if it states one
+-- the algorithm by which a payload is digested: the one of the digest that a value states, if it states one
 abbrev pub algorithm_by : List ℕ → Algorithm
 algorithm_by value = option_map_or (λ stated. stated.0) (stated_digest value) Sha1
 
@@ -49,7 +49,7 @@ abbrev pub IsOriginDigest : List Record → ℕ → Algorithm → Option Payload
 IsOriginDigest records origin by digest =
     (payload : Option StoredPayload) × IsPayloadAt records origin payload × IsDigestOf by payload digest
 
--- that of the payload at the end of a position's path
+-- this is the digest of the payload at the end of a position's path
 abbrev pub IsPathDigest : List Record → ℕ → Algorithm → Option PayloadDigest → Type 0
 IsPathDigest records position by digest =
     (payload : Option StoredPayload) × IsPayloadOn records (path_at records position) payload

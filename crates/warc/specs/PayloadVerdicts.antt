@@ -89,7 +89,7 @@ IsJudgedPayload records position content (Some verdict) = (payload_value content
 
 -- ---- of one record
 
--- that of the record at the position, or that there is no record; a read or a request for memory may fail
+-- the verdict on the record at the position, or that there is no record; a read or a request for memory may fail
 abbrev pub IsPayloadTaken : List Record → ℕ → Result (Option PayloadVerdict) TakeFault → Type 0
 IsPayloadTaken records position (Ok verdict) = (content : Record)
     × (slice_get records position ≡ Some content) × IsJudgedPayload records position content verdict

@@ -359,8 +359,8 @@ impl<S: Source, A: Allocator + Copy> Archive<S, A> {
     }
 
     /// How the payload of the record at a position compares with the digest that its first `WARC-Payload-Digest`
-    /// states; `None` if that value is empty, or there is no such field. The payload is that of the record itself: of
-    /// an HTTP response the bytes after the HTTP head as they are stored, of another record the block. Of a revisit it
+    /// states; `None` if that value is empty, or there is no such field. The payload is the record's own: of an
+    /// HTTP response the bytes after the HTTP head as they are stored, of another record the block. Of a revisit it
     /// is what its replay finds stored, coded or not. The head is read again, and each byte of these blocks at most
     /// twice. A read that fails, or a source that no longer gives what it gave at opening, is `Read`.
     pub fn payload_verdict(&mut self, position: usize) -> Result<Option<PayloadVerdict>, TakeFault>

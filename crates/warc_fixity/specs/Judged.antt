@@ -26,7 +26,7 @@ digest_seen (digest.Sha256 bytes) = (algorithm.Sha256, bytes)
 digest_seen (digest.Sha384 bytes) = (algorithm.Sha384, bytes)
 digest_seen (digest.Sha512 bytes) = (algorithm.Sha512, bytes)
 
--- a running hash is that of the bytes taken, by an algorithm
+-- a running hash by an algorithm is of the bytes taken
 abbrev pub HashesInto : Hashing → Algorithm → List ℕ → Type 0
 HashesInto (hashing.Md5 state) by taken = (by ≡ algorithm.Md5) × Holds state taken
 HashesInto (hashing.Sha1 state) by taken = (by ≡ algorithm.Sha1) × DigestHasTaken state taken

@@ -90,7 +90,7 @@ names_more field rest more other two some =
     let second : nat_lt 1 more ≡ true = lt-ltb 1 more two in
     rw (some, second) refl
 
--- the only Content-Length of a head's fields is that of the fields before which others come, unless there are more
+-- the only Content-Length of a head's fields is in the fields before which others come, unless there are more
 pub length_shared : (front gs : List Pair) (n : ℕ) → block_len gs ≡ Ok n → (block_len (front ++ gs) ≡ Ok n) ⊎ (block_len (front ++ gs) ≡ Err (Repeated ContentLength))
 unfolding block_len
 length_shared front gs n is = ⊎_elim

@@ -58,7 +58,7 @@ unshared_at {X} kind offset g r one two shared =
 pub unshared : {X : Type 0} (kind : FaultKind) (g : Fault) (r : Result X Fault) → r ≡ Err g → r ≡ Err (fault kind 0) → IsShared g.kind → IsShared kind
 unshared kind g r one two shared = unshared_at kind 0 g r one two shared
 
--- the block of a record that begins within a head is closed, and so is that of the head if it is as long
+-- the block of a record that begins within a head is closed, and so is the block of the head if it is as long
 closed_inside : (t : List ℕ) (len k : ℕ) (r : Record) (text more : List ℕ) (spelled : Spells r text) → k ≤ length t → len ≡ k + length spelled.area + 12 → drop k t ≡ text ++ more
     → block_at len (length r.block) t ≡ Ok r.block
 closed_inside t len k r text more spelled within size whole =

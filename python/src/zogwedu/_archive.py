@@ -196,7 +196,7 @@ class Record:
         return None if head is None else Http(self._archive, head)
 
     def body(self, decoded: Decoding = False, *, decoded_limit: int = DECODED_LIMIT) -> Body:
-        """The body that this capture gives: that of the record itself, or of the one that a revisit leads to.
+        """The body that this capture gives: the record's own, or the body of the record that a revisit leads to.
 
         Raises NoBody if there is none, with the reason P3 to P10, or if the record is no capture. `decoded=True` undoes
         the codings of a body that is stored chunked or compressed, and says in `undone` which these were; that isn't
@@ -372,7 +372,7 @@ class Archive(Records):
         decoded: Decoding = False,
         decoded_limit: int = DECODED_LIMIT,
     ) -> Body:
-        """The body that was captured of a URI, as of a date: that of the latest capture that isn't later.
+        """The body that was captured of a URI, as of a date: the latest capture that isn't later has it.
 
         A date is a text such as "2021", "2021-06-30" or "2021-06-30T12:00:00Z", or a datetime, which is read as UTC if
         it has no time zone. Raises NoBody with the reason P1 to P10 if there is none; it never gives an older capture
@@ -388,19 +388,20 @@ class Archive(Records):
     def stated_verdict(self, position: int) -> str:
         """How the block of a record compares with the digest that its head states: "good", "bad" or "unchecked".
 
-        The digest is that of the first `WARC-Block-Digest`. As `Archive.fixity` does, this judges MD5, SHA-1, SHA-256,
-        SHA-384 and SHA-512, in hexadecimal or base32; `Record.verdict` judges SHA-1 in base32 alone. The block is
-        hashed each time. Raises NoRecord if the position isn't that of a record, as one below 0, and Changed.
+        The digest is the one that the first `WARC-Block-Digest` states. As `Archive.fixity` does, this judges MD5,
+        SHA-1, SHA-256, SHA-384 and SHA-512, in hexadecimal or base32; `Record.verdict` judges SHA-1 in base32 alone.
+        The block is hashed each time. Raises NoRecord if the position isn't that of a record, as one below 0, and
+        Changed.
         """
         return VERDICTS[self._use().stated_verdict(index(position))]
 
     def payload_verdict(self, position: int) -> Optional[PayloadVerdict]:
         """How the payload of a record compares with the digest that its head states; None if it states none.
 
-        The digest is that of the first `WARC-Payload-Digest`, in the algorithms of `stated_verdict`. The payload of an
-        HTTP response is what follows its HTTP head, as it is stored; that of another record its block; that of a
-        revisit what its replay gives. It is what `warc fixity --payload` prints. The payload is hashed each time.
-        Raises NoRecord if the position isn't that of a record, as one below 0, and Changed.
+        The digest is the one that the first `WARC-Payload-Digest` states, in the algorithms of `stated_verdict`. The
+        payload of an HTTP response is what follows its HTTP head, as it is stored; of another record it is the block;
+        of a revisit it is what its replay gives. The verdict is what `warc fixity --payload` prints. The payload is
+        hashed each time. Raises NoRecord if the position isn't that of a record, as one below 0, and Changed.
         """
         number = self._use().payload_verdict(index(position))
         if number == NO_DIGEST:
