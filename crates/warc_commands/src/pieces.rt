@@ -96,10 +96,7 @@ fn put_pieces<S: Source, A: Allocator + Copy, W: Sink>(
     let mut tally = Tally::new();
     'putting: loop {
         match next_step(pieces, &mut tally) {
-            Step::More(piece) => match put_piece(piece, buffer, out) {
-                Ok(()) => {}
-                Err(fault) => return Err(fault),
-            },
+            Step::More(piece) => put_piece(piece, buffer, out)?,
             Step::End(stop) => return Ok(Found { tally, stop }),
         }
     }
@@ -115,14 +112,9 @@ fn send_pieces<S: Source, A: Allocator + Copy, W: Sink>(
         result }
 {
     let mut buffer = OutBuffer::new();
-    let found = match put_pieces(pieces, &mut buffer, out) {
-        Ok(found) => found,
-        Err(fault) => return Err(fault),
-    };
-    match buffer.flush(out) {
-        Ok(()) => Ok(found),
-        Err(fault) => Err(fault),
-    }
+    let found = put_pieces(pieces, &mut buffer, out)?;
+    buffer.flush(out)?;
+    Ok(found)
 }
 
 /// Reports what stopped reading, if anything did, and answers the exit status.

@@ -88,10 +88,10 @@ fn copy_runs<S: Source, A: Allocator + Copy, W: Sink, E: Sink>(
     let mut tally = Tally::new();
     'copying: loop {
         match next_step(pieces, &mut tally) {
-            Step::More(piece) => match copy_run(piece, pieces, scratch, buffer, out) {
-                Ok(()) => tell_damage(piece, err),
-                Err(fault) => return Err(fault),
-            },
+            Step::More(piece) => {
+                copy_run(piece, pieces, scratch, buffer, out)?;
+                tell_damage(piece, err);
+            }
             Step::End(stop) => return Ok(Found { tally, stop }),
         }
     }
@@ -109,14 +109,9 @@ fn send_runs<S: Source, A: Allocator + Copy, W: Sink, E: Sink>(
 {
     let mut scratch = [0; PIECE];
     let mut buffer = OutBuffer::new();
-    let found = match copy_runs(pieces, &mut scratch, &mut buffer, out, err) {
-        Ok(found) => found,
-        Err(fault) => return Err(fault),
-    };
-    match buffer.flush(out) {
-        Ok(()) => Ok(found),
-        Err(fault) => Err(OutFault::Write(fault.sent)),
-    }
+    let found = copy_runs(pieces, &mut scratch, &mut buffer, out, err)?;
+    buffer.flush(out)?;
+    Ok(found)
 }
 
 /// Reports how many records and bytes went out, and answers the exit status.
