@@ -9,10 +9,10 @@ use crate::runs::{
 use crate::salvaging::answer_salvaging;
 use crate::turns::{tell_as_alone, tell_reads, tell_requests, tell_writes};
 use crate::usage::answer_usage;
-use crate::words::{command_of, is_command, words_from};
+use crate::words::{is_command, line_of};
 use std::alloc::{AllocError, Global};
 use suites_script::Case;
-use warc_commands::Command;
+use warc_commands::{Command, parse};
 use warc_vectors::Break;
 
 /// How many words of a case stand before those of its command.
@@ -51,18 +51,18 @@ pub fn answer(
     if !is_command(case.text(index)) {
         return Ok(false);
     }
-    let words = words_from(alloc, case, index)?;
-    match command_of(&words, case) {
-        Some(command) => {
+    let line = line_of(alloc, case, index)?;
+    match parse(alloc, &line) {
+        Ok(request) => {
             let asked = Asked {
-                command: &command,
-                list: list_of(&command, case),
+                command: &request.command,
+                list: list_of(&request.command, case),
                 archive,
             };
             answer_run(alloc, case, asked, answer)?;
             Ok(true)
         }
-        None => Ok(false),
+        Err(_) => Ok(false),
     }
 }
 
