@@ -1,4 +1,4 @@
--- The fields of the standard (ISO 28500:2017, 5) as one table: the name of each, and where it stands in a table.
+-- The fields of the standard (ISO 28500:2017, 5) as one table: the name of each, and its place.
 use Rattle.std.specs.Prelude.{◌≡◌, ◌<◌, ◌==◌, ℕ, List, Option, Some, None, true, if◌then◌else◌}
 use Rattle.warc_field.specs.Text.{is_name, same}
 use Rattle.warc_frame.specs.Names.{warc_type, warc_record_id, warc_date, content_length, warc_target_uri}
@@ -40,7 +40,7 @@ name_text Truncated = warc_truncated
 name_text IdentifiedPayloadType = warc_identified_payload_type
 name_text ContentType = content_type
 
--- its place in a table: first the four that every head has, then the others in the standard's order
+-- its place in a table: first the four that every head has, then the others in the order of the table of field rules
 abbrev pub name_place : FieldName → ℕ
 name_place «Type» = 0
 name_place RecordId = 1
@@ -69,7 +69,7 @@ abbrev pub name_count : ℕ
 name_count = 21
 
 -- what is true of the table: each is a name, no two have one place, each place is below their number, and no text is
--- two of them, in whichever case
+-- two of them, in any case
 pub record AreFieldNames : Type 0 where
   pub named : (name : FieldName) → is_name (name_text name) ≡ true
   pub places : (a b : FieldName) → name_place a ≡ name_place b → a ≡ b

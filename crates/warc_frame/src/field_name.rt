@@ -6,7 +6,8 @@ ghost use Rattle.warc_frame.specs.FieldNames.{name_by, name_place, name_text};
 
 use crate::names;
 
-/// A field of the standard. After the four that every head has come the others, in the standard's order.
+/// A field of the standard. The four that every head has come first. `warc_quick` relies on the order of the others:
+/// it is the order of the table of field rules in `warc_record`.
 #[derive(Clone, Copy, Debug, PartialEq, Eq)]
 pub enum FieldName {
     Type,
@@ -36,6 +37,7 @@ pub enum FieldName {
 pub const NAME_COUNT: usize = FieldName::ContentType as usize + 1;
 
 /// The only field whose name has this length and this eighth letter, in lower case.
+#[inline(always)]
 fn name_by(len: usize, letter: u8) -> Option<FieldName>
     ensures { result ≡ name_by len letter }
 {
@@ -66,6 +68,7 @@ fn name_by(len: usize, letter: u8) -> Option<FieldName>
 }
 
 /// The eighth letter of a text in lower case, or 0 if it is shorter.
+#[inline(always)]
 fn eighth(text: &[u8]) -> u8
     ensures { result ≡ to_ascii_lowercase (slice_index text.now 7) }
 {
@@ -77,6 +80,7 @@ fn eighth(text: &[u8]) -> u8
 
 impl FieldName {
     /// The only field whose name the text can be, in any case. Whether it is that name is for the caller to compare.
+    #[inline(always)]
     #[tactic(auto, using(crate::proofs::FieldNameLemmas::told_by))]
     pub fn candidate(text: &[u8]) -> Option<FieldName>
         ensures { (name : FieldName) → same text.now (name_text name) ≡ true → result ≡ Some name }
