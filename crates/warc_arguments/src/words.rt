@@ -502,15 +502,15 @@ and SHA-512 are checked, in hexadecimal and in base32. A block is unchecked if
 its head states none of these. The last line counts all records:
 'records 60 good 58 bad 0 unchecked 2'.
 
-With --payload payloads are compared with the payload digests that heads state,
-and only records that state one are listed and counted. The payload is what
-follows the HTTP head of an HTTP response, as it is stored, what its replay
-gives of a revisit, and else the block. A line has five columns: after the id
-comes the reason why the payload is unchecked, or '-' if it is bad. The reason
-is 'revisit' if the replay gives no body, 'request' or 'segment' if the record
-is one, 'algorithm' if the value is none of these digests, 'head' if an HTTP
-response has no HTTP head, and 'coded' if the digest differs and the payload
-has a transfer coding: it may have been hashed before or after that.
+With --payload, payloads are compared with the payload digests that heads
+state, and only records that state one are listed and counted. The payload is
+what follows the HTTP head of an HTTP response, as it is stored, what its
+replay gives of a revisit, and else the block. A line has five columns: after
+the id comes the reason why the payload is unchecked, or '-' if it is bad. The
+reason is 'revisit' if the replay gives no body, 'request' or 'segment' if the
+record is one, 'algorithm' if the value is none of these digests, 'head' if an
+HTTP response has no HTTP head, and 'coded' if the digest differs and the
+payload has a transfer coding: it may have been hashed before or after that.
 
 Exit status: 0 all are good; 1 some block or payload is bad; 2 the archive is
 refused, and nothing was written; 3 see 'warc --help'; 4 none is bad, and some
@@ -522,10 +522,10 @@ Example: warc fixity --payload examples/crawl.warc";
 const PIECES_NOTES: &str =
     "A line for each run of good records has 'records', its offset, its length in
 bytes and how many records it has; a line for each damage has 'damage', its
-offset, its length in bytes and the fault of the record that begins there; with
-a tab between two columns. Damage goes on to the next byte at which a good
-record begins that lies whole in the file. The offset of a fault may lie after
-the damage: for F10 where Content-Length says that the block ends.
+offset, its length in bytes and the fault of the record that begins there;
+with a tab between two columns. Damage goes on to the next byte at which a
+good record begins that lies whole in the file. The offset of a fault may lie
+after the damage: for F10 where Content-Length says that the block ends.
 
 Exit status: 0 there is no damage; 2 there is, or the file has more than 2^48
 bytes (F12); 3 a read or memory failed (F13, F14) after the pieces that were
