@@ -5,7 +5,7 @@ mod UuidLemmas
 pub mod IdLemmas
 mod KeyLemmas
 mod ValueLemmas
-mod HeadLemmas
+pub mod TypedLemmas
 pub mod GoodLemmas
 pub mod CountLemmas
 mod FindingLemmas

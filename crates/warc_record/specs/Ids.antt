@@ -64,10 +64,6 @@ key_of bare = key_by bare (parsed_urn bare)
 abbrev pub id_key : List ℕ → Option (List ℕ)
 id_key text = if is_id text then Some (key_of (bare_text text)) else None
 
--- a text that holds an id which isn't a UUID: its key takes memory, and no other does
-abbrev pub IsOtherId : List ℕ → Type 0
-IsOtherId text = (is_bare_id (bare_text text) ≡ true) × (parsed_urn (bare_text text) ≡ None)
-
 -- keys are equal exactly for same ids
 abbrev pub KeysAreEqualForSameIds : Type 0
 KeysAreEqualForSameIds =

@@ -3,6 +3,6 @@ use Rattle.std.specs.Prelude.{ℕ, List}
 use Rattle.warc_record.specs.declared.ids.Form.{Form}
 use Rattle.warc_record.specs.declared.ids.Form.TheVariants.{Uuid, Text}
 
-abbrev pub form_bytes : {A : Type 0} → Form A → List ℕ
+abbrev pub form_bytes : Form → List ℕ
 form_bytes (Uuid bytes) = bytes
-form_bytes (Text bytes) = bytes.items
+form_bytes (Text bytes) = bytes.now

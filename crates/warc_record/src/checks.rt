@@ -275,18 +275,13 @@ fn has_unknown_profile<A: Allocator>(kind: Kind, fields: &ByName<'_, A>) -> bool
 }
 
 /// Whether the record is a continuation whose origin holds no id.
-fn lacks_origin<A: Allocator + Copy>(
-    alloc: A,
-    kind: Kind,
-    fields: &ByName<'_, A>,
-) -> Result<bool, AllocError>
+fn lacks_origin<A: Allocator>(kind: Kind, fields: &ByName<'_, A>) -> bool
     requires { kind ≡ kind_of fields.now }
-    ensures { IfOk result (λ lacks. lacks ≡ lacks_origin (reading_of fields.now) fields.now) }
+    ensures { result ≡ lacks_origin (reading_of fields.now) fields.now }
 {
-    if kind != Kind::Continuation || present(fields, FieldName::SegmentOriginId).is_none() {
-        return Ok(false);
-    }
-    Ok(key_in(alloc, fields, FieldName::SegmentOriginId)?.is_none())
+    kind == Kind::Continuation
+        && present(fields, FieldName::SegmentOriginId).is_some()
+        && key_in(fields, FieldName::SegmentOriginId).is_none()
 }
 
 /// Whether the text begins with `<` and ends with `>`.
@@ -357,11 +352,7 @@ fn findings_in<'a, A: Allocator + Copy>(
     )?;
     add_not_utf8(&mut found, fields)?;
     add_once(&mut found, Finding::BareId, has_bare_id(fields))?;
-    add_once(
-        &mut found,
-        Finding::NoOrigin,
-        lacks_origin(alloc, kind, fields)?,
-    )?;
+    add_once(&mut found, Finding::NoOrigin, lacks_origin(kind, fields))?;
     Ok(found)
 }
 

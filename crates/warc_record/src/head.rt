@@ -1,4 +1,4 @@
-ghost use Rattle.std.specs.Prelude.{◌≡◌, [], IfOk, MatchResult, Some, None, true, option_and_then, option_map, unwrap_or};
+ghost use Rattle.std.specs.Prelude.{◌≡◌, [], MatchResult, Some, None, true, option_and_then, option_map, unwrap_or};
 ghost use Rattle.std.specs.Option.{option_copied};
 ghost use Rattle.warc_field.specs.Area.{first_value};
 ghost use Rattle.warc_value.specs.Dates.{instant_of};
@@ -10,7 +10,7 @@ ghost use Rattle.warc_record.specs.Ids.{is_id};
 ghost use Rattle.warc_record.specs.Readings.{bare_present, both, present_bare, instant_in, unless_empty, reference_of, segment_reading, digest_wanted, reading_of, target_of};
 ghost use Rattle.warc_record.specs.Known.{ArePlaces, value_at};
 ghost use Rattle.warc_record.specs.Heads.{count_fault, type_fault, id_fault, head_fault};
-ghost use Rattle.warc_record.specs.Seen.{pair_said, reference_said, segment_said, said, RefusesFor};
+ghost use Rattle.warc_record.specs.Seen.{pair_said, reference_said, segment_said, said};
 
 use crate::ids::{IdKey, bare, id_key, is_bare_id};
 use crate::known::{ByName, Places};
@@ -18,71 +18,104 @@ use crate::readings::{
     SegmentNumber, bare_in, is_known_profile, key_in, number_in, present, segment_number, text_in,
 };
 use crate::types::Kind;
-use std::alloc::{AllocError, Allocator, Global};
+use std::alloc::{Allocator, Global};
 use std::marker::Model;
 use warc_field::{Fields, Value, is_name};
 use warc_frame::{FaultKind, FieldName, Mandatory};
 use warc_value::{Moment, Wanted, read_date};
 
+/// The texts of a head that are listed, each empty if it is absent, and whether the record is marked as truncated.
+#[derive(Clone, Copy, Debug)]
+pub struct HeadTexts<'a> {
+    /// The values of `WARC-Type`, `WARC-Date` and `WARC-Record-ID`, as they are written.
+    pub kind: &'a [u8],
+    pub date: &'a [u8],
+    pub id: &'a [u8],
+
+    /// The bare text of `WARC-Target-URI`.
+    pub target: &'a [u8],
+
+    /// Whether `WARC-Truncated` isn't absent.
+    pub is_truncated: bool,
+}
+
 /// A target and an instant that a revisit names.
-#[derive(Debug, Drop)]
-pub struct NamedPair<A: Allocator = Global> {
-    pub target: Value<A>,
+#[derive(Clone, Copy, Debug)]
+pub struct NamedPair<'a> {
+    pub target: &'a [u8],
     pub moment: Moment,
 }
 
 /// What a revisit refers to.
 #[derive(Debug, Drop)]
-pub struct Reference<A: Allocator = Global> {
+pub struct Reference<'a> {
     /// Whether `WARC-Profile` is one of the four known profiles.
     pub known_profile: bool,
 
     /// The id in `WARC-Refers-To`.
-    pub named_id: Option<IdKey<A>>,
+    pub named_id: Option<IdKey<'a>>,
 
     /// `WARC-Refers-To-Target-URI` and `WARC-Refers-To-Date`, if both can be read.
-    pub named_pair: Option<NamedPair<A>>,
+    pub named_pair: Option<NamedPair<'a>>,
 }
 
 /// Which segment of which record a record is.
 #[derive(Debug, Drop)]
-pub struct Segment<A: Allocator = Global> {
+pub struct Segment<'a> {
     pub number: SegmentNumber,
 
     /// The id in `WARC-Segment-Origin-ID`.
-    pub origin: Option<IdKey<A>>,
+    pub origin: Option<IdKey<'a>>,
 
     /// The number in `WARC-Segment-Total-Length`, in bytes.
     pub total: Option<u64>,
 }
 
-/// What the head of a good record says, each reading from the first field of its name.
+/// What the head of a good record says, each reading from the first field of its name. Its texts are borrowed.
 #[derive(Debug, Drop)]
-pub struct Typed<A: Allocator = Global> {
+pub struct Typed<'a> {
+    pub texts: HeadTexts<'a>,
     pub kind: Kind,
-
-    /// The values of `WARC-Type`, `WARC-Record-ID` and `WARC-Date`, as they are written.
-    pub type_text: Value<A>,
-    pub id_text: Value<A>,
-    pub date_text: Value<A>,
-
-    pub id: IdKey<A>,
+    pub id: IdKey<'a>,
     pub moment: Moment,
+    pub reference: Reference<'a>,
+    pub segment: Segment<'a>,
 
-    /// The bare text of `WARC-Target-URI`, if it isn't empty.
-    pub target: Option<Value<A>>,
+    /// The value of `WARC-Block-Digest`, empty if it is absent.
+    pub digest: &'a [u8],
 
-    pub reference: Reference<A>,
-    pub segment: Segment<A>,
+    /// The value of `WARC-Payload-Digest`, empty if it is absent.
+    pub payload_digest: &'a [u8],
+}
 
-    /// The digest that `WARC-Block-Digest` asks for.
-    pub wanted: Wanted,
+/// The text, if it isn't empty.
+fn unless_empty(text: &[u8]) -> Option<&[u8]>
+    ensures { option_copied result ≡ unless_empty text.now }
+{
+    if text.is_empty() { None } else { Some(text) }
+}
 
-    /// The value of `WARC-Payload-Digest`, a text that is never computed.
-    pub payload_digest: Option<Value<A>>,
+impl<'a> Typed<'a> {
+    /// The digest that it asks for of its block.
+    pub fn wanted(&self) -> Wanted
+        ensures { result ≡ (said self.now).wanted }
+    {
+        Wanted::of(self.digest)
+    }
 
-    /// Whether `WARC-Truncated` isn't absent.
-    pub truncated: bool,
+    /// The bare text of the target.
+    pub fn target(&self) -> Option<&'a [u8]>
+        ensures { option_copied result ≡ (said self.now).target }
+    {
+        unless_empty(self.texts.target)
+    }
+
+    /// The digest that is stated of the payload.
+    pub fn payload_digest(&self) -> Option<&'a [u8]>
+        ensures { option_copied result ≡ (said self.now).payload_digest }
+    {
+        unless_empty(self.payload_digest)
+    }
 }
 
 /// The date that the first field's value is.
@@ -93,67 +126,47 @@ fn instant_in<A: Allocator>(fields: &ByName<'_, A>, name: FieldName) -> Option<M
 }
 
 /// The target and the instant that the head names.
-fn named_pair<A: Allocator + Copy>(
-    alloc: A,
-    fields: &ByName<'_, A>,
-) -> Result<Option<NamedPair<A>>, AllocError>
-    ensures { IfOk result (λ pair. option_map pair_said pair
+fn named_pair<'a, A: Allocator>(fields: &ByName<'a, A>) -> Option<NamedPair<'a>>
+    ensures { option_map pair_said result
         ≡ both (present_bare warc_refers_to_target_uri fields.now)
-        (instant_in warc_refers_to_date fields.now)) }
+        (instant_in warc_refers_to_date fields.now) }
 {
-    let Some(target) = bare_in(alloc, fields, FieldName::RefersToTargetUri)? else {
-        return Ok(None);
-    };
-    match instant_in(fields, FieldName::RefersToDate) {
-        Some(moment) => Ok(Some(NamedPair { target, moment })),
-        None => Ok(None),
-    }
+    let target = bare_in(fields, FieldName::RefersToTargetUri)?;
+    let moment = instant_in(fields, FieldName::RefersToDate)?;
+    Some(NamedPair { target, moment })
 }
 
 /// What the head refers to.
-fn read_reference<A: Allocator + Copy>(
-    alloc: A,
-    fields: &ByName<'_, A>,
-) -> Result<Reference<A>, AllocError>
-    ensures { IfOk result (λ reference. reference_said reference ≡ reference_of fields.now) }
+fn read_reference<'a, A: Allocator>(fields: &ByName<'a, A>) -> Reference<'a>
+    ensures { reference_said result ≡ reference_of fields.now }
 {
     let known_profile = match present(fields, FieldName::Profile) {
         Some(value) => is_known_profile(value.bytes()),
         None => false,
     };
-    Ok(Reference {
+    Reference {
         known_profile,
-        named_id: key_in(alloc, fields, FieldName::RefersTo)?,
-        named_pair: named_pair(alloc, fields)?,
-    })
+        named_id: key_in(fields, FieldName::RefersTo),
+        named_pair: named_pair(fields),
+    }
 }
 
 /// Which segment the head says that the record is.
-fn read_segment<A: Allocator + Copy>(
-    alloc: A,
-    fields: &ByName<'_, A>,
-) -> Result<Segment<A>, AllocError>
-    ensures { IfOk result (λ segment. segment_said segment ≡ segment_reading fields.now) }
+fn read_segment<'a, A: Allocator>(fields: &ByName<'a, A>) -> Segment<'a>
+    ensures { segment_said result ≡ segment_reading fields.now }
 {
-    Ok(Segment {
+    Segment {
         number: segment_number(fields),
-        origin: key_in(alloc, fields, FieldName::SegmentOriginId)?,
+        origin: key_in(fields, FieldName::SegmentOriginId),
         total: number_in(fields, FieldName::SegmentTotalLength),
-    })
+    }
 }
 
 /// The digest that the head asks for of its block.
 pub fn wanted<A: Allocator>(fields: &Fields<A>) -> Wanted
     ensures { result ≡ digest_wanted fields.now }
 {
-    wanted_in(&ByName::new(fields))
-}
-
-/// The same, from fields by their names.
-fn wanted_in<A: Allocator>(fields: &ByName<'_, A>) -> Wanted
-    ensures { result ≡ digest_wanted fields.now }
-{
-    match present(fields, FieldName::BlockDigest) {
+    match present(&ByName::new(fields), FieldName::BlockDigest) {
         Some(value) => Wanted::of(value.bytes()),
         None => Wanted::Unchecked,
     }
@@ -209,60 +222,68 @@ fn id_text<'a, A: Allocator>(fields: &ByName<'a, A>) -> Result<&'a Value<A>, Fau
     }
 }
 
+/// The bare text of the target, empty if it is absent.
+#[tactic(auto, using(crate::proofs::TypedLemmas::bare_or_empty))]
+fn target_in<'a, A: Allocator>(fields: &ByName<'a, A>) -> &'a [u8]
+    ensures { unless_empty result.now ≡ target_of fields.now }
+{
+    match bare_in(fields, FieldName::TargetUri) {
+        Some(target) => target,
+        None => b"",
+    }
+}
+
 /// What a head of these mandatory fields says.
-fn read_typed<A: Allocator + Copy>(
-    alloc: A,
-    fields: &ByName<'_, A>,
-    type_text: &Value<A>,
-    id_text: &Value<A>,
-    date_text: &Value<A>,
+#[tactic(auto, using(crate::proofs::TypedLemmas::wanted_unless_empty))]
+fn read_typed<'a, A: Allocator>(
+    fields: &ByName<'a, A>,
+    type_text: &'a [u8],
+    id_text: &'a [u8],
+    date_text: &'a [u8],
     moment: Moment,
-) -> Result<Typed<A>, AllocError>
+) -> Typed<'a>
     requires of_type { first_value warc_type fields.now ≡ Some type_text.now }
     requires of_id { first_value warc_record_id fields.now ≡ Some id_text.now }
     requires id { is_id id_text.now ≡ true }
     requires of_date { first_value warc_date fields.now ≡ Some date_text.now }
     requires date { instant_of date_text.now ≡ Some moment }
-    ensures { IfOk result (λ typed. said typed ≡ reading_of fields.now) }
+    ensures { said result ≡ reading_of fields.now }
 {
-    let Some(id) = id_key(alloc, id_text.bytes())? else {
+    let Some(id) = id_key(id_text) else {
         unreachable!()
     };
-    Ok(Typed {
-        kind: Kind::named(type_text.bytes()),
-        type_text: Value::from_checked(alloc, type_text.bytes())?,
-        id_text: Value::from_checked(alloc, id_text.bytes())?,
-        date_text: Value::from_checked(alloc, date_text.bytes())?,
+    Typed {
+        texts: HeadTexts {
+            kind: type_text,
+            date: date_text,
+            id: id_text,
+            target: target_in(fields),
+            is_truncated: present(fields, FieldName::Truncated).is_some(),
+        },
+        kind: Kind::named(type_text),
         id,
         moment,
-        target: bare_in(alloc, fields, FieldName::TargetUri)?,
-        reference: read_reference(alloc, fields)?,
-        segment: read_segment(alloc, fields)?,
-        wanted: wanted_in(fields),
-        payload_digest: text_in(alloc, fields, FieldName::PayloadDigest)?,
-        truncated: present(fields, FieldName::Truncated).is_some(),
-    })
+        reference: read_reference(fields),
+        segment: read_segment(fields),
+        digest: text_in(fields, FieldName::BlockDigest),
+        payload_digest: text_in(fields, FieldName::PayloadDigest),
+    }
 }
 
 /// What the head of a record says, or the first refusal of its type, its id and its date, in this
-/// order: F4 Missing or F5 Repeated, and then F7 BadType, F8 Id or F9 Date. F14 Memory if memory
-/// was refused. It doesn't look at `Content-Length`.
-#[tactic(auto, using(crate::proofs::HeadLemmas::refuses_for))]
-pub fn type_head<A: Allocator + Copy>(alloc: A, fields: &Fields<A>) -> Result<Typed<A>, FaultKind>
-    ensures reading { IfOk result (λ typed. said typed ≡ reading_of fields.now) }
-    ensures fault { RefusesFor result (head_fault fields.now) }
+/// order: F4 Missing or F5 Repeated, and then F7 BadType, F8 Id or F9 Date. It doesn't look at `Content-Length`.
+pub fn type_head<A: Allocator>(fields: &Fields<A>) -> Result<Typed<'_>, FaultKind>
+    ensures { MatchResult result
+        (λ typed. (head_fault fields.now ≡ None) × (said typed ≡ reading_of fields.now))
+        (λ fault. head_fault fields.now ≡ Some fault) }
 {
     let fields = &ByName::new(fields);
-    let type_text = type_text(fields)?;
-    let id_text = id_text(fields)?;
-    let date_text = only(fields, FieldName::Date, Mandatory::Date)?;
-    let Some(moment) = read_date(date_text.bytes()) else {
-        return Err(FaultKind::Date);
-    };
-    // Only here is memory taken.
-    match read_typed(alloc, fields, type_text, id_text, date_text, moment) {
-        Ok(typed) => Ok(typed),
-        Err(_) => Err(FaultKind::Memory),
+    let type_text = type_text(fields)?.bytes();
+    let id_text = id_text(fields)?.bytes();
+    let date_text = only(fields, FieldName::Date, Mandatory::Date)?.bytes();
+    match read_date(date_text) {
+        Some(moment) => Ok(read_typed(fields, type_text, id_text, date_text, moment)),
+        None => Err(FaultKind::Date),
     }
 }
 
@@ -282,7 +303,6 @@ fn judge<A: Allocator>(fields: &ByName<'_, A>) -> Result<Places, FaultKind>
 }
 
 /// The head that these fields are, or the first refusal of its type, its id and its date, in the order of `type_head`.
-/// It takes no memory.
 pub fn judge_head<A: Allocator>(fields: Fields<A>) -> Result<GoodHead<A>, FaultKind>
     ensures { MatchResult result
         (λ head. (head_fault fields ≡ None) × (head ≡ fields))
@@ -290,16 +310,6 @@ pub fn judge_head<A: Allocator>(fields: Fields<A>) -> Result<GoodHead<A>, FaultK
 {
     let places = judge(&ByName::new(&fields))?;
     Ok(GoodHead { fields, places })
-}
-
-/// The texts of a head that are listed, each empty if it is absent, and whether the record is marked as truncated.
-#[derive(Clone, Copy)]
-pub struct HeadTexts<'a> {
-    pub kind: &'a [u8],
-    pub date: &'a [u8],
-    pub id: &'a [u8],
-    pub target: &'a [u8],
-    pub is_truncated: bool,
 }
 
 /// The value of the field at a place, if there is one and it isn't empty.
@@ -367,6 +377,17 @@ impl<A: Allocator> GoodHead<A> {
         ensures { result ≡ self }
     {
         self.fields
+    }
+
+    /// What it says.
+    pub fn typed(&self) -> Typed<'_>
+        ensures { said result ≡ reading_of self.now }
+    {
+        match type_head(&self.fields) {
+            Ok(typed) => typed,
+            // A good head has no fault.
+            Err(_) => unreachable!(),
+        }
     }
 
     /// The digest that it asks for of its block.

@@ -1,4 +1,4 @@
-ghost use Rattle.std.specs.Prelude.{◌≡◌, ◌∷◌, ◌==◌, IfOk, IfSome, OnErr, None, Some, true, length, slice_index};
+ghost use Rattle.std.specs.Prelude.{◌≡◌, ◌∷◌, ◌==◌, IfSome, None, Some, true, length, slice_index};
 ghost use Rattle.std.specs.List.{list_any};
 ghost use Rattle.std.proofs.Common.{rules};
 ghost use Rattle.std.specs.Cmp.{partial_order_from_own_ties};
@@ -7,10 +7,9 @@ ghost use Rattle.std.specs.Cmp.Lexicographic.{slice_cmp, pointwise};
 ghost use Rattle.std.specs.Ordering.{nat_cmp, as_partial_cmp};
 ghost use Rattle.uuid.specs.Text.{parsed_urn};
 ghost use Rattle.warc_field.specs.Text.{is_blank};
-ghost use Rattle.warc_record.specs.Ids.{is_bracket, ends_id, is_bracketed, bare_text, is_bare_id, id_key, key_of, IsOtherId};
+ghost use Rattle.warc_record.specs.Ids.{is_bracket, ends_id, is_bracketed, bare_text, is_bare_id, id_key, key_of};
 
 use memchr::memchr2;
-use std::alloc::{AllocError, Allocator, Global};
 use std::cmp::Ordering;
 use std::marker::Model;
 use uuid::Uuid;
@@ -19,20 +18,20 @@ use warc_field::trim;
 /// How many bytes `<urn:uuid:...>` has.
 const UUID_ID: usize = 47;
 
-/// An id, to be compared and kept. Contracts see its key: `<` and the sixteen bytes of a UUID, or
-/// else the bare text.
+/// The key of an id, to compare ids by. Contracts see its bytes: `<` and the sixteen bytes of a UUID, or else the bare
+/// text, which is borrowed.
 #[derive(Debug, Drop)]
-pub struct IdKey<A: Allocator = Global> {
-    form: Form<A>,
+pub struct IdKey<'a> {
+    form: Form<'a>,
 }
 
 #[derive(Debug, Drop)]
-enum Form<A: Allocator> {
+enum Form<'a> {
     Uuid([u8; 17]),
-    Text(Vec<u8, A>),
+    Text(&'a [u8]),
 }
 
-impl<A: Allocator> Model for IdKey<A> {
+impl<'a> Model for IdKey<'a> {
     ghost use Rattle.std.specs.Prelude.{List, ℕ};
 
     ghost Value = { List ℕ };
@@ -42,14 +41,14 @@ impl<A: Allocator> Model for IdKey<A> {
     ghost view = { λ key. form_bytes key.form };
 }
 
-impl<A: Allocator> IdKey<A> {
+impl IdKey<'_> {
     /// The key's bytes, by which keys are ordered. No id's text begins like the key of a UUID.
     pub fn bytes(&self) -> &[u8]
         ensures { result.now ≡ self.now }
     {
         match &self.form {
             Form::Uuid(bytes) => bytes.as_slice(),
-            Form::Text(bytes) => bytes.as_slice(),
+            Form::Text(bytes) => bytes,
         }
     }
 
@@ -61,31 +60,31 @@ impl<A: Allocator> IdKey<A> {
     }
 }
 
-impl<A: Allocator> PartialEq for IdKey<A> {
+impl<'a> PartialEq for IdKey<'a> {
     ghost eq = { pointwise ◌==◌ };
 
     ghost laws = { Prim.search (comparing, rules) };
 
-    fn eq(&self, other: &IdKey<A>) -> bool {
+    fn eq(&self, other: &IdKey<'a>) -> bool {
         self.bytes() == other.bytes()
     }
 }
 
-impl<A: Allocator> Eq for IdKey<A> {
+impl<'a> Eq for IdKey<'a> {
     ghost laws = { Prim.search (comparing, rules) };
 }
 
-impl<A: Allocator> PartialOrd for IdKey<A> {
+impl<'a> PartialOrd for IdKey<'a> {
     ghost partial_cmp = { as_partial_cmp (slice_cmp nat_cmp) };
 
     ghost laws = { partial_order_from_own_ties (Prim.search (comparing, rules)) (Prim.search (comparing, rules)) };
 
-    fn partial_cmp(&self, other: &IdKey<A>) -> Option<Ordering> {
+    fn partial_cmp(&self, other: &IdKey<'a>) -> Option<Ordering> {
         Some(self.cmp(other))
     }
 }
 
-impl<A: Allocator> Ord for IdKey<A> {
+impl<'a> Ord for IdKey<'a> {
     ghost cmp = { slice_cmp nat_cmp };
 
     ghost total = { Prim.search (comparing, rules) };
@@ -94,7 +93,7 @@ impl<A: Allocator> Ord for IdKey<A> {
 
     ghost matches_eq = { Prim.search (comparing, rules) };
 
-    fn cmp(&self, other: &IdKey<A>) -> Ordering {
+    fn cmp(&self, other: &IdKey<'a>) -> Ordering {
         self.bytes().cmp(other.bytes())
     }
 }
@@ -185,7 +184,7 @@ fn uuid_key(uuid: [u8; 16]) -> [u8; 17]
 
 /// The key of the id that a text holds, if the text is a UUID between `<` and `>`, as nearly all are. Such a text
 /// isn't searched for brackets, spaces and tabs, since a UUID contains none. `None` says nothing of the text.
-pub fn uuid_id_key(text: &[u8]) -> Option<[u8; 17]>
+fn uuid_id_key(text: &[u8]) -> Option<[u8; 17]>
     ensures { IfSome result (λ key. id_key text.now ≡ Some key) }
 {
     if !has_uuid_brackets(text) {
@@ -195,26 +194,22 @@ pub fn uuid_id_key(text: &[u8]) -> Option<[u8; 17]>
     Some(uuid_key(uuid))
 }
 
-/// The key of the id that a text holds, or `None` if it holds none. Only an id that isn't a UUID
-/// takes memory.
-pub fn id_key<A: Allocator>(alloc: A, text: &[u8]) -> Result<Option<IdKey<A>>, AllocError>
-    ensures key { IfOk result (λ key. key ≡ id_key text.now) }
-
-    // Memory is refused only for an id that isn't a UUID.
-    ensures memory { OnErr result (IsOtherId text.now) }
+/// The key of the id that a text holds, or `None` if it holds none.
+pub fn id_key(text: &[u8]) -> Option<IdKey<'_>>
+    ensures { result ≡ id_key text.now }
 {
     if let Some(key) = uuid_id_key(text) {
-        return Ok(Some(IdKey {
+        return Some(IdKey {
             form: Form::Uuid(key),
-        }));
+        });
     }
     let bare = bare(text);
     if !is_bare_id(bare) {
-        return Ok(None);
+        return None;
     }
     let form = match urn_uuid(bare) {
         Some(uuid) => Form::Uuid(uuid_key(uuid)),
-        None => Form::Text(Vec::from_slice(alloc, bare)?),
+        None => Form::Text(bare),
     };
-    Ok(Some(IdKey { form }))
+    Some(IdKey { form })
 }

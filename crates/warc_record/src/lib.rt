@@ -15,7 +15,7 @@ pub use checks::{ArchiveFacts, Finding, all_findings, findings, stands_in_bracke
 pub use head::{
     GoodHead, HeadTexts, NamedPair, Reference, Segment, Typed, judge_head, type_head, wanted,
 };
-pub use ids::{IdKey, bare, id_key, is_bare_id, urn_uuid, uuid_id_key};
+pub use ids::{IdKey, bare, id_key, is_bare_id, urn_uuid};
 pub use readings::SegmentNumber;
 pub use table::{FieldRule, field_rules, is_among};
 pub use types::Kind;

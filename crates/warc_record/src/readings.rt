@@ -1,12 +1,12 @@
-ghost use Rattle.std.specs.Prelude.{◌≡◌, IfOk, Some};
+ghost use Rattle.std.specs.Prelude.{◌≡◌, Some};
 ghost use Rattle.std.specs.Option.{option_copied};
 ghost use Rattle.warc_frame.specs.FieldNames.{name_text};
-ghost use Rattle.warc_record.specs.Readings.{present_value, present_bare, key_in, kind_of, number_in, is_known_profile, segment_number};
+ghost use Rattle.warc_record.specs.Readings.{present_value, present_bare, unless_empty, key_in, kind_of, number_in, is_known_profile, segment_number};
 
 use crate::ids::{IdKey, bare, id_key};
 use crate::known::ByName;
 use crate::types::Kind;
-use std::alloc::{AllocError, Allocator};
+use std::alloc::Allocator;
 use warc_field::{Value, decimal};
 use warc_frame::FieldName;
 
@@ -38,52 +38,30 @@ pub(crate) fn present<'a, A: Allocator>(
     }
 }
 
-/// A copy of the first field's value, if it isn't empty.
-pub(crate) fn text_in<A: Allocator + Copy>(
-    alloc: A,
-    fields: &ByName<'_, A>,
-    name: FieldName,
-) -> Result<Option<Value<A>>, AllocError>
-    ensures { IfOk result (λ value. value ≡ present_value (name_text name) fields.now) }
+/// The first field's value, empty if it is absent.
+#[tactic(auto, using(crate::proofs::TypedLemmas::present_or_empty))]
+pub(crate) fn text_in<'a, A: Allocator>(fields: &ByName<'a, A>, name: FieldName) -> &'a [u8]
+    ensures { unless_empty result.now ≡ present_value (name_text name) fields.now }
 {
-    match present(fields, name) {
-        Some(value) => Ok(Some(Value::from_checked(alloc, value.bytes())?)),
-        None => Ok(None),
+    match fields.first(name) {
+        Some(value) => value.bytes(),
+        None => b"",
     }
 }
 
 /// The bare text of the first field's value, if it isn't empty.
-#[tactic(auto, using(crate::proofs::ValueLemmas::bare_is_value))]
-pub(crate) fn bare_in<A: Allocator + Copy>(
-    alloc: A,
-    fields: &ByName<'_, A>,
-    name: FieldName,
-) -> Result<Option<Value<A>>, AllocError>
-    ensures { IfOk result (λ text. text ≡ present_bare (name_text name) fields.now) }
+pub(crate) fn bare_in<'a, A: Allocator>(fields: &ByName<'a, A>, name: FieldName) -> Option<&'a [u8]>
+    ensures { option_copied result ≡ present_bare (name_text name) fields.now }
 {
-    let Some(value) = present(fields, name) else {
-        return Ok(None);
-    };
-    let text = bare(value.bytes());
-    if text.is_empty() {
-        Ok(None)
-    } else {
-        Ok(Some(Value::from_checked(alloc, text)?))
-    }
+    let text = bare(present(fields, name)?.bytes());
+    if text.is_empty() { None } else { Some(text) }
 }
 
 /// The key of the id that the first field's value holds.
-pub(crate) fn key_in<A: Allocator + Copy>(
-    alloc: A,
-    fields: &ByName<'_, A>,
-    name: FieldName,
-) -> Result<Option<IdKey<A>>, AllocError>
-    ensures { IfOk result (λ key. key ≡ key_in (name_text name) fields.now) }
+pub(crate) fn key_in<'a, A: Allocator>(fields: &ByName<'a, A>, name: FieldName) -> Option<IdKey<'a>>
+    ensures { result ≡ key_in (name_text name) fields.now }
 {
-    match present(fields, name) {
-        Some(value) => id_key(alloc, value.bytes()),
-        None => Ok(None),
-    }
+    id_key(present(fields, name)?.bytes())
 }
 
 /// The kind of the record.

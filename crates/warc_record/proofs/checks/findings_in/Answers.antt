@@ -21,4 +21,4 @@ returns g c =
     c.in_ok-add_not_utf8.ensures c.in_ok-add_once-6.ensures c.in_ok-add_once-7.ensures
     (c.has_bad_digest.ensures ∙ ap (λ k. is_known k && c.args.facts.bad_digest) kind) c.has_bad_segment.ensures
     (c.lacks_content_type.ensures ∙ ap (λ k. lacks_content_type k c.args.fields.now c.args.block_len) kind)
-    c.has_unknown_profile.ensures c.has_bare_id.ensures c.in_ok-lacks_origin.ensures
+    c.has_unknown_profile.ensures c.has_bare_id.ensures c.lacks_origin.ensures
