@@ -7,10 +7,8 @@ use std::io::{self, Read, Write};
 use std::process::ExitCode;
 use suites_script::{Case, Trial, try_script};
 use warc_frame::{Head, read_head};
-use warc_quick::{
-    AloneHead, QuickHead, QuickRecord, faultless_head, judged_record, quick_head, type_alone,
-};
-use warc_record::{HeadTexts, findings, id_key, judge_head, type_head, uuid_id_key};
+use warc_quick::{QuickHead, QuickRecord, faultless_head, judged_record, quick_head};
+use warc_record::{HeadTexts, Typed, bare, findings, id_key, judge_head, type_head};
 use warc_value::Wanted;
 
 /// The text that cases speak of which give none.
@@ -73,13 +71,23 @@ fn tell_head(alloc: Global, answer: &mut Vec<u8>, text: &[u8]) -> Result<(), All
     }
 }
 
-/// Whether the reading that keeps the fields gives the same kind, id and instant.
-fn is_confirmed_alone(alloc: Global, text: &[u8], quick: &AloneHead<Global>) -> bool {
+/// Whether two heads say the same, if they name no other record and say nothing of segments.
+fn say_the_same(one: &Typed<'_>, other: &Typed<'_>) -> bool {
+    one.kind == other.kind
+        && one.id == other.id
+        && one.moment == other.moment
+        && one.digest == other.digest
+        && one.payload_digest == other.payload_digest
+        && have_same_texts(&one.texts, &other.texts)
+}
+
+/// Whether the reading that keeps the fields gives the same.
+fn is_confirmed_alone(alloc: Global, text: &[u8], quick: &Typed<'_>) -> bool {
     let Ok(head) = read_head(alloc, text) else {
         return false;
     };
-    match type_head(alloc, &head.fields) {
-        Ok(full) => full.kind == quick.kind && full.id == quick.id && full.moment == quick.moment,
+    match type_head(&head.fields) {
+        Ok(full) => say_the_same(&full, quick),
         Err(_) => false,
     }
 }
@@ -92,7 +100,7 @@ fn tell_alone(alloc: Global, answer: &mut Vec<u8>, text: &[u8]) -> Result<(), Al
     if !quick.is_alone {
         return answer.extend_from_slice(b"not alone\n");
     }
-    if !is_confirmed_alone(alloc, text, &type_alone(alloc, &quick)?) {
+    if !is_confirmed_alone(alloc, text, &quick.typed()) {
         return answer.extend_from_slice(b"read in two ways\n");
     }
     answer.extend_from_slice(b"alone")?;
@@ -166,13 +174,14 @@ fn tell_judged(alloc: Global, answer: &mut Vec<u8>, text: &[u8]) -> Result<(), A
     tell_nothing_wrong(answer, record.head.wanted())
 }
 
-/// Adds whether the key of an id is read without a search.
+/// Adds how many bytes the key of an id has, if it is the key of the id's bare text, too.
 fn tell_key(alloc: Global, answer: &mut Vec<u8>, id: &[u8]) -> Result<(), AllocError> {
-    let Some(key) = uuid_id_key(id) else {
-        return answer.extend_from_slice(b"not read without a search\n");
-    };
-    match id_key(alloc, id)? {
-        Some(same) if same.bytes() == key.as_slice() => answer.extend_from_slice(b"a key\n"),
+    match (id_key(id), id_key(bare(id))) {
+        (Some(key), Some(same)) if key == same => {
+            let told = format!(in alloc; "a key of {} bytes\n", key.kept())?;
+            answer.extend_from_slice(told.as_bytes())
+        }
+        (None, None) => answer.extend_from_slice(b"no id\n"),
         _ => answer.extend_from_slice(b"read in two ways\n"),
     }
 }

@@ -3,7 +3,6 @@
 use crate::telling::{tell, tell_line, tell_parts};
 use crate::values::{tell_moment, tell_wanted};
 use std::alloc::{AllocError, Global};
-use warc_field::Value;
 use warc_record::{IdKey, NamedPair, Reference, Segment, SegmentNumber, Typed};
 
 /// Adds a line that begins so, with this text.
@@ -11,20 +10,21 @@ fn tell_bytes(answer: &mut Vec<u8>, begin: &str, text: &[u8]) -> Result<(), Allo
     tell_parts(answer, &[begin.as_bytes(), text, b"\n"])
 }
 
-/// The same of a value, if there is one.
-pub(crate) fn tell_value(
+/// The same of a text, if there is one.
+pub(crate) fn tell_optional(
     answer: &mut Vec<u8>,
     begin: &str,
-    value: Option<&Value>,
+    text: Option<&[u8]>,
 ) -> Result<(), AllocError> {
-    match value {
-        Some(value) => tell_bytes(answer, begin, value.bytes()),
-        None => tell_bytes(answer, begin, b"none"),
-    }
+    tell_bytes(answer, begin, text.unwrap_or(b"none"))
 }
 
 /// The same of the bytes of a key, if there is one.
-fn tell_key(answer: &mut Vec<u8>, begin: &str, key: Option<&IdKey>) -> Result<(), AllocError> {
+fn tell_key(
+    answer: &mut Vec<u8>,
+    begin: &str,
+    key: Option<&IdKey<'_>>,
+) -> Result<(), AllocError> {
     match key {
         Some(key) => tell_bytes(answer, begin, key.bytes()),
         None => tell_bytes(answer, begin, b"none"),
@@ -35,29 +35,29 @@ fn tell_key(answer: &mut Vec<u8>, begin: &str, key: Option<&IdKey>) -> Result<()
 pub(crate) fn tell_typed(
     alloc: Global,
     answer: &mut Vec<u8>,
-    typed: &Typed,
+    typed: &Typed<'_>,
 ) -> Result<(), AllocError> {
     let kind = format!(in alloc; "{:?}", typed.kind)?;
     tell_bytes(answer, "kind: ", kind.as_bytes())?;
-    tell_bytes(answer, "type: ", typed.type_text.bytes())?;
-    tell_bytes(answer, "id: ", typed.id_text.bytes())?;
+    tell_bytes(answer, "type: ", typed.texts.kind)?;
+    tell_bytes(answer, "id: ", typed.texts.id)?;
     tell_key(answer, "key: ", Some(&typed.id))?;
-    tell_bytes(answer, "date: ", typed.date_text.bytes())?;
+    tell_bytes(answer, "date: ", typed.texts.date)?;
     tell(alloc, answer, &"moment: ")?;
     tell_moment(alloc, answer, Some(typed.moment))?;
-    tell_value(answer, "target: ", typed.target.as_ref())?;
+    tell_optional(answer, "target: ", typed.target())?;
     tell(alloc, answer, &"block digest: ")?;
-    tell_wanted(alloc, answer, typed.wanted)?;
-    tell_value(answer, "payload digest: ", typed.payload_digest.as_ref())?;
+    tell_wanted(alloc, answer, typed.wanted())?;
+    tell_optional(answer, "payload digest: ", typed.payload_digest())?;
     tell(alloc, answer, &"truncated: ")?;
-    tell_line(alloc, answer, &typed.truncated)
+    tell_line(alloc, answer, &typed.texts.is_truncated)
 }
 
 /// Adds the segment that a head says it is.
 pub(crate) fn tell_segment(
     alloc: Global,
     answer: &mut Vec<u8>,
-    segment: &Segment,
+    segment: &Segment<'_>,
 ) -> Result<(), AllocError> {
     let number = match segment.number {
         SegmentNumber::Absent => format!(in alloc; "number: absent")?,
@@ -76,11 +76,11 @@ pub(crate) fn tell_segment(
 fn tell_pair(
     alloc: Global,
     answer: &mut Vec<u8>,
-    pair: Option<&NamedPair>,
+    pair: Option<&NamedPair<'_>>,
 ) -> Result<(), AllocError> {
     match pair {
         Some(pair) => {
-            tell_bytes(answer, "named target: ", pair.target.bytes())?;
+            tell_bytes(answer, "named target: ", pair.target)?;
             tell(alloc, answer, &"named moment: ")?;
             tell_moment(alloc, answer, Some(pair.moment))
         }
@@ -92,7 +92,7 @@ fn tell_pair(
 pub(crate) fn tell_reference(
     alloc: Global,
     answer: &mut Vec<u8>,
-    reference: &Reference,
+    reference: &Reference<'_>,
 ) -> Result<(), AllocError> {
     tell_key(answer, "named id: ", reference.named_id.as_ref())?;
     tell_pair(alloc, answer, reference.named_pair.as_ref())?;

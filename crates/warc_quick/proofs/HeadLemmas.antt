@@ -1,5 +1,5 @@
 -- What the fields of a head say, and that it is the head at the front of a text.
-use Rattle.std.proofs.Common.{◌≡◌, ℕ, ◌+◌, ◌-◌, ◌<◌, ◌≤◌, ◌==◌, true, false, not, List, [], ◌∷◌, ◌++◌, length, length-append, take, drop, replicate, append_assoc, Option, Some, None, Ok, is_some, refl, sym, ap, ◌∙◌, arith}
+use Rattle.std.proofs.Common.{◌≡◌, ℕ, ◌+◌, ◌-◌, ◌<◌, ◌≤◌, ◌==◌, true, not, List, [], ◌∷◌, ◌++◌, length, length-append, take, drop, replicate, append_assoc, Option, Some, None, Ok, is_some, refl, sym, ap, ◌∙◌, arith}
 use Rattle.std.specs.Prelude.{unwrap_or, option_and_then}
 use Rattle.std.specs.Borrow.{Bor}
 use Rattle.std.specs.Option.{option_map_or}
@@ -27,6 +27,7 @@ use Rattle.warc_record.specs.Heads.{is_date}
 use Rattle.warc_record.specs.Ids.{bare_text, is_id}
 use Rattle.warc_record.specs.Readings.{bare_present, no_segment, nothing_named, reference_of, segment_reading, unless_empty}
 use Rattle.warc_record.proofs.GoodLemmas.{good_heads_have_no_fault}
+use Rattle.warc_record.proofs.TypedLemmas.{present_or_empty, some_bytes, wanted_unless_empty}
 use Rattle.warc_quick.specs.declared.head.QuickHead.{QuickHead}
 use Rattle.warc_frame.specs.FieldNames.{name_text}
 use Rattle.warc_frame.specs.declared.field_name.FieldName.{FieldName}
@@ -50,9 +51,6 @@ nothing_bare : bare_text [] ≡ []
 unfolding bare_text trimmed
 nothing_bare = refl
 
-pub some_bytes : (b : ℕ) (bs : List ℕ) → (length (b ∷ bs) == 0) ≡ false
-some_bytes b bs = grind arith
-
 -- an empty text counts as none
 or_nothing : (text : List ℕ) → unwrap_or (unless_empty text) [] ≡ text
 or_nothing [] = refl
@@ -65,17 +63,12 @@ target_is (Some (b ∷ bs)) = rw (some_bytes b bs) (or_nothing (bare_text (b ∷
 
 digest_is : (value : Option (List ℕ)) → option_map_or wanted_digest (option_and_then unless_empty value) Unchecked ≡ wanted_digest (unwrap_or value [])
 digest_is None = refl
-digest_is (Some []) = refl
-digest_is (Some (b ∷ bs)) = rw (some_bytes b bs) refl
+digest_is (Some text) = wanted_unless_empty text
 
 mark_is : (value : Option (List ℕ)) → is_some (option_and_then unless_empty value) ≡ not (length (unwrap_or value []) == 0)
 mark_is None = refl
 mark_is (Some []) = refl
 mark_is (Some (b ∷ bs)) = rw (some_bytes b bs) refl
-
-payload_is : (value : Option (List ℕ)) → option_and_then unless_empty value ≡ unless_empty (unwrap_or value [])
-payload_is None = refl
-payload_is (Some text) = refl
 
 -- what fields say where those of a few names are absent
 pub nothing_is_named : (fields : List Pair) → first_value warc_refers_to fields ≡ None → first_value warc_refers_to_target_uri fields ≡ None
@@ -119,7 +112,7 @@ module _ (fields : List Pair) (found : QuickHead) (size : Bor (List ℕ)) (are :
     };
     digest = sym digest;
     wanted = digest_is (first_value warc_block_digest fields) ∙ ap wanted_digest (sym digest);
-    payload = payload_is (first_value warc_payload_digest fields) ∙ ap unless_empty (sym payload);
+    payload = sym (present_or_empty (first_value warc_payload_digest fields)) ∙ ap unless_empty (sym payload);
     alone = alone;
     faultless = faultless;
   }

@@ -5,7 +5,7 @@ mod RunLemmas
 mod ValueLemmas
 mod HeadLemmas
 mod PlainLemmas
-mod AloneLemmas
+mod TypedLemmas
 mod AsciiLemmas
 mod RuledLemmas
 mod FaultlessLemmas

@@ -23,6 +23,7 @@ use Rattle.warc_frame.specs.declared.field_name.FieldName.TheVariants.{Profile, 
 use Rattle.warc_frame.specs.declared.field_name.FieldName.TheVariants.{SegmentOriginId, SegmentTotalLength}
 use Rattle.warc_frame.specs.declared.field_name.FieldName.TheVariants.{BlockDigest, PayloadDigest, Truncated}
 use Rattle.warc_frame.specs.declared.field_name.FieldName.TheVariants.{IdentifiedPayloadType, ContentType}
+use Rattle.warc_record.proofs.TypedLemmas.{some_bytes}
 use Rattle.warc_quick.specs.Fronts.{AreValues, IsValueOf}
 use Rattle.warc_quick.specs.Names.{may_repeat}
 use Rattle.warc_quick.specs.Ruled.{IsRuleOf}
@@ -58,9 +59,6 @@ value_stands target value = if target then is_some (bare_present value) else is_
 nothing_bare : bare_text [] ≡ []
 unfolding bare_text trimmed
 nothing_bare = refl
-
-some_bytes : (b : ℕ) (bs : List ℕ) → (length (b ∷ bs) == 0) ≡ false
-some_bytes b bs = grind arith
 
 some_text : (text : List ℕ) → is_some (unless_empty text) ≡ not (length text == 0)
 some_text [] = refl

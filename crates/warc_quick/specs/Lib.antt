@@ -1,5 +1,4 @@
 pub mod Quick
-pub mod Alone
 pub mod Names
 pub mod Places
 pub mod Fronts

@@ -1,6 +1,6 @@
 -- A head that is read in place: the good head at the front of a text, and what it says (ISO 28500:2017, 4 and 5). Which
 -- heads are read so is this project's own choice.
-use Rattle.std.specs.Prelude.{◌≡◌, ℕ, ◌+◌, ◌≤◌, true, false, List, [], length, take, None, Ok, unwrap_or}
+use Rattle.std.specs.Prelude.{◌≡◌, ℕ, ◌+◌, ◌≤◌, true, List, [], length, take, None, Ok, unwrap_or}
 use Rattle.warc_field.specs.Area.{Pair, first_value}
 use Rattle.warc_field.specs.Text.{AreFields}
 use Rattle.warc_value.specs.Digests.{wanted_digest}

@@ -8,7 +8,8 @@ ghost use Rattle.warc_frame.specs.declared.version.Version.{Version};
 ghost use Rattle.warc_frame.specs.VersionLine.{version_line};
 ghost use Rattle.warc_record.specs.Heads.{is_date};
 ghost use Rattle.warc_record.specs.Ids.{is_id};
-ghost use Rattle.warc_record.specs.Readings.{no_segment, nothing_named, reference_of, segment_reading};
+ghost use Rattle.warc_record.specs.Readings.{no_segment, nothing_named, reading_of, reference_of, segment_reading};
+ghost use Rattle.warc_record.specs.Seen.{said};
 ghost use Rattle.warc_frame.specs.Record.{block_number, max_block};
 ghost use Rattle.warc_quick.specs.Fronts.{AreValues, BeginsWithFields, IsHeadWith};
 ghost use Rattle.warc_quick.specs.Quick.{Says, IsQuickHead, max_quick_head};
@@ -19,7 +20,9 @@ use crate::runs::{LANES, holds_no_id_end};
 use crate::values::Values;
 use warc_field::{decimal, is_name};
 use warc_frame::{FieldName, MAX_BLOCK, MAX_HEAD, Version};
-use warc_record::{HeadTexts, bare, is_bare_id};
+use warc_record::{
+    HeadTexts, Kind, Reference, Segment, SegmentNumber, Typed, bare, id_key, is_bare_id,
+};
 use warc_value::{Wanted, read_date};
 
 /// A head of at most this many bytes is within the limit when it is written canonically, too.
@@ -51,12 +54,45 @@ pub struct QuickHead<'a> {
     pub is_faultless: bool,
 }
 
-impl QuickHead<'_> {
+impl<'a> QuickHead<'a> {
     /// The digest that it asks for of its block.
     pub fn wanted(&self) -> Wanted
         ensures { result ≡ wanted_digest self.now.digest.now }
     {
         Wanted::of(self.digest)
+    }
+
+    /// What it says, if it names no other record and says nothing of segments.
+    #[tactic(auto, using(crate::proofs::TypedLemmas::id_found))]
+    pub fn typed(&self) -> Typed<'a>
+        requires alone { self.now.is_alone ≡ true }
+        requires says { (fields : List Pair) × Says fields self.now }
+        ensures { (fields : List Pair) → Says fields self.now → said result ≡ reading_of fields }
+    {
+        let Some(id) = id_key(self.texts.id) else {
+            unreachable!()
+        };
+        let Some(moment) = read_date(self.texts.date) else {
+            unreachable!()
+        };
+        Typed {
+            texts: self.texts,
+            kind: Kind::named(self.texts.kind),
+            id,
+            moment,
+            reference: Reference {
+                known_profile: false,
+                named_id: None,
+                named_pair: None,
+            },
+            segment: Segment {
+                number: SegmentNumber::Absent,
+                origin: None,
+                total: None,
+            },
+            digest: self.digest,
+            payload_digest: self.payload_digest,
+        }
     }
 }
 

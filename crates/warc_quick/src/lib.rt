@@ -1,12 +1,10 @@
 //! The head of a WARC record, read in place, line by line. Reading takes no memory, and copies no name and no value.
-//! Only `type_alone` may ask for memory, for an id that isn't a UUID.
 //!
 //! Most heads are plain: each field is on a line of its own, and each name of the standard is spelled as there and
 //! occurs at most once, if it may not repeat. These are read here. Any other head is left to `warc_frame` and
 //! `warc_record`.
 #![tactic(auto)]
 
-mod alone;
 mod canonical;
 mod dates;
 mod faultless;
@@ -17,7 +15,6 @@ mod plain;
 mod runs;
 mod values;
 
-pub use alone::{AloneHead, type_alone};
 pub use canonical::is_canonical_head;
 pub use faultless::faultless_head;
 pub use head::{QuickHead, quick_head};

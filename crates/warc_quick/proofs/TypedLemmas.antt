@@ -1,30 +1,19 @@
 -- What the texts of a good head are, and that they are all that it says if it is alone.
-use Rattle.std.proofs.Common.{◌≡◌, ℕ, Bool, true, false, List, [], ◌∷◌, cond, find, Option, Some, None, option_map, refl, sym, ap, ◌∙◌}
-use Rattle.std.specs.Prelude.{unwrap_or, option_and_then}
+use Rattle.std.proofs.Common.{◌≡◌, ℕ, true, List, [], Option, Some, refl, sym, ap, ◌∙◌}
+use Rattle.std.specs.Prelude.{unwrap_or}
 use Rattle.warc_field.specs.Area.{Pair, first_value}
-use Rattle.warc_field.specs.Text.{AreFields, is_value, same}
+use Rattle.warc_field.specs.Text.{same}
 use Rattle.warc_value.specs.Dates.{instant_of}
-use Rattle.warc_frame.specs.Names.{warc_type, warc_record_id, warc_date, warc_target_uri, warc_payload_digest}
-use Rattle.warc_record.specs.Ids.{bare_text, id_key}
+use Rattle.warc_frame.specs.Names.{warc_target_uri}
+use Rattle.warc_record.specs.Ids.{id_key}
 use Rattle.warc_record.specs.Kinds.{kind_named}
-use Rattle.warc_record.specs.Readings.{Reading, bare_present, no_segment, nothing_named, reading_of, unless_empty}
+use Rattle.warc_record.specs.Readings.{Reading, no_segment, nothing_named, reading_of, unless_empty}
 use Rattle.warc_record.specs.Good.{SaysAll}
 use Rattle.warc_record.proofs.GoodLemmas.{good_heads_read}
-use Rattle.warc_record.proofs.LawLemmas.{bare_texts_are_values}
+use Rattle.warc_record.proofs.TypedLemmas.{bare_or_empty}
 use Rattle.warc_value.specs.Digests.{wanted_digest}
 use Rattle.warc_quick.specs.declared.head.QuickHead.{QuickHead}
 use Rattle.warc_quick.specs.Quick.{Says}
-use Rattle.warc_quick.proofs.HeadLemmas.{some_bytes, target_is}
-
--- an empty text is absent
-absent_or : (text : List ℕ) → unless_empty (unwrap_or (unless_empty text) []) ≡ unless_empty text
-absent_or [] = refl
-absent_or (b ∷ bs) = rw (some_bytes b bs) (rw (some_bytes b bs) refl)
-
-present_again : (found : Option (List ℕ)) → bare_present found ≡ unless_empty (unwrap_or (bare_present found) [])
-present_again None = refl
-present_again (Some []) = refl
-present_again (Some (b ∷ bs)) = rw (some_bytes b bs) (sym (absent_or (bare_text (b ∷ bs))))
 
 -- two readings that say the same are the same
 same_reading : (a b : Reading) → a.kind ≡ b.kind → a.type_text ≡ b.type_text → a.id_text ≡ b.id_text → a.date_text ≡ b.date_text
@@ -84,6 +73,6 @@ module _ (fields : List Pair) (found : QuickHead) (says : Says fields found) whe
       (type_text ∙ ap (λ t. Some t) kind_is ∙ sym read.type_is) (id_text ∙ ap (λ t. Some t) id_is ∙ sym read.id_text_is)
       (date_text ∙ ap (λ t. Some t) date_is ∙ sym read.date_text_is) (id ∙ id_found ∙ sym read.id_is)
       (instant ∙ date_found ∙ sym read.instant_is)
-      (target ∙ sym (present_again (first_value warc_target_uri fields) ∙ ap unless_empty (sym says.texts.target)))
+      (target ∙ ap unless_empty says.texts.target ∙ bare_or_empty (first_value warc_target_uri fields))
       (reference ∙ sym (says.alone alone).reference) (segment ∙ sym (says.alone alone).segment) (wanted ∙ sym says.wanted)
       (payload ∙ sym says.payload) (mark ∙ says.texts.truncated)
