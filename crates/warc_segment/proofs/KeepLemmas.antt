@@ -1,20 +1,18 @@
 -- What is kept of one record more, and of the first records.
-use Rattle.std.proofs.Common.{◌≡◌, inl, inr, ℕ, zero, suc, ◌+◌, ◌<◌, ◌≤◌, Bool, true, false, List, [], ◌∷◌, ◌++◌, length, get_or, take, cond, Option, Some, None, refl, sym, ◌∙◌, ap, subst, arith, length-append}
+use Rattle.std.proofs.Common.{◌≡◌, inl, inr, ℕ, zero, suc, ◌+◌, ◌<◌, ◌≤◌, Bool, true, false, List, [], ◌∷◌, ◌++◌, length, get_or, take, Option, Some, None, refl, sym, ◌∙◌, ap, subst, arith, length-append}
 use Rattle.std.specs.Prelude.{All, AllPairs, filter, nat_lt, sum_by, count_by}
 use Rattle.std.specs.List.{filter_map, enumerate_from, cons_option}
 use Rattle.std.specs.Option.{option_to_list}
 use Rattle.std.proofs.lemmas.Bool.{cases_lt}
 use Rattle.std.proofs.lemmas.Bool.Decides.{nat_tests}
-use Rattle.std.proofs.lemmas.List.{append-nil, length-take-le, take_all}
+use Rattle.std.proofs.lemmas.List.{length-take-le, take_all}
 use Rattle.std.proofs.lemmas.List.Elements.{filter_map-append, All-cons, All-head, All-tail, All-filter, All-weaker, filter_passes}
 use Rattle.std.proofs.lemmas.List.Sums.{sum_by-cons, length-filter, count_by-le-length}
 use Rattle.warc_order.specs.Entries.{Entry}
 use Rattle.warc_record.specs.Kinds.{is_continuation}
-use Rattle.warc_record.specs.Readings.{SegmentReading, no_segment}
-use Rattle.warc_record.specs.declared.readings.SegmentNumber.{SegmentNumber}
 use Rattle.warc_segment.specs.declared.held.TotalAndPlace.{TotalAndPlace}
 use Rattle.warc_segment.specs.Joined.{PlacedRecord}
-use Rattle.warc_segment.specs.Kept.{KeptMember, Kept, kept_by, kept_of, kept_in}
+use Rattle.warc_segment.specs.Kept.{KeptMember, Kept, kept_of, kept_in}
 use Rattle.warc_segment.specs.Held.{kept_from, side_by_side, AreHeld, held_in}
 use Rattle.warc_segment.proofs.LeastLemmas.{filter_hit, filter_miss}
 use Rattle.warc_segment.proofs.KeptLemmas.{kept_place}
@@ -58,18 +56,6 @@ kept_more count es es' fs fs' all r was added =
     ∙ (ap (λ (k : ℕ). filter_map kept_of (enumerate_from 0 all) ++ option_to_list (kept_of (k, r))) n
     ∙ sym (members_more all r))) in
     λ i. record { count = len i; members = mem i }
-
--- a record that says nothing of segments adds nothing to what is kept
-nothing_kept_by : (b : Bool) (p : ℕ) (r : PlacedRecord) (origin : Option (List ℕ)) (number : SegmentNumber) → origin ≡ None
-    → cond b (kept_by p r origin number) None ≡ None
-nothing_kept_by true p r origin number none = ap (λ (o : Option (List ℕ)). kept_by p r o number) none
-nothing_kept_by false p r origin number none = refl
-
-pub nothing_more : (p : ℕ) (members : List KeptMember) (r : PlacedRecord) → r.head.segment ≡ no_segment
-    → members ≡ members ++ option_to_list (kept_of (p, r))
-nothing_more p members r none =
-    sym (ap (λ (o : Option KeptMember). members ++ option_to_list o)
-    (nothing_kept_by (is_continuation r.head.kind) p r _ _ (ap (λ (s : SegmentReading). s.origin) none)) ∙ append-nil members)
 
 -- ---- the first records
 

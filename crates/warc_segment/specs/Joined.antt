@@ -39,6 +39,13 @@ pub record PlacedRecord : Type 0 where
   pub head : Reading
   pub place : Place
 
+-- the record whose head says this, and whose block begins there and has this length
+abbrev pub placed_with : Reading → ℕ → ℕ → PlacedRecord
+placed_with head start len = record {
+  head = head;
+  place = record { start = start; len = len; wanted = head.wanted; truncated = head.truncated };
+}
+
 abbrev pub piece_placed : PlacedRecord → Piece
 piece_placed r = piece_of r.head r.place.len
 

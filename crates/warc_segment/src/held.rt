@@ -3,7 +3,7 @@ ghost use Rattle.std.specs.Prelude.{◌≡◌, ℕ, ◌+◌, ◌<◌, [], ◌∷
 ghost use Rattle.std.specs.Option.{option_to_list};
 ghost use Rattle.warc_record.specs.Seen.{said};
 ghost use Rattle.warc_order.specs.Entries.{entry_at};
-ghost use Rattle.warc_segment.specs.declared.place.Place.{Place as GhostPlace};
+ghost use Rattle.warc_segment.specs.Joined.{placed_with};
 ghost use Rattle.warc_segment.specs.Kept.{kept_of};
 ghost use Rattle.warc_segment.specs.Held.{side_by_side, AreHeld, IsWholeSeries, continuation_of, kept_from, positions_of};
 
@@ -30,15 +30,15 @@ struct Membership<'a> {
 }
 
 /// The series that a record is in, if it is in one.
-fn find_membership<A: Allocator>(typed: &Typed<A>) -> Option<Membership<'_>>
+fn find_membership<'t>(typed: &'t Typed<'_>) -> Option<Membership<'t>>
     ensures numbered { IfSome result (λ m. 2 ≤ m.number) }
-    ensures kept { (p : ℕ) (place : GhostPlace) → kept_of (p, record { head = said typed.now; place = place })
+    ensures kept { (p start len : ℕ) → kept_of (p, placed_with (said typed.now) start len)
         ≡ option_map (λ m. record {
           origin = m.origin.now;
           position = p;
           number = m.number;
           total = typed.now.segment.total;
-          place = place;
+          place = (placed_with (said typed.now) start len).place;
         }) result }
 {
     match typed.kind {
@@ -57,22 +57,35 @@ fn find_membership<A: Allocator>(typed: &Typed<A>) -> Option<Membership<'_>>
     }
 }
 
-/// Adds what is kept of the record at a position.
+/// The place of the block of a record whose head says this.
+fn place_of(typed: &Typed<'_>, start: u64, len: u64) -> Place
+    ensures { result ≡ (placed_with (said typed.now) start len).place }
+{
+    Place {
+        start,
+        len,
+        wanted: typed.wanted(),
+        truncated: typed.texts.is_truncated,
+    }
+}
+
+/// Adds what is kept of the record at a position, whose block begins at `start` and has `len` bytes.
 pub(crate) fn put<A: Allocator + Copy>(
     order: &mut Order<A>,
     facts: &mut Vec<TotalAndPlace, A>,
     position: usize,
-    typed: &Typed<A>,
-    place: Place,
+    typed: &Typed<'_>,
+    start: u64,
+    len: u64,
 ) -> Result<(), AllocError>
     requires { AreHeld position order.old facts.old.items }
     ensures held { OnOk result (AreHeld (position + 1) order.new facts.new.items) }
     ensures ok { OnOk result (side_by_side order.new facts.new.items
         ≡ side_by_side order.old facts.old.items
-        ++ option_to_list (kept_of (position, record { head = said typed.now; place = place }))) }
+        ++ option_to_list (kept_of (position, placed_with (said typed.now) start len))) }
     ensures err_order { OnErr result (order.new ≡ order.old) }
     ensures err_facts { OnErr result (facts.new.items ≡ facts.old.items) }
-    ensures needed { OnErr result (IsSome (kept_of (position, record { head = said typed.now; place = place }))) }
+    ensures needed { OnErr result (IsSome (kept_of (position, placed_with (said typed.now) start len))) }
 {
     let Some(member) = find_membership(typed) else {
         return Ok(());
@@ -85,7 +98,7 @@ pub(crate) fn put<A: Allocator + Copy>(
     order.add(member.origin, mark, position)?;
     facts.push_reserved(TotalAndPlace {
         total: typed.segment.total,
-        place,
+        place: place_of(typed, start, len),
     });
     Ok(())
 }

@@ -1,8 +1,7 @@
 ghost use Rattle.std.specs.Prelude.{◌≡◌, ◌⊎◌, ◌+◌, ◌≤◌, ◌^◌, ℕ, ◌++◌, [], ◌∷◌, List, length, take, sum_by, map, Option, OnOk, OnErr, IfOk, IsSome, MatchOption, false};
-ghost use Rattle.warc_record.specs.Readings.{no_segment};
 ghost use Rattle.warc_record.specs.Seen.{said};
 ghost use Rattle.warc_segment.specs.Series.{AreMembersAt, IsMemberAt, series_of};
-ghost use Rattle.warc_segment.specs.Joined.{PlacedRecord, joined_places, piece_placed};
+ghost use Rattle.warc_segment.specs.Joined.{PlacedRecord, joined_places, piece_placed, placed_with};
 ghost use Rattle.warc_segment.specs.Kept.{kept_in, kept_of};
 ghost use Rattle.warc_segment.specs.Held.{side_by_side, AreHeld, IsSeries};
 ghost use Rattle.warc_segment.specs.Joining.{IsJoin};
@@ -94,31 +93,28 @@ impl<A: Allocator + Copy> Parts<A> {
         }
     }
 
-    /// Adds the next record of the archive, of any kind. Only a continuation with an origin and a number of at
-    /// least 2 takes memory; if that is refused, nothing changes. One that comes after 2^32 records is refused too.
-    pub fn add(&mut self, typed: &Typed<A>, place: Place) -> Result<(), AllocError>
+    /// Adds the next record of the archive, of any kind, whose block begins at `start` and has `len` bytes. Only of a
+    /// continuation with an origin and a number of at least 2 is the digest decoded, and only that takes memory; if it
+    /// is refused, nothing changes. One that comes after 2^32 records is refused too.
+    pub fn add(&mut self, typed: &Typed<'_>, start: u64, len: u64) -> Result<(), AllocError>
         ensures ok { (all : List PlacedRecord) → self.old ≡ kept_in all
-            → OnOk result (self.new ≡ kept_in (all ++ record { head = said typed.now; place = place } ∷ [])) }
+            → OnOk result (self.new ≡ kept_in (all ++ placed_with (said typed.now) start len ∷ [])) }
         ensures err { OnErr result (self.new ≡ self.old) }
 
         // A record that is in no series is refused only if 2^64 - 1 records were added before.
-        ensures needed { let added : PlacedRecord = record { head = said typed.now; place = place } in
-            OnErr result (IsSome (kept_of (self.old.count, added)) ⊎ (2 ^ 64 ≤ self.old.count + 1)) }
+        ensures needed { OnErr result (IsSome (kept_of (self.old.count, placed_with (said typed.now) start len))
+            ⊎ (2 ^ 64 ≤ self.old.count + 1)) }
     {
         let count = one_more(self.count)?;
-        put(&mut self.order, &mut self.facts, self.count, typed, place)?;
+        put(
+            &mut self.order,
+            &mut self.facts,
+            self.count,
+            typed,
+            start,
+            len,
+        )?;
         self.count = count;
-        Ok(())
-    }
-
-    /// Adds the next record of the archive, whose head says nothing of segments. It takes no memory. It is refused only
-    /// if 2^64 - 1 records were added before; then nothing changes.
-    pub fn add_unsegmented(&mut self) -> Result<(), AllocError>
-        ensures ok { (all : List PlacedRecord) (added : PlacedRecord) → self.old ≡ kept_in all
-            → added.head.segment ≡ no_segment → OnOk result (self.new ≡ kept_in (all ++ added ∷ [])) }
-        ensures err { OnErr result ((self.new ≡ self.old) × (2 ^ 64 ≤ self.old.count + 1)) }
-    {
-        self.count = one_more(self.count)?;
         Ok(())
     }
 
@@ -144,7 +140,7 @@ impl<A: Allocator + Copy> Parts<A> {
     /// The places in the source whose bytes, one after another, are the joined block of a record: its own, and those
     /// of its segments in the order of their numbers. A record without a number has no segments. `Gap`: the segments
     /// don't join, for the first reason that fits. Time and memory grow only with the number of segments.
-    pub fn join(&self, typed: &Typed<A>, place: Place) -> Result<Vec<Place, A>, JoinFault>
+    pub fn join(&self, typed: &Typed<'_>, place: Place) -> Result<Vec<Place, A>, JoinFault>
         ensures { (all : List PlacedRecord) → self.now ≡ kept_in all
             → IsJoin result (joined_places all (record { head = said typed.now; place = place })) }
     {
@@ -169,7 +165,7 @@ impl<A: Allocator + Copy> Parts<A> {
     }
 
     /// The position of one member of the series of a head's id, `None` if the series has none. It takes no memory.
-    pub fn segment_of(&self, typed: &Typed<A>) -> Option<usize>
+    pub fn segment_of(&self, typed: &Typed<'_>) -> Option<usize>
         ensures { (all : List PlacedRecord) → self.now ≡ kept_in all → MatchOption result
             (series_of (said typed.now).id (map piece_placed all) ≡ [])
             (IsMemberAt (series_of (said typed.now).id (map piece_placed all))) }
@@ -185,7 +181,7 @@ impl<A: Allocator + Copy> Parts<A> {
 
     /// The positions of all members of the series of a head's id, each once: also of those that don't join, and
     /// whatever number the head has. Time and memory grow only with the number of members.
-    pub fn segments_of(&self, typed: &Typed<A>) -> Result<Vec<usize, A>, AllocError>
+    pub fn segments_of(&self, typed: &Typed<'_>) -> Result<Vec<usize, A>, AllocError>
         ensures { (all : List PlacedRecord) → self.now ≡ kept_in all → IfOk result (λ positions.
             AreMembersAt (series_of (said typed.now).id (map piece_placed all)) positions.items) }
     {
