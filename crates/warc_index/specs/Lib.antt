@@ -1,7 +1,6 @@
 pub mod UnfoundText
 pub mod Walks
 pub mod Captures
-pub mod Alone
 pub mod Referents
 pub mod Links
 pub mod Linked

@@ -24,7 +24,7 @@ pub(crate) struct Kept<'a> {
 }
 
 /// What is kept of a record whose head says this.
-pub(crate) fn kept_of<A: Allocator>(typed: &Typed<A>) -> Kept<'_>
+pub(crate) fn kept_of<'t>(typed: &'t Typed<'_>) -> Kept<'t>
     ensures { IsPutOf (indexed_of (said typed.now)) result }
 {
     Kept {

@@ -7,7 +7,6 @@ ghost use Rattle.std.specs.Option.{option_to_list};
 ghost use Rattle.warc_value.specs.Dates.{Instant};
 ghost use Rattle.warc_record.specs.Seen.{said};
 ghost use Rattle.warc_index.specs.declared.unfound.Unfound.TheVariants.{NoReference, Unresolved};
-ghost use Rattle.warc_index.specs.Alone.{alone_seen};
 ghost use Rattle.warc_index.specs.Kept.{IsPutOf};
 ghost use Rattle.warc_index.specs.Captures.{AreCapturesOf, Indexed, indexed_of, is_capture, chosen_of};
 ghost use Rattle.warc_index.specs.Referents.{by_key, by_pair, by_payload, first_with, is_revisit_at};
@@ -18,7 +17,6 @@ ghost use Rattle.warc_index.specs.Orders.{IsIndexOf, IsBelow, id_entry, capture_
 ghost use Rattle.warc_index.specs.Orders.{step_of};
 
 use crate::adding::{Kept, add_record, kept_of, truncate_all};
-use crate::alone::AloneRecord;
 use crate::key::OTHERS;
 use crate::link::{FIRST, Link, Links, Role};
 use crate::linked::mark_at;
@@ -90,21 +88,12 @@ impl<O: EntryList, A: Allocator + Copy> RecordIndex<O, A> {
     }
 
     /// Adds the next record. `Err`: no memory for it, and for putting it in order if it waits; then nothing changes.
-    pub fn add<B: Allocator>(&mut self, typed: &Typed<B>) -> Result<(), AllocError>
+    pub fn add(&mut self, typed: &Typed<'_>) -> Result<(), AllocError>
         ensures ok { (all : List Indexed) → IsIndexOf all self.old →
             OnOk result (IsIndexOf (all ++ indexed_of (said typed.now) ∷ []) self.new) }
         ensures err { OnErr result (self.new ≡ self.old) }
     {
         self.put(&kept_of(typed))
-    }
-
-    /// Adds the next record, which names no other. `Err`: as of `add`.
-    pub fn add_alone(&mut self, plain: &AloneRecord<'_>) -> Result<(), AllocError>
-        ensures ok { (all : List Indexed) → IsIndexOf all self.old →
-            OnOk result (IsIndexOf (all ++ alone_seen plain.now ∷ []) self.new) }
-        ensures err { OnErr result (self.new ≡ self.old) }
-    {
-        self.put(&plain.kept())
     }
 
     /// Keeps the first `count` records. It takes no memory.
@@ -194,7 +183,7 @@ impl<A: Allocator + Copy> RecordIndex<Order<A>, A> {
     }
 
     /// The first capture with an id, by its position.
-    pub fn by_key<B: Allocator>(&self, key: &IdKey<B>) -> Option<usize>
+    pub fn by_key(&self, key: &IdKey<'_>) -> Option<usize>
         ensures { (all : List Indexed) → IsIndexOf all self.now → result ≡ by_key all key.now }
     {
         capture_with(&self.by_id, key.bytes())
@@ -208,7 +197,7 @@ impl<A: Allocator + Copy> RecordIndex<Order<A>, A> {
     }
 
     /// The first record of any kind with an id, by its position.
-    pub fn first_with<B: Allocator>(&self, key: &IdKey<B>) -> Option<usize>
+    pub fn first_with(&self, key: &IdKey<'_>) -> Option<usize>
         ensures { (all : List Indexed) → IsIndexOf all self.now → result ≡ first_with all key.now }
     {
         match self.by_id.first_from(key.bytes(), FIRST) {

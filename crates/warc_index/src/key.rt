@@ -8,7 +8,6 @@ ghost use Rattle.warc_index.specs.Orders.{kind_mark, capture_entry};
 
 use crate::link::FIRST;
 use crate::linked::mark_at;
-use std::alloc::Allocator;
 use warc_order::Mark;
 use warc_record::{Kind, Typed};
 
@@ -23,21 +22,21 @@ pub(crate) struct Key<'a> {
 }
 
 /// Whether a record of this kind can answer: a response, a resource or a revisit.
-pub(crate) fn is_capture(kind: Kind) -> bool
+fn is_capture(kind: Kind) -> bool
     ensures { result ≡ is_capture kind }
 {
     matches!(kind, Kind::Response | Kind::Resource | Kind::Revisit)
 }
 
 /// The mark of a record of this kind in the order by id: captures come first.
-pub(crate) fn kind_mark(kind: Kind) -> Mark
+fn kind_mark(kind: Kind) -> Mark
     ensures { result ≡ kind_mark kind }
 {
     if is_capture(kind) { FIRST } else { OTHERS }
 }
 
 /// The entry of a record in the order by id.
-pub(crate) fn id_key<A: Allocator>(typed: &Typed<A>) -> Key<'_>
+pub(crate) fn id_key<'t>(typed: &'t Typed<'_>) -> Key<'t>
     ensures text { result.text.now ≡ typed.now.id }
     ensures mark { result.mark ≡ kind_mark typed.now.kind }
 {
@@ -48,18 +47,16 @@ pub(crate) fn id_key<A: Allocator>(typed: &Typed<A>) -> Key<'_>
 }
 
 /// The entry of a record in the order by target and instant, if it is a capture with a target.
-pub(crate) fn capture_key<A: Allocator>(typed: &Typed<A>) -> Option<Key<'_>>
+pub(crate) fn capture_key<'a>(typed: &Typed<'a>) -> Option<Key<'a>>
     ensures { (p : ℕ) → capture_entry p (indexed_of (said typed.now))
         ≡ option_map (λ k. entry_of k.text.now k.mark p) result }
 {
-    if !is_capture(typed.kind) {
+    let target = typed.texts.target;
+    if !is_capture(typed.kind) || target.is_empty() {
         return None;
     }
-    match &typed.target {
-        Some(target) => Some(Key {
-            text: target.bytes(),
-            mark: mark_at(&typed.moment),
-        }),
-        None => None,
-    }
+    Some(Key {
+        text: target,
+        mark: mark_at(&typed.moment),
+    })
 }

@@ -2,7 +2,6 @@
 #![tactic(auto)]
 
 mod adding;
-mod alone;
 mod index;
 mod key;
 pub mod laws;
@@ -11,6 +10,5 @@ mod linked;
 mod lookup;
 mod unfound;
 
-pub use alone::AloneRecord;
 pub use index::{Index, RecordIndex, UnorderedIndex};
 pub use unfound::Unfound;

@@ -1,6 +1,7 @@
 //! What is kept of a record for the chain of referents.
 
 ghost use Rattle.std.specs.Prelude.{◌≡◌, [], Some};
+ghost use Rattle.warc_record.specs.Readings.{unless_empty};
 ghost use Rattle.warc_record.specs.Seen.{said};
 ghost use Rattle.warc_index.specs.Captures.{indexed_of};
 ghost use Rattle.warc_index.specs.Links.{first_mark, link, link_seen};
@@ -8,7 +9,6 @@ ghost use Rattle.warc_index.specs.declared.link.Role.TheVariants.{Digested};
 ghost use Rattle.warc_index.specs.Linked.{instant_mark, payload_link, unnamed_link, revisit_link, link_of};
 
 use crate::link::{FIRST, Link, Role, bare};
-use std::alloc::Allocator;
 use warc_order::Mark;
 use warc_record::{Kind, Typed};
 use warc_value::Moment;
@@ -24,7 +24,7 @@ pub(crate) fn mark_at(moment: &Moment) -> Mark
 }
 
 /// What is kept of a response or a resource that states this payload digest.
-pub(crate) fn digested(digest: &[u8]) -> Link<'_>
+fn digested(digest: &[u8]) -> Link<'_>
     ensures { link_seen result ≡ link Digested digest.now [] first_mark }
 {
     Link {
@@ -36,32 +36,34 @@ pub(crate) fn digested(digest: &[u8]) -> Link<'_>
 }
 
 /// What is kept of a response or a resource.
-fn payload_link<A: Allocator>(typed: &Typed<A>) -> Link<'_>
-    ensures { link_seen result ≡ payload_link typed.now.payload_digest }
+fn payload_link<'a>(typed: &Typed<'a>) -> Link<'a>
+    ensures { link_seen result ≡ payload_link (unless_empty typed.now.payload_digest.now) }
 {
-    match &typed.payload_digest {
-        Some(digest) => digested(digest.bytes()),
-        None => bare(Role::Payload),
+    if typed.payload_digest.is_empty() {
+        bare(Role::Payload)
+    } else {
+        digested(typed.payload_digest)
     }
 }
 
 /// What is kept of a revisit that names nothing.
-fn unnamed_link<A: Allocator>(typed: &Typed<A>) -> Link<'_>
-    ensures { link_seen result ≡ unnamed_link typed.now.payload_digest (Some typed.now.moment) }
+fn unnamed_link<'a>(typed: &Typed<'a>) -> Link<'a>
+    ensures { link_seen result
+        ≡ unnamed_link (unless_empty typed.now.payload_digest.now) (Some typed.now.moment) }
 {
-    match &typed.payload_digest {
-        Some(digest) => Link {
-            role: Role::NamesNothing,
-            first: digest.bytes(),
-            second: &[],
-            mark: mark_at(&typed.moment),
-        },
-        None => bare(Role::LeadsNowhere),
+    if typed.payload_digest.is_empty() {
+        return bare(Role::LeadsNowhere);
+    }
+    Link {
+        role: Role::NamesNothing,
+        first: typed.payload_digest,
+        second: &[],
+        mark: mark_at(&typed.moment),
     }
 }
 
 /// What is kept of a revisit.
-fn revisit_link<A: Allocator>(typed: &Typed<A>) -> Link<'_>
+fn revisit_link<'t>(typed: &'t Typed<'_>) -> Link<'t>
     ensures { link_seen result ≡ revisit_link typed.now.reference.known_profile (indexed_of (said typed.now)) }
 {
     let reference = &typed.reference;
@@ -79,20 +81,20 @@ fn revisit_link<A: Allocator>(typed: &Typed<A>) -> Link<'_>
         (None, Some(pair)) => Link {
             role: Role::NamesPair,
             first: &[],
-            second: pair.target.bytes(),
+            second: pair.target,
             mark: mark_at(&pair.moment),
         },
         (Some(id), Some(pair)) => Link {
             role: Role::NamesBoth,
             first: id.bytes(),
-            second: pair.target.bytes(),
+            second: pair.target,
             mark: mark_at(&pair.moment),
         },
     }
 }
 
 /// What is kept of a record.
-pub(crate) fn link_of<A: Allocator>(typed: &Typed<A>) -> Link<'_>
+pub(crate) fn link_of<'t>(typed: &'t Typed<'_>) -> Link<'t>
     ensures { link_seen result ≡ link_of (indexed_of (said typed.now)) }
 {
     match typed.kind {

@@ -1,4 +1,4 @@
-use Rattle.std.proofs.Common.{◌++◌, ◌∷◌, [], ◌∙◌, ap, sym, subst, refl}
+use Rattle.std.proofs.Common.{◌++◌, ◌∷◌, [], ◌∙◌, ap, sym, subst}
 use Rattle.std.specs.Option.{option_to_list}
 use Rattle.warc_index.specs.Orders.{IsIndexOf}
 use Rattle.warc_index.proofs.KeptLemmas.{kept_more}
