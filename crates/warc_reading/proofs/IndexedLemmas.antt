@@ -8,8 +8,8 @@ use Rattle.warc_record.specs.Readings.{Reading, reading_of}
 use Rattle.warc_index.specs.Captures.{Indexed, indexed_of}
 use Rattle.warc_index.specs.Orders.{IsIndexOf, Indexes}
 use Rattle.warc_segment.specs.Kept.{Kept as Parts, kept_in}
-use Rattle.warc_segment.specs.declared.place.Place.{Place}
-use Rattle.warc_reading.specs.Indexed.{AreOf, indexed_record, place_of, placed_record}
+use Rattle.warc_segment.specs.Joined.{placed_with}
+use Rattle.warc_reading.specs.Indexed.{AreOf, indexed_record, placed_record}
 use Rattle.warc_reading.specs.Opening.{OpensFrom}
 use Rattle.warc_reading.specs.Row.{Placed}
 
@@ -21,18 +21,19 @@ index_more records p index head is kept =
     ap (λ h. map indexed_record records ++ indexed_of h ∷ []) is ∙ sym (map-append indexed_record records (p ∷ [])) in
     subst (λ l. IsIndexOf l index) whole kept
 
-parts_more : (records : List Placed) (p : Placed) (parts : Parts) (head : Reading) (place : Place) → head ≡ reading_of p.content.fields → place ≡ place_of p
-    → parts ≡ kept_in (map placed_record records ++ record { head = head; place = place } ∷ []) → parts ≡ kept_in (map placed_record (records ++ p ∷ []))
-parts_more records p parts head place is at kept =
-    kept ∙ ap (λ h. kept_in (map placed_record records ++ record { head = h; place = place } ∷ [])) is
-    ∙ ap (λ q. kept_in (map placed_record records ++ record { head = reading_of p.content.fields; place = q } ∷ [])) at
+parts_more : (records : List Placed) (p : Placed) (parts : Parts) (head : Reading) (start len : ℕ) → head ≡ reading_of p.content.fields → start ≡ p.block_start → len ≡ length p.content.block
+    → parts ≡ kept_in (map placed_record records ++ placed_with head start len ∷ []) → parts ≡ kept_in (map placed_record (records ++ p ∷ []))
+parts_more records p parts head start len is from size kept =
+    kept ∙ ap (λ h. kept_in (map placed_record records ++ placed_with h start len ∷ [])) is
+    ∙ ap (λ n. kept_in (map placed_record records ++ placed_with (reading_of p.content.fields) n len ∷ [])) from
+    ∙ ap (λ n. kept_in (map placed_record records ++ placed_with (reading_of p.content.fields) p.block_start n ∷ [])) size
     ∙ ap kept_in (sym (map-append placed_record records (p ∷ [])))
 
-pub kept_more : (records : List Placed) (p : Placed) (index : Indexes) (parts : Parts) (head : Reading) (place : Place) → head ≡ reading_of p.content.fields → place ≡ place_of p
-    → IsIndexOf (map indexed_record records ++ indexed_of head ∷ []) index → parts ≡ kept_in (map placed_record records ++ record { head = head; place = place } ∷ [])
+pub kept_more : (records : List Placed) (p : Placed) (index : Indexes) (parts : Parts) (head : Reading) (start len : ℕ) → head ≡ reading_of p.content.fields → start ≡ p.block_start
+    → len ≡ length p.content.block → IsIndexOf (map indexed_record records ++ indexed_of head ∷ []) index → parts ≡ kept_in (map placed_record records ++ placed_with head start len ∷ [])
     → AreOf (records ++ p ∷ []) index parts
-kept_more records p index parts head place is at indexed joined =
-    record { index_is = index_more records p index head is indexed; parts_are = parts_more records p parts head place is at joined }
+kept_more records p index parts head start len is from size indexed joined =
+    record { index_is = index_more records p index head is indexed; parts_are = parts_more records p parts head start len is from size joined }
 
 -- the same opening, by what is made of its answer
 pub opens_with : {X Y : Type 0} {Is : List ℕ → X → Type 0} {Gives : List ℕ → Y → Type 0} {start : ℕ} {old new : SeenSource} (x : X) (y : Y) → ((bytes : List ℕ) → Is bytes x → Gives bytes y) → OpensFrom start Is old new (Ok x)

@@ -1,23 +1,19 @@
 //! What is kept of records besides their rows: nothing in a listing; in an archive, what finds them and joins them.
-ghost use Rattle.std.specs.Prelude.{◌≡◌, Bool, true, None, List, [], ◌∷◌, ◌++◌, ◌<◌, length, take, OnErr, OnOk};
-ghost use Rattle.warc_field.specs.Area.{Pair};
-ghost use Rattle.warc_quick.specs.Quick.{Says};
+ghost use Rattle.std.specs.Prelude.{◌≡◌, Bool, true, List, [], ◌∷◌, ◌++◌, ◌<◌, length, take, OnErr, OnOk};
 ghost use Rattle.warc_quick.specs.declared.head.QuickHead.{QuickHead};
-ghost use Rattle.warc_record.specs.Heads.{head_fault};
 ghost use Rattle.warc_record.specs.Readings.{reading_of};
 ghost use Rattle.warc_record.specs.Seen.{said};
-ghost use Rattle.warc_reading.specs.Indexed.{AreOf, place_of};
+ghost use Rattle.warc_reading.specs.Indexed.{AreOf};
 ghost use Rattle.warc_reading.specs.Judging.{IsNextOf, IsNextPlain};
 ghost use Rattle.warc_reading.specs.Row.{Placed};
 
 use crate::block::{NoBlock, TakeBlock};
 use std::alloc::{AllocError, Allocator};
-use warc_field::Fields;
-use warc_index::{AloneRecord, Index, RecordIndex, UnorderedIndex};
+use warc_index::{Index, RecordIndex, UnorderedIndex};
 use warc_order::{EntryList, HasEntries, Order, Unordered};
-use warc_quick::{QuickHead, QuickRecord, type_alone};
-use warc_record::{Typed, type_head};
-use warc_segment::{Parts, Place};
+use warc_quick::{QuickHead, QuickRecord};
+use warc_record::{GoodHead, Typed};
+use warc_segment::Parts;
 
 /// How many bytes a read asks for, where nothing else is said.
 const PIECE: usize = 65_536;
@@ -37,19 +33,19 @@ pub trait Keep<A: Allocator> {
     fn takes(head: &QuickHead<'_>) -> bool
         ensures { result ≡ takes head.now };
 
-    /// Keeps what is needed of the next record, by its position, the fields of its good head, where its block begins,
-    /// how long it is, and what took its bytes. If memory is refused, it keeps what it kept of the records before.
+    /// Keeps what is needed of the next record, by its position, its head, where its block begins, how long it is, and
+    /// what took its bytes. If memory is refused, it keeps what it kept of the records before.
     fn keep(
         &mut self,
         alloc: A,
         position: usize,
-        fields: &Fields<A>,
+        head: &GoodHead<A>,
         block_start: u64,
         block_len: u64,
         block: Self::Block,
     ) -> Result<(), AllocError>
         ensures ok { (records : List Placed) (p : Placed) → keeps self.old records → position ≡ length records →
-            IsNextOf p fields.now block_start block_len → Self.Block.has_seen block fields.now p.content.block →
+            IsNextOf p head.now block_start block_len → Self.Block.has_seen block head.now p.content.block →
             OnOk result (keeps self.new (records ++ p ∷ [])) }
         ensures err { (records : List Placed) → keeps self.old records → position ≡ length records →
             OnErr result (keeps self.new records) };
@@ -63,8 +59,9 @@ pub trait Keep<A: Allocator> {
         found: &QuickRecord<'_>,
         block_start: u64,
     ) -> Result<(), AllocError>
-        requires { (p : Placed) × IsNextPlain p found.now block_start }
-        ensures ok { (records : List Placed) (p : Placed) → takes found.now.head ≡ true → keeps self.old records →
+        requires taken { takes found.now.head ≡ true }
+        requires next { (p : Placed) × IsNextPlain p found.now block_start }
+        ensures ok { (records : List Placed) (p : Placed) → keeps self.old records →
             position ≡ length records → IsNextPlain p found.now block_start →
             OnOk result (keeps self.new (records ++ p ∷ [])) }
         ensures err { (records : List Placed) → keeps self.old records → position ≡ length records →
@@ -106,7 +103,7 @@ impl<A: Allocator> Keep<A> for RowsAlone {
         &mut self,
         _alloc: A,
         _position: usize,
-        _fields: &Fields<A>,
+        _head: &GoodHead<A>,
         _block_start: u64,
         _block_len: u64,
         _block: NoBlock,
@@ -127,93 +124,23 @@ impl<A: Allocator> Keep<A> for RowsAlone {
     fn truncate(&mut self, _count: usize) {}
 }
 
-/// The place of a block whose record's head says this.
-fn place_of<A: Allocator>(typed: &Typed<A>, block_start: u64, block_len: u64) -> Place
-    ensures { (p : Placed) → said typed.now ≡ reading_of p.content.fields → block_start ≡ p.block_start →
-        block_len ≡ length p.content.block → result ≡ place_of p }
-{
-    Place {
-        start: block_start,
-        len: block_len,
-        wanted: typed.wanted,
-        truncated: typed.truncated,
-    }
-}
-
-/// Keeps the next record, by its position, what its head says and the place of its block.
+/// Keeps the next record, by its position, what its head says, where its block begins and how long it is.
 fn add<O: EntryList, A: Allocator + Copy>(
     index: &mut RecordIndex<O, A>,
     parts: &mut Parts<A>,
     position: usize,
-    typed: &Typed<A>,
-    place: Place,
+    typed: &Typed<'_>,
+    start: u64,
+    len: u64,
 ) -> Result<(), AllocError>
     ensures ok { (records : List Placed) (p : Placed) → AreOf records index.old parts.old →
-        said typed.now ≡ reading_of p.content.fields → place ≡ place_of p →
+        said typed.now ≡ reading_of p.content.fields → start ≡ p.block_start → len ≡ length p.content.block →
         OnOk result (AreOf (records ++ p ∷ []) index.new parts.new) }
     ensures err { (records : List Placed) → AreOf records index.old parts.old →
         position ≡ length records → OnErr result (AreOf records index.new parts.new) }
 {
     index.add(typed)?;
-    match parts.add(typed, place) {
-        Ok(()) => Ok(()),
-        Err(refused) => {
-            // What was added is taken back, which takes no memory.
-            index.truncate(position);
-            Err(refused)
-        }
-    }
-}
-
-/// Keeps the next record, by its position, the fields of its good head and where its block lies.
-fn add_head<O: EntryList, A: Allocator + Copy>(
-    alloc: A,
-    index: &mut RecordIndex<O, A>,
-    parts: &mut Parts<A>,
-    position: usize,
-    fields: &Fields<A>,
-    block_start: u64,
-    block_len: u64,
-) -> Result<(), AllocError>
-    ensures ok { (records : List Placed) (p : Placed) → AreOf records index.old parts.old →
-        fields.now ≡ p.content.fields → head_fault p.content.fields ≡ None → block_start ≡ p.block_start →
-        block_len ≡ length p.content.block → OnOk result (AreOf (records ++ p ∷ []) index.new parts.new) }
-    ensures err { (records : List Placed) → AreOf records index.old parts.old →
-        position ≡ length records → OnErr result (AreOf records index.new parts.new) }
-{
-    // The head is good, so only memory can fail.
-    let Ok(typed) = type_head(alloc, fields) else {
-        return Err(AllocError);
-    };
-    let place = place_of(&typed, block_start, block_len);
-    add(index, parts, position, &typed, place)
-}
-
-/// Keeps the next record, whose plain head is alone, by its position. Nothing of it joins other blocks, so the place of
-/// its block isn't kept.
-fn add_plain<O: EntryList, A: Allocator + Copy>(
-    alloc: A,
-    index: &mut RecordIndex<O, A>,
-    parts: &mut Parts<A>,
-    position: usize,
-    head: &QuickHead<'_>,
-) -> Result<(), AllocError>
-    requires alone { head.now.is_alone ≡ true }
-    requires says { (fields : List Pair) × Says fields head.now }
-    ensures ok { (records : List Placed) (p : Placed) → AreOf records index.old parts.old →
-        Says p.content.fields head.now → OnOk result (AreOf (records ++ p ∷ []) index.new parts.new) }
-    ensures err { (records : List Placed) → AreOf records index.old parts.old →
-        position ≡ length records → OnErr result (AreOf records index.new parts.new) }
-{
-    let typed = type_alone(alloc, head)?;
-    index.add_alone(&AloneRecord {
-        kind: typed.kind,
-        id: typed.id.bytes(),
-        moment: typed.moment,
-        target: head.texts.target,
-        payload_digest: head.payload_digest,
-    })?;
-    match parts.add_unsegmented() {
+    match parts.add(typed, start, len) {
         Ok(()) => Ok(()),
         Err(refused) => {
             // What was added is taken back, which takes no memory.
@@ -297,19 +224,18 @@ impl<O: EntryList, A: Allocator + Copy> Keep<A> for RecordLookup<O, A> {
 
     fn keep(
         &mut self,
-        alloc: A,
+        _alloc: A,
         position: usize,
-        fields: &Fields<A>,
+        head: &GoodHead<A>,
         block_start: u64,
         block_len: u64,
         _block: NoBlock,
     ) -> Result<(), AllocError> {
-        add_head(
-            alloc,
+        add(
             &mut self.index,
             &mut self.parts,
             position,
-            fields,
+            &head.typed(),
             block_start,
             block_len,
         )
@@ -317,20 +243,18 @@ impl<O: EntryList, A: Allocator + Copy> Keep<A> for RecordLookup<O, A> {
 
     fn keep_plain(
         &mut self,
-        alloc: A,
+        _alloc: A,
         position: usize,
         found: &QuickRecord<'_>,
-        _block_start: u64,
+        block_start: u64,
     ) -> Result<(), AllocError> {
-        if !found.head.is_alone {
-            return Ok(());
-        }
-        add_plain(
-            alloc,
+        add(
             &mut self.index,
             &mut self.parts,
             position,
-            &found.head,
+            &found.head.typed(),
+            block_start,
+            found.head.block_len,
         )
     }
 

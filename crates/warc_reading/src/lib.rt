@@ -13,7 +13,7 @@ pub use block::{BlockDigest, NoBlock, TakeBlock};
 pub use keeping::{Keep, Lookup, RecordLookup, RowsAlone, UnorderedLookup};
 pub use reading::{read_front, read_on};
 pub use rereading::{
-    Reread, RereadFault, buffer_for, good_head_in, head_buffer, head_in, read_again, reread_good,
-    reread_head, reread_text,
+    RereadFault, buffer_for, good_head_in, head_buffer, head_in, reread_good, reread_head,
+    reread_text,
 };
 pub use rows::{Row, Rows, rows_fit};

@@ -152,14 +152,10 @@ impl<A: Allocator + Copy, B: TakeBlock, L: Keep<A, Block = B> + Drop> Reading<A,
                 id: texts.id,
                 target: texts.target,
             })?;
-            match self.beside.keep(
-                alloc,
-                position,
-                head.fields(),
-                block_start,
-                block_len,
-                block,
-            ) {
+            match self
+                .beside
+                .keep(alloc, position, &head, block_start, block_len, block)
+            {
                 Ok(()) => {}
                 Err(refused) => {
                     // The row is taken back, which takes no memory.

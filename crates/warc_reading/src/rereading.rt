@@ -6,15 +6,13 @@ ghost use Rattle.warc_frame.specs.Record.{Record, max_head};
 ghost use Rattle.warc_frame.specs.Seen.{IfHeld};
 ghost use Rattle.warc_frame.specs.declared.version.Version.{Version};
 ghost use Rattle.warc_record.specs.Heads.{head_fault};
-ghost use Rattle.warc_record.specs.Readings.{reading_of};
-ghost use Rattle.warc_record.specs.Seen.{said};
 ghost use Rattle.warc_reading.specs.Rereading.{HasHeadOf, HasRoomFor, IsHeadBy, IsHeadReadOf, IsHeadText, ReadsHeads, ended_by, reread_fault_of, reread_result};
 
 use crate::rows::Row;
 use std::alloc::{AllocError, Allocator};
 use warc_field::Fields;
 use warc_frame::{FaultKind, Head, MAX_HEAD, OutFault, Source, read_head, read_range};
-use warc_record::{GoodHead, Typed, judge_head, type_head};
+use warc_record::{GoodHead, judge_head};
 
 /// Why a head isn't read again.
 #[derive(Clone, Copy, PartialEq, Eq, Debug)]
@@ -35,13 +33,6 @@ impl RereadFault {
             RereadFault::Memory => OutFault::Memory(sent),
         }
     }
-}
-
-/// A record's fields, read again, and what they say.
-#[derive(Drop)]
-pub struct Reread<A: Allocator> {
-    pub fields: Fields<A>,
-    pub typed: Typed<A>,
 }
 
 /// Why a head isn't read again, by the outcome of reading it.
@@ -74,22 +65,6 @@ pub fn head_in<A: Allocator + Copy>(
         return Err(RereadFault::Read);
     }
     Ok(head)
-}
-
-/// What a good head says.
-fn typed<A: Allocator + Copy>(alloc: A, head: Head<A>) -> Result<Reread<A>, RereadFault>
-    ensures said { IfOk result (λ x. said x.typed ≡ reading_of x.fields) }
-    ensures fields { IfOk result (λ x. x.fields ≡ head.fields) }
-    ensures read { head_fault head.fields ≡ None →
-        MatchResult result (λ x. x.fields ≡ head.fields) (λ e. e ≡ RereadFault.Memory) }
-{
-    match type_head(alloc, &head.fields) {
-        Ok(typed) => Ok(Reread {
-            fields: head.fields,
-            typed,
-        }),
-        Err(kind) => Err(reread_fault_of(kind)),
-    }
 }
 
 /// The good head of these fields.
@@ -189,28 +164,8 @@ pub fn reread_head<S: Source, A: Allocator + Copy>(
     head_in(alloc, &buf[..len], row.block_len)
 }
 
-/// Reads a record's head again, through a buffer that it fits, and what it says. If the source doesn't give
-/// what it gave before, the head is taken as by `reread_head`.
-pub fn read_again<S: Source, A: Allocator + Copy>(
-    alloc: A,
-    source: &mut S,
-    row: &Row<'_>,
-    buf: &mut [u8],
-) -> Result<Reread<A>, RereadFault>
-    requires { HasRoomFor row.now buf.old }
-    ensures said { IfOk result (λ x. said x.typed ≡ reading_of x.fields) }
-    ensures read { IfHeld (S.seen source.old).holds (λ bytes. (is : HasHeadOf row.now bytes) →
-        IfOk result (λ x. x.fields ≡ is.placed.content.fields)) }
-    ensures whole { IfOk result (λ x. IsHeadBy row.now x.fields) }
-    ensures reads { ReadsHeads (row.now ∷ []) (S.seen source.old) (S.seen source.new) }
-    ensures fails { FailsBy (HasHeadOf row.now) (reread_result result) (S.seen source.old) (S.seen source.new) }
-{
-    let head = reread_head(alloc, source, row, buf)?;
-    typed(alloc, head)
-}
-
-/// Reads a record's head again, through a buffer that it fits. It must be good, and isn't typed. If the source doesn't
-/// give what it gave before, the head is taken as by `reread_head`.
+/// Reads a record's head again, through a buffer that it fits. It must be good. If the source doesn't give what it gave
+/// before, the head is taken as by `reread_head`.
 pub fn reread_good<S: Source, A: Allocator + Copy>(
     alloc: A,
     source: &mut S,

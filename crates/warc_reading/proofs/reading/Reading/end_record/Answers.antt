@@ -1,5 +1,4 @@
-use Rattle.std.proofs.Common.{rules, ◌≡◌, List, [], ◌∷◌, ◌++◌, Option, Some, ap, sym, subst, ◌∙◌}
-use Rattle.warc_field.specs.Area.{Pair}
+use Rattle.std.proofs.Common.{rules, ◌≡◌, [], ◌∷◌, ◌++◌, Option, Some, ap, sym, subst, ◌∙◌}
 use Rattle.warc_reading.specs.Judging.{IsNextOf}
 use Rattle.warc_reading.specs.Row.{Row}
 use Rattle.warc_reading.specs.Stream.{row_by}
@@ -31,14 +30,7 @@ returns-clause-beside g c = elim c.match-take.branch [
       let same : ◌≡◌ {A = Kept g.row.A.Denot g.row.B.Denot} w.in-Some.current kept = let e : ◌≡◌ {A = Option (Kept g.row.A.Denot g.row.B.Denot)} (Some w.in-Some.current) (Some kept) = w.in-Some.ensures.value ∙ is in cc in
       let P : Kept g.row.A.Denot g.row.B.Denot → Type 0 = λ x. IsNextOf p x.head x.block_start x.block_len in
       let S : Kept g.row.A.Denot g.row.B.Denot → Type 0 = λ x. g.B.TakeBlock.has_seen x.block x.head p.content.block in
-      let F : List Pair → Type 0 = λ fields. g.B.TakeBlock.has_seen w.in-Some.current.block fields p.content.block in
-      let here = subst P (sym same) next in
-      let now = w.in-Ok.ensures.ok records p keeps (w.len-position.ensures ∙ count) (record {
-        fields_are = w.fields.ensures.fields ∙ here.fields_are;
-        good = here.good;
-        start_is = here.start_is;
-        len_is = here.len_is;
-      }) (subst F (sym w.fields.ensures.fields) (subst S (sym same) seen)) in
+      let now = w.in-Ok.ensures.ok records p keeps (w.len-position.ensures ∙ count) (subst P (sym same) next) (subst S (sym same) seen) in
       subst (λ r. g.L.Keep.keeps r.beside (records ++ p ∷ [])) (sym w.self-is) now
   | in_default w ↦ search rules
 ]
