@@ -135,7 +135,7 @@ fn tell_splittable(
     whole: &Fields,
 ) -> Result<(), AllocError> {
     let part = part_of(case);
-    match splittable(alloc, whole, case.number(1)) {
+    match splittable(whole, case.number(1)) {
         Ok(uuid) => tell_segment_head(alloc, answer, whole, &uuid, &part),
         Err(fault) => tell_line(alloc, answer, &fault),
     }

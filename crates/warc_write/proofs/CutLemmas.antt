@@ -1,5 +1,5 @@
 -- A segment's head is as long whichever its digest is, and records that are split by their heads.
-use Rattle.std.proofs.Common.{rules, replicate, ◌≡◌, ℕ, ◌+◌, ◌-◌, ◌*◌, ◌^◌, ◌<◌, ◌≤◌, ◌==◌, nat_le, Bool, true, false, List, [], ◌∷◌, ◌++◌, length, length-take, length-drop, length-append, map, drop, min, codes, decimal, Option, Some, None, Result, Err, refl, sym, ap, subst, ◌∙◌, arith, if◌then◌else◌}
+use Rattle.std.proofs.Common.{rules, replicate, ◌≡◌, ℕ, ◌+◌, ◌-◌, ◌*◌, ◌^◌, ◌<◌, ◌≤◌, ◌==◌, nat_le, Bool, true, false, List, [], ◌∷◌, ◌++◌, length, length-take, length-drop, length-append, map, drop, min, codes, decimal, Option, Some, None, Result, Err, refl, sym, ap, ◌∙◌, arith, if◌then◌else◌}
 use Rattle.std.specs.List.{All, list_all, range_with_len}
 use Rattle.std.proofs.lemmas.Bool.{and_from}
 use Rattle.std.proofs.lemmas.Bool.Decides.{nat_tests}
@@ -13,7 +13,7 @@ use Rattle.sha1.specs.Sha1.{sha1}
 use Rattle.warc_value.specs.Base32.{base32_of, decoded_of}
 use Rattle.warc_value.proofs.LawLemmas.{base32_is_undone}
 use Rattle.warc_write.specs.Cutting.{HasParts, part_with}
-use Rattle.warc_write.specs.Splitting.{UnlessMemory, Splits, first_fields, has_room, kept, next_fields}
+use Rattle.warc_write.specs.Splitting.{UnlessMemory, first_fields, has_room, kept, next_fields}
 use Rattle.warc_write.specs.Splitting.{origin_fields, part_of, piece_at, segment_fields, segment_of}
 use Rattle.warc_write.specs.Splitting.{split_of, splittable, total_at, total_fields}
 use Rattle.warc_write.specs.Written.{digest_text}
@@ -163,7 +163,6 @@ pub head_of_parts : (r : Record) (version : Version) (fields : List Pair) (n len
 head_of_parts r version fields n len is_bad answer has is = ap (λ fs. splittable fs n) has.fields_are ∙ is
 
 pub refused_head : (fault : SplitFault) (r : Record) (version : Version) (fields : List Pair) (n len : ℕ) (is_bad : Bool)
-    → HasParts version fields len is_bad r → Splits {X = List ℕ} (Err fault) (splittable fields n) → UnlessMemory fault (split_of r n ≡ Err fault)
+    → HasParts version fields len is_bad r → splittable fields n ≡ Err fault → UnlessMemory fault (split_of r n ≡ Err fault)
 refused_head fault r version fields n len is_bad has is =
-    let P : List Pair → Type 0 = λ fs. Splits {X = List ℕ} (Err fault) (splittable fs n) in
-    head_or_memory fault r n (subst P (sym has.fields_are) is)
+    head_or_memory fault r n (head_of_parts r version fields n len is_bad (Err fault) has is)

@@ -14,7 +14,7 @@ use Rattle.warc_write.specs.declared.splitting.SplitFault.TheVariants.{NotUuid, 
 use Rattle.warc_write.specs.declared.splitting.SplitFault.TheVariants.{Kind as BadKind, Size}
 use Rattle.warc_write.specs.declared.splitting.SplitFault.TheVariants.{Memory, TooLong, BadDigest}
 use Rattle.warc_write.specs.Refusing.{RefusesSegment}
-use Rattle.warc_write.specs.Splitting.{AllFramed, UnlessMemory, Splits, has_room}
+use Rattle.warc_write.specs.Splitting.{AllFramed, UnlessMemory, has_room}
 use Rattle.warc_record.specs.Blocks.{has_bad_digest}
 use Rattle.warc_write.specs.Splitting.{segments_of, split_of, splittable}
 use Rattle.warc_write.proofs.SplitLemmas.{no_head, no_size}
@@ -252,7 +252,7 @@ framed_have_room (r ∷ records) all =
     let room : has_room r ≡ true = grind (arith, nat_tests) in
     and_from _ _ room (framed_have_room records all.1)
 
-pub head_or_memory : (fault : SplitFault) (r : Record) (n : ℕ) → Splits {X = List ℕ} (Err fault) (splittable r.fields n) → UnlessMemory fault (split_of r n ≡ Err fault)
+pub head_or_memory : (fault : SplitFault) (r : Record) (n : ℕ) → splittable r.fields n ≡ Err fault → UnlessMemory fault (split_of r n ≡ Err fault)
 head_or_memory Memory r n is = tt
 head_or_memory NotUuid r n is = refused_by_head r n NotUuid is
 head_or_memory AlreadySegmented r n is = refused_by_head r n AlreadySegmented is

@@ -1,7 +1,7 @@
 -- The fields of segments, as they are put together.
 use Rattle.std.proofs.Common.{◌≡◌, ℕ, ◌+◌, ◌<◌, nat_lt, true, false, List, [], ◌∷◌, ◌++◌, length}
 use Rattle.std.proofs.Common.{take, get_or, map}
-use Rattle.std.proofs.Common.{append_assoc, codes, decimal, Option, None, is_none, is_some, Result, Ok}
+use Rattle.std.proofs.Common.{append_assoc, codes, decimal, is_none, is_some}
 use Rattle.std.proofs.Common.{Err, refl, sym, ap, ◌∙◌}
 use Rattle.std.specs.Prelude.{filter}
 use Rattle.std.specs.Option.{ok_or}
@@ -11,19 +11,13 @@ use Rattle.warc_field.specs.Text.{is_blank, is_value, is_value_byte, same}
 use Rattle.warc_field.specs.Area.{Pair}
 use Rattle.warc_frame.specs.Names.{content_length}
 use Rattle.uuid.specs.Text.{parsed_urn}
-use Rattle.warc_frame.specs.declared.fault.FaultKind.{FaultKind}
-use Rattle.warc_frame.specs.declared.fault.FaultKind.TheVariants.{Memory as OutOfMemory}
 use Rattle.warc_record.specs.Heads.{head_fault}
 use Rattle.warc_record.specs.Ids.{bare_text}
 use Rattle.warc_record.specs.Readings.{kind_of, target_of}
-use Rattle.warc_record.specs.Seen.{RefusesFor}
 use Rattle.warc_write.specs.declared.splitting.Part.{Part}
-use Rattle.warc_write.specs.declared.splitting.SplitFault.{SplitFault}
 use Rattle.warc_write.specs.declared.splitting.SplitFault.TheVariants.{NotUuid, AlreadySegmented}
 use Rattle.warc_write.specs.declared.splitting.SplitFault.TheVariants.{Kind as BadKind, Size}
-use Rattle.warc_write.specs.declared.splitting.SplitFault.TheVariants.{Memory, TooLong, BadDigest}
-use Rattle.warc_write.specs.Refusing.{RefusesHead}
-use Rattle.warc_write.specs.Splitting.{Splits, is_kept, is_segmented, kept, may_be_split}
+use Rattle.warc_write.specs.Splitting.{is_kept, is_segmented, kept, may_be_split}
 use Rattle.warc_write.specs.Splitting.{next_fields, origin_fields, splittable}
 use Rattle.warc_write.specs.Splitting.{total_fields, value_in, with_len}
 use Rattle.warc_write.specs.Written.{digest_text}
@@ -87,15 +81,6 @@ next_from given uuid part a b c d e digest a_is b_is c_is d_is digest_is e_is =
     ∙ with_total (origin_fields given uuid part.number ++ number ∷ []) (total_fields part.total) (codes "WARC-Block-Digest", digest) last
     ∙ ap (λ t. (origin_fields given uuid part.number ++ number ∷ []) ++ (total_fields part.total ++ (codes "WARC-Block-Digest", t) ∷ last ∷ [])) digest_is
 
--- a refusal that isn't want of memory says that the head has a fault
-pub refused : (X : Type 0) (kind : FaultKind) (fault : Option FaultKind) → RefusesFor {X = X} (Err kind) fault → (kind ≡ OutOfMemory → ⊥)
-    → is_none fault ≡ false
-refused X OutOfMemory fault is never = absurd (never refl)
-refused X kind fault is never = ap is_none is
-
-pub accepted : (fault : Option FaultKind) → fault ≡ None → is_none fault ≡ true
-accepted fault is = ap is_none is
-
 -- ---- which refusal comes first
 
 pub no_size : (fields : List Pair) (n : ℕ) → nat_lt 0 n ≡ false → splittable fields n ≡ Err Size
@@ -126,24 +111,3 @@ pub by_uuid : (fields : List Pair) (n : ℕ) → nat_lt 0 n ≡ true → is_none
     → splittable fields n ≡ ok_or (parsed_urn (bare_text (value_in (codes "WARC-Record-ID") fields))) NotUuid
 unfolding splittable
 by_uuid fields n size head kind target stands = rw (size, head, kind, target, stands) refl
-
-pub splits_as : (answer : Result (List ℕ) SplitFault) (o : Option (List ℕ)) (split : Result (List ℕ) SplitFault)
-    → answer ≡ ok_or o NotUuid → split ≡ ok_or o NotUuid → Splits answer split
-splits_as (Ok uuid) o split e is = is ∙ sym e
-splits_as (Err Memory) o split e is = tt
-splits_as (Err NotUuid) o split e is = is ∙ sym e
-splits_as (Err AlreadySegmented) o split e is = is ∙ sym e
-splits_as (Err BadKind) o split e is = is ∙ sym e
-splits_as (Err Size) o split e is = is ∙ sym e
-splits_as (Err TooLong) o split e is = is ∙ sym e
-splits_as (Err BadDigest) o split e is = is ∙ sym e
-
-pub head_refused : (fields : List Pair) (n : ℕ) (fault : SplitFault) → nat_lt 0 n ≡ true → RefusesHead (is_none (head_fault fields)) fault
-    → Splits {X = List ℕ} (Err fault) (splittable fields n)
-head_refused fields n BadKind size is = no_head fields n size is
-head_refused fields n Memory size is = tt
-head_refused fields n NotUuid size is = absurd is
-head_refused fields n AlreadySegmented size is = absurd is
-head_refused fields n Size size is = absurd is
-head_refused fields n TooLong size is = absurd is
-head_refused fields n BadDigest size is = absurd is

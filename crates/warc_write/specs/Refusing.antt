@@ -5,16 +5,6 @@ use Rattle.warc_write.specs.declared.splitting.SplitFault.TheVariants.{NotUuid, 
 use Rattle.warc_write.specs.declared.splitting.SplitFault.TheVariants.{Kind as BadKind, Size}
 use Rattle.warc_write.specs.declared.splitting.SplitFault.TheVariants.{Memory, TooLong, BadDigest}
 
--- a head is refused as such, or for lack of memory
-abbrev pub RefusesHead : Bool → SplitFault → Type 0
-RefusesHead good BadKind = good ≡ false
-RefusesHead good Memory = ⊤
-RefusesHead good NotUuid = ⊥
-RefusesHead good AlreadySegmented = ⊥
-RefusesHead good Size = ⊥
-RefusesHead good TooLong = ⊥
-RefusesHead good BadDigest = ⊥
-
 -- a segment is refused since its head has no room, or for lack of memory
 abbrev pub RefusesSegment : Bool → SplitFault → Type 0
 RefusesSegment room TooLong = room ≡ false

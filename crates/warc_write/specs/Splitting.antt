@@ -1,6 +1,6 @@
 -- Records that are split into segments (ISO 28500:2017, 7; its fields 5.20 to 5.22; UUIDs of version 5 by RFC
 -- 9562, 5.5). Which fields a segment has, their order, and the refusals are this project's own.
-use Rattle.std.specs.Prelude.{◌≡◌, ⊤, ℕ, ◌+◌, ◌-◌, ◌*◌, ◌/◌, Bool, true, false, not, ◌||◌, ◌==◌, nat_le, nat_lt}
+use Rattle.std.specs.Prelude.{⊤, ℕ, ◌+◌, ◌-◌, ◌*◌, ◌/◌, Bool, true, false, not, ◌||◌, ◌==◌, nat_le, nat_lt}
 use Rattle.std.specs.Prelude.{List, [], ◌∷◌, ◌++◌, length, take, drop, map, filter, codes, decimal}
 use Rattle.std.specs.Prelude.{Option, Some, None, is_some, is_none, unwrap_or, ok_or, Result, Ok, Err, if◌then◌else◌}
 use Rattle.std.specs.List.{AllByRecursion, list_all, range_with_len}
@@ -162,12 +162,6 @@ split_of r n = do
   uuid ← splittable r.fields n
   _ ← checks (not (has_bad_digest r)) BadDigest
   cut_of r uuid n
-
--- what a call returned is that, unless memory ran out
-abbrev pub Splits : {X : Type 0} → Result X SplitFault → Result X SplitFault → Type 0
-Splits (Ok x) split = split ≡ Ok x
-Splits (Err Memory) split = ⊤
-Splits (Err fault) split = split ≡ Err fault
 
 -- a fact of each refusal but want of memory
 abbrev pub UnlessMemory : SplitFault → Type 0 → Type 0

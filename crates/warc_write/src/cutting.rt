@@ -76,7 +76,7 @@ pub fn cut<A: Allocator + Copy>(
     // Only a block of more bytes than a segment is cut.
     ensures long { IfOk result (λ uuid. IfSome uuid (λ _. (0 < size) × (size < len))) }
 {
-    let uuid = match splittable(alloc, fields, size) {
+    let uuid = match splittable(fields, size) {
         Ok(uuid) => uuid,
         Err(fault) => return Err(fault),
     };

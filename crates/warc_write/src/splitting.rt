@@ -1,5 +1,5 @@
 //! Records split into segments.
-ghost use Rattle.std.specs.Prelude.{◌≡◌, ℕ, List, [], ◌∷◌, ◌++◌, true, IfOk, ◌+◌, ◌-◌, ◌*◌, ◌<◌, length, IfErr, OnOk};
+ghost use Rattle.std.specs.Prelude.{◌≡◌, ℕ, List, [], ◌∷◌, ◌++◌, true, IfOk, IfSome, ◌+◌, ◌-◌, ◌*◌, ◌<◌, length, IfErr, OnOk};
 ghost use Rattle.std.specs.Prelude.{Ok, Err, Some, is_none, is_some, decimal};
 ghost use Rattle.std.specs.List.{list_all};
 ghost use Rattle.warc_field.specs.Text.{is_value, same};
@@ -8,12 +8,12 @@ ghost use Rattle.warc_record.specs.Heads.{head_fault};
 ghost use Rattle.warc_record.specs.Readings.{kind_of, target_of};
 ghost use Rattle.warc_write.specs.Joining.{Join};
 ghost use Rattle.warc_write.specs.Rendering.{AllGood};
-ghost use Rattle.warc_write.specs.Refusing.{RefusesHead, RefusesSegment};
+ghost use Rattle.warc_write.specs.Refusing.{RefusesSegment};
 ghost use Rattle.warc_write.specs.Splitting.{AllFramed, UnlessMemory, segment_count};
 ghost use Rattle.warc_record.specs.Blocks.{has_bad_digest};
 ghost use Rattle.warc_write.specs.Splitting.{has_room, split_of, piece_at, segment_of, segments_of};
 ghost use Rattle.warc_write.specs.Cutting.{part_with};
-ghost use Rattle.warc_write.specs.Splitting.{Splits, first_fields, has_field, is_segmented, kept};
+ghost use Rattle.warc_write.specs.Splitting.{first_fields, has_field, is_segmented, kept};
 ghost use Rattle.warc_write.specs.Splitting.{may_be_split, next_fields, origin_fields};
 ghost use Rattle.warc_write.specs.Splitting.{segment_fields, split_fault_text, splittable, total_fields};
 ghost use Rattle.warc_write.specs.Splitting.{value_in, version_5};
@@ -26,7 +26,7 @@ use std::fmt;
 use thiserror::Error;
 use uuid::Uuid;
 use warc_field::{Fields, Name, Value};
-use warc_frame::{FaultKind, FieldName, Framed, names};
+use warc_frame::{FieldName, Framed, names};
 use warc_record::laws::{bare_texts_of_values, good_heads_read};
 use warc_record::{Kind, bare, type_head, urn_uuid, wanted};
 use warc_value::{Running, digest};
@@ -141,32 +141,28 @@ fn value_in<'a, A: Allocator>(fields: &'a Fields<A>, name: &str) -> &'a [u8]
 }
 
 /// The kind of a good head, and whether it has a target.
-fn read_kind<A: Allocator + Copy>(alloc: A, fields: &Fields<A>) -> Result<(Kind, bool), SplitFault>
-    ensures good { OnOk result (is_none (head_fault fields.now) ≡ true) }
-    ensures kind { IfOk result (λ r. r.0 ≡ kind_of fields.now) }
-    ensures target { IfOk result (λ r. r.1 ≡ is_some (target_of fields.now)) }
-    ensures bad { IfErr result (RefusesHead (is_none (head_fault fields.now))) }
+fn read_kind<A: Allocator>(fields: &Fields<A>) -> Option<(Kind, bool)>
+    ensures good { is_some result ≡ is_none (head_fault fields.now) }
+    ensures kind { IfSome result (λ r. r.0 ≡ kind_of fields.now) }
+    ensures target { IfSome result (λ r. r.1 ≡ is_some (target_of fields.now)) }
 {
-    match type_head(alloc, fields) {
-        Ok(typed) => Ok((typed.kind, typed.target.is_some())),
-        Err(FaultKind::Memory) => Err(SplitFault::Memory),
-        Err(_) => Err(SplitFault::Kind),
+    match type_head(fields) {
+        Ok(typed) => Some((typed.kind, typed.target().is_some())),
+        Err(_) => None,
     }
 }
 
 /// The sixteen bytes of the UUID of a head that may be split into segments of `size` bytes. The refusals come
-/// in the order S4, S3, S2, S1, and S5 if memory is refused.
-pub fn splittable<A: Allocator + Copy>(
-    alloc: A,
-    fields: &Fields<A>,
-    size: u64,
-) -> Result<[u8; 16], SplitFault>
-    ensures { Splits result (splittable fields.now size) }
+/// in the order S4, S3, S2, S1. It takes no memory.
+pub fn splittable<A: Allocator>(fields: &Fields<A>, size: u64) -> Result<[u8; 16], SplitFault>
+    ensures { splittable fields.now size ≡ result }
 {
     if size == 0 {
         return Err(SplitFault::Size);
     }
-    let (kind, has_target) = read_kind(alloc, fields)?;
+    let Some((kind, has_target)) = read_kind(fields) else {
+        return Err(SplitFault::Kind);
+    };
     if !may_be_split(kind) {
         return Err(SplitFault::Kind);
     }
@@ -475,7 +471,7 @@ pub fn split<A: Allocator + Copy>(
     ensures joins { IfOk result (λ all. Join framed.now.block all.items) }
 {
     good_heads_read();
-    let uuid = match splittable(alloc, framed.fields(), size) {
+    let uuid = match splittable(framed.fields(), size) {
         Ok(uuid) => uuid,
         Err(fault) => return Err(fault),
     };

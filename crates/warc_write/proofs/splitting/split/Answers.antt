@@ -1,15 +1,14 @@
 use Rattle.std.proofs.Common.{◌≡◌, nat_le, ℕ, List, true, false, length, Ok}
-use Rattle.std.proofs.Common.{Err, sym, ap, subst, ◌∙◌, arith}
+use Rattle.std.proofs.Common.{sym, ap, subst, ◌∙◌, arith}
 use Rattle.std.specs.List.{list_all}
 use Rattle.std.proofs.lemmas.Bool.{ltb-true}
 use Rattle.std.proofs.lemmas.Bool.Decides.{nat_tests}
 use Rattle.std.proofs.lemmas.Result.{IfErr-weaker, IfOk-weaker}
-use Rattle.warc_field.specs.Area.{Pair}
 use Rattle.warc_frame.specs.Record.{Record, IsFramed}
 use Rattle.warc_record.specs.Good.{IsGood}
 use Rattle.warc_record.proofs.GoodLemmas.{good_heads_have_no_fault}
 use Rattle.warc_write.specs.Rendering.{AllGood}
-use Rattle.warc_write.specs.Splitting.{AllFramed, Splits, has_room, segments_of, splittable}
+use Rattle.warc_write.specs.Splitting.{AllFramed, has_room, segments_of, splittable}
 use Rattle.warc_write.proofs.JoinLemmas.{split_joins}
 use Rattle.warc_write.proofs.SegmentLemmas.{all_good, all_split, framed_have_room, head_or_memory, no_room}
 use Rattle.warc_write.proofs.SegmentLemmas.{not_split, refused_by_digest}
@@ -18,8 +17,8 @@ use Rattle.warc_write.proofs.splitting.split.Goals as goal
 
 pub returns-in-Err-clause-fault : goal.returns-in-Err-clause-fault
 returns-in-Err-clause-fault g c =
-    let P : List Pair → Type 0 = λ fs. Splits {X = List ℕ} (Err c.in-Err.fault) (splittable fs c.args.size) in
-    head_or_memory c.in-Err.fault c.args.framed.now c.args.size (subst P c.fields.ensures.fields c.in-Err.ensures)
+    head_or_memory c.in-Err.fault c.args.framed.now c.args.size
+    (ap (λ fs. splittable fs c.args.size) (sym c.fields.ensures.fields) ∙ c.in-Err.ensures)
 
 pub returns-then-has_bad_digest-clause-fault : goal.returns-then-has_bad_digest-clause-fault
 returns-then-has_bad_digest-clause-fault g c =

@@ -1,11 +1,10 @@
-use Rattle.std.proofs.Common.{rules, ◌≡◌, nat_lt, true, false, ok_or, sym, ap, ◌∙◌, arith}
+use Rattle.std.proofs.Common.{◌≡◌, nat_lt, true, false, ok_or, sym, ap, ◌∙◌, arith}
 use Rattle.std.proofs.lemmas.Bool.Decides.{nat_tests}
 use Rattle.uuid.specs.Text.{parsed_urn}
 use Rattle.warc_record.specs.Ids.{bare_text}
 use Rattle.warc_write.specs.declared.splitting.SplitFault.TheVariants.{NotUuid}
 use Rattle.warc_write.specs.Splitting.{may_be_split}
-use Rattle.warc_write.proofs.SplitLemmas.{by_uuid, head_refused, no_kind, no_size, no_target}
-use Rattle.warc_write.proofs.SplitLemmas.{segmented, splits_as}
+use Rattle.warc_write.proofs.SplitLemmas.{by_uuid, no_head, no_kind, no_size, no_target, segmented}
 use Rattle.warc_write.proofs.splitting.splittable.Goals as goal
 
 pub returns-then-size-eq0 : goal.returns-then-size-eq0
@@ -14,35 +13,34 @@ returns-then-size-eq0 g c =
     let size : nat_lt 0 c.args.size ≡ false = grind (arith, nat_tests) in
     no_size c.args.fields.now c.args.size size
 
-pub returns-in_err-kind : goal.returns-in_err-kind
-returns-in_err-kind g c =
+pub returns-in_default : goal.returns-in_default
+returns-in_default g c =
     let some = c.if-size-eq0.false in
     let size : nat_lt 0 c.args.size ≡ true = grind (arith, nat_tests) in
-    let refusal = head_refused c.args.fields.now c.args.size c.in_err-kind.field-0.0 size c.in_err-kind.ensures.bad in
-    search rules
+    no_head c.args.fields.now c.args.size size (sym c.in_default.ensures.good)
 
 pub returns-then-not-may_be_split : goal.returns-then-not-may_be_split
 returns-then-not-may_be_split g c =
     let some = c.if-size-eq0.false in
     let size : nat_lt 0 c.args.size ≡ true = grind (arith, nat_tests) in
-    no_kind c.args.fields.now c.args.size size c.in_ok-kind.ensures.good
-    (sym (c.may_be_split.ensures ∙ ap may_be_split c.in_ok-kind.ensures.kind) ∙ c.if-not-may_be_split.true)
+    no_kind c.args.fields.now c.args.size size (sym c.in-Some.ensures.good)
+    (sym (c.may_be_split.ensures ∙ ap may_be_split c.in-Some.ensures.kind) ∙ c.if-not-may_be_split.true)
 
 pub returns-then-not-has_target : goal.returns-then-not-has_target
 returns-then-not-has_target g c =
     let some = c.if-size-eq0.false in
     let size : nat_lt 0 c.args.size ≡ true = grind (arith, nat_tests) in
-    no_target c.args.fields.now c.args.size size c.in_ok-kind.ensures.good
-    (sym (c.may_be_split.ensures ∙ ap may_be_split c.in_ok-kind.ensures.kind) ∙ c.if-not-may_be_split.false)
-    (sym c.in_ok-kind.ensures.target ∙ c.if-not-has_target.true)
+    no_target c.args.fields.now c.args.size size (sym c.in-Some.ensures.good)
+    (sym (c.may_be_split.ensures ∙ ap may_be_split c.in-Some.ensures.kind) ∙ c.if-not-may_be_split.false)
+    (sym c.in-Some.ensures.target ∙ c.if-not-has_target.true)
 
 pub returns-then-is_segmented : goal.returns-then-is_segmented
 returns-then-is_segmented g c =
     let some = c.if-size-eq0.false in
     let size : nat_lt 0 c.args.size ≡ true = grind (arith, nat_tests) in
-    segmented c.args.fields.now c.args.size size c.in_ok-kind.ensures.good
-    (sym (c.may_be_split.ensures ∙ ap may_be_split c.in_ok-kind.ensures.kind) ∙ c.if-not-may_be_split.false)
-    (sym c.in_ok-kind.ensures.target ∙ c.if-not-has_target.false)
+    segmented c.args.fields.now c.args.size size (sym c.in-Some.ensures.good)
+    (sym (c.may_be_split.ensures ∙ ap may_be_split c.in-Some.ensures.kind) ∙ c.if-not-may_be_split.false)
+    (sym c.in-Some.ensures.target ∙ c.if-not-has_target.false)
     (sym c.is_segmented.ensures ∙ c.if-is_segmented.true)
 
 pub returns : goal.returns
@@ -50,8 +48,8 @@ returns g c =
     let some = c.if-size-eq0.false in
     let size : nat_lt 0 c.args.size ≡ true = grind (arith, nat_tests) in
     let uuid = c.urn_uuid.ensures ∙ ap parsed_urn (c.bare.ensures ∙ ap bare_text c.value_in.ensures.text) in
-    splits_as c.ok_or.result _ _ (c.ok_or.ensures.value ∙ ap (λ o. ok_or o NotUuid) uuid)
-    (by_uuid c.args.fields.now c.args.size size c.in_ok-kind.ensures.good
-    (sym (c.may_be_split.ensures ∙ ap may_be_split c.in_ok-kind.ensures.kind) ∙ c.if-not-may_be_split.false)
-    (sym c.in_ok-kind.ensures.target ∙ c.if-not-has_target.false)
-    (sym c.is_segmented.ensures ∙ c.if-is_segmented.false))
+    by_uuid c.args.fields.now c.args.size size (sym c.in-Some.ensures.good)
+    (sym (c.may_be_split.ensures ∙ ap may_be_split c.in-Some.ensures.kind) ∙ c.if-not-may_be_split.false)
+    (sym c.in-Some.ensures.target ∙ c.if-not-has_target.false)
+    (sym c.is_segmented.ensures ∙ c.if-is_segmented.false)
+    ∙ sym (c.ok_or.ensures.value ∙ ap (λ o. ok_or o NotUuid) uuid)
