@@ -1,39 +1,13 @@
 -- What is kept beside the rows, and what opening gives of it.
-use Rattle.std.proofs.Common.{◌≡◌, ℕ, List, [], ◌∷◌, ◌++◌, length, map, take, Ok, Err, sym, ap, subst, ◌∙◌}
-use Rattle.std.proofs.Math.Seq.{take-append_seam}
-use Rattle.std.proofs.lemmas.List.{length-map, map-append, take-map}
+use Rattle.std.proofs.Common.{◌≡◌, ℕ, List, map, take, Ok, Err, sym, ap, subst, ◌∙◌}
+use Rattle.std.proofs.lemmas.List.{take-map}
 use Rattle.warc_frame.specs.declared.fault.Fault.{Fault}
 use Rattle.warc_frame.specs.Seen.{SeenSource}
-use Rattle.warc_record.specs.Readings.{Reading, reading_of}
-use Rattle.warc_index.specs.Captures.{Indexed, indexed_of}
 use Rattle.warc_index.specs.Orders.{IsIndexOf, Indexes}
 use Rattle.warc_segment.specs.Kept.{Kept as Parts, kept_in}
-use Rattle.warc_segment.specs.Joined.{placed_with}
 use Rattle.warc_reading.specs.Indexed.{AreOf, indexed_record, placed_record}
 use Rattle.warc_reading.specs.Opening.{OpensFrom}
 use Rattle.warc_reading.specs.Row.{Placed}
-
--- one more record
-index_more : (records : List Placed) (p : Placed) (index : Indexes) (head : Reading) → head ≡ reading_of p.content.fields → IsIndexOf (map indexed_record records ++ indexed_of head ∷ []) index
-    → IsIndexOf (map indexed_record (records ++ p ∷ [])) index
-index_more records p index head is kept =
-    let whole : map indexed_record records ++ indexed_of head ∷ [] ≡ map indexed_record (records ++ p ∷ []) =
-    ap (λ h. map indexed_record records ++ indexed_of h ∷ []) is ∙ sym (map-append indexed_record records (p ∷ [])) in
-    subst (λ l. IsIndexOf l index) whole kept
-
-parts_more : (records : List Placed) (p : Placed) (parts : Parts) (head : Reading) (start len : ℕ) → head ≡ reading_of p.content.fields → start ≡ p.block_start → len ≡ length p.content.block
-    → parts ≡ kept_in (map placed_record records ++ placed_with head start len ∷ []) → parts ≡ kept_in (map placed_record (records ++ p ∷ []))
-parts_more records p parts head start len is from size kept =
-    kept ∙ ap (λ h. kept_in (map placed_record records ++ placed_with h start len ∷ [])) is
-    ∙ ap (λ n. kept_in (map placed_record records ++ placed_with (reading_of p.content.fields) n len ∷ [])) from
-    ∙ ap (λ n. kept_in (map placed_record records ++ placed_with (reading_of p.content.fields) p.block_start n ∷ [])) size
-    ∙ ap kept_in (sym (map-append placed_record records (p ∷ [])))
-
-pub kept_more : (records : List Placed) (p : Placed) (index : Indexes) (parts : Parts) (head : Reading) (start len : ℕ) → head ≡ reading_of p.content.fields → start ≡ p.block_start
-    → len ≡ length p.content.block → IsIndexOf (map indexed_record records ++ indexed_of head ∷ []) index → parts ≡ kept_in (map placed_record records ++ placed_with head start len ∷ [])
-    → AreOf (records ++ p ∷ []) index parts
-kept_more records p index parts head start len is from size indexed joined =
-    record { index_is = index_more records p index head is indexed; parts_are = parts_more records p parts head start len is from size joined }
 
 -- the same opening, by what is made of its answer
 pub opens_with : {X Y : Type 0} {Is : List ℕ → X → Type 0} {Gives : List ℕ → Y → Type 0} {start : ℕ} {old new : SeenSource} (x : X) (y : Y) → ((bytes : List ℕ) → Is bytes x → Gives bytes y) → OpensFrom start Is old new (Ok x)
@@ -70,13 +44,6 @@ refuses_with f opens = record {
   };
   cost = opens.cost;
 }
-
--- the last record is forgotten
-pub index_back : (records : List Placed) (index : Indexes) (x : Indexed) (n : ℕ) → n ≡ length records → IsIndexOf (take n (map indexed_record records ++ x ∷ [])) index → IsIndexOf (map indexed_record records) index
-index_back records index x n size kept =
-    let front : take n (map indexed_record records ++ x ∷ []) ≡ map indexed_record records =
-    ap (λ k. take k (map indexed_record records ++ x ∷ [])) (size ∙ sym (length-map records indexed_record)) ∙ take-append_seam (map indexed_record records) (x ∷ []) in
-    subst (λ l. IsIndexOf l index) front kept
 
 -- all but the first records are forgotten
 pub forgotten : (records : List Placed) (n : ℕ) (index : Indexes) (parts : Parts) → IsIndexOf (take n (map indexed_record records)) index → parts ≡ kept_in (take n (map placed_record records))
