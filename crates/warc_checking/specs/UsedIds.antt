@@ -3,11 +3,9 @@
 -- the levels of four buckets, two bits each. The bucket of each id is kept.
 -- States of the code: no public clause cites them.
 use Rattle.std.specs.Prelude.{◌≡◌, ℕ, ◌*◌, ◌/◌, ◌%◌, ◌^◌, ◌<◌, ◌≤◌, false, List, length, Option, Some, slice_index}
-use Rattle.std.specs.BTreeSet.{BTreeSet, contains}
-use Rattle.std.specs.Cmp.Lexicographic.{slice_cmp}
 use Rattle.std.specs.Hash.FoldHasher.{finish, initial, write}
-use Rattle.std.specs.List.{slice_get}
-use Rattle.std.specs.Ordering.{nat_cmp}
+use Rattle.std.specs.List.{list_any, slice_get}
+use Rattle.std.specs.Str.{bytes_eq}
 use Rattle.warc_frame.specs.Record.{Record}
 use Rattle.warc_record.specs.Ids.{id_key}
 use Rattle.warc_checking.specs.Checking.{is_used}
@@ -48,12 +46,12 @@ pub record IsTally (n : ℕ) (rows : List Row) (counts buckets : List ℕ) : Typ
 pub record Ids : Type 0 where
   pub counts : List ℕ
   pub buckets : List ℕ
-  pub keys : BTreeSet (List ℕ)
+  pub keys : List (List ℕ)
 
--- of the keys in buckets of several, the set holds those of the ids of these records, and no others
+-- of the keys in buckets of several, those of the ids of these records are kept, and no others
 abbrev pub HoldsIdsOf : List Record → Ids → Type 0
 HoldsIdsOf records ids = (key : List ℕ) → 1 < level ids.counts key
-    → contains (slice_cmp nat_cmp) ids.keys key ≡ is_used records (Some key)
+    → list_any (bytes_eq key) ids.keys ≡ is_used records (Some key)
 
 -- a key in a bucket of one is that of no id of these records
 abbrev pub IsAlone : List Record → Ids → Option (List ℕ) → Type 0

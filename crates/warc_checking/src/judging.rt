@@ -25,6 +25,7 @@ use warc_field::Fields;
 use warc_frame::Source;
 use warc_quick::{QuickHead, QuickRecord, faultless_head};
 use warc_reading::{BlockDigest, Keep, RereadFault, Row, good_head_in, reread_text};
+use warc_record::GoodHead;
 use warc_value::{Verdict, Wanted};
 
 /// How many bytes a read asks for: 1 MiB. A record that a read cuts is hashed alone, so few are cut.
@@ -363,12 +364,12 @@ impl<A: Allocator + Copy> Keep<A> for Judging<A> {
         &mut self,
         alloc: A,
         _position: usize,
-        fields: &Fields<A>,
+        head: &GoodHead<A>,
         _block_start: u64,
         block_len: u64,
         block: BlockDigest,
     ) -> Result<(), AllocError> {
-        self.add(alloc, fields, block_len, block.verdict())
+        self.add(alloc, head.fields(), block_len, block.verdict())
     }
 
     fn keep_plain(

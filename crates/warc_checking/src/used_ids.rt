@@ -10,7 +10,7 @@ use std::collections::BTreeSet;
 use std::hash::{FoldHasher, Hasher};
 use std::marker::Model;
 use warc_reading::Rows;
-use warc_record::{IdKey, id_key, uuid_id_key};
+use warc_record::id_key;
 
 /// How many buckets have their levels in one byte.
 const BUCKETS_IN_BYTE: usize = 4;
@@ -82,22 +82,19 @@ fn count_key(key: &[u8], counts: &mut [u8]) -> u32
 }
 
 /// Counts the id that a text holds, and returns its bucket. If it holds none, the bucket is 0.
-fn count_id<A: Allocator>(alloc: A, text: &[u8], counts: &mut [u8]) -> Result<u32, AllocError>
+fn count_id(text: &[u8], counts: &mut [u8]) -> u32
     requires some { 0 < length counts.old }
     requires few { buckets_in counts.old ≤ 2 ^ 32 }
     ensures more { (other : List ℕ) → level counts.old other ≤ level counts.new other }
-    ensures once { (key : List ℕ) → id_key text.now ≡ Some key → OnOk result (0 < level counts.new key) }
+    ensures once { (key : List ℕ) → id_key text.now ≡ Some key → 0 < level counts.new key }
     ensures twice { (key : List ℕ) → id_key text.now ≡ Some key → 0 < level counts.old key →
-        OnOk result (1 < level counts.new key) }
+        1 < level counts.new key }
     ensures bucket { (key : List ℕ) → id_key text.now ≡ Some key →
-        IfOk result (λ bucket. bucket ≡ bucket_of (buckets_in counts.old) key) }
+        result ≡ bucket_of (buckets_in counts.old) key }
 {
-    if let Some(key) = uuid_id_key(text) {
-        return Ok(count_key(key.as_slice(), counts));
-    }
-    match id_key(alloc, text)? {
-        Some(key) => Ok(count_key(key.bytes(), counts)),
-        None => Ok(0),
+    match id_key(text) {
+        Some(key) => count_key(key.bytes(), counts),
+        None => 0,
     }
 }
 
@@ -123,7 +120,7 @@ fn tally_rows<A: Allocator + Copy>(alloc: A, rows: &Rows<A>) -> Result<Tally<A>,
         let Some(row) = rows.get(position) else {
             unreachable!()
         };
-        let bucket = count_id(alloc, row.id, &mut counts)?;
+        let bucket = count_id(row.id, &mut counts);
         buckets.push(bucket)?;
     }
     Ok(Tally { counts, buckets })
@@ -134,16 +131,21 @@ fn tally_rows<A: Allocator + Copy>(alloc: A, rows: &Rows<A>) -> Result<Tally<A>,
 pub(crate) struct UsedIds<A: Allocator> {
     counts: Vec<u8, A>,
     buckets: Vec<u32, A>,
-    keys: BTreeSet<IdKey<A>, A>,
+    keys: BTreeSet<Vec<u8, A>, A>,
 }
 
 impl<A: Allocator> Model for UsedIds<A> {
-    ghost use Rattle.std.specs.Prelude.{◌<◌, length};
+    ghost use Rattle.std.specs.Prelude.{◌<◌, length, map};
+    ghost use Rattle.std.specs.Vec.{vec_items};
     ghost use Rattle.warc_checking.specs.UsedIds.{Ids};
 
     ghost Value = { Ids };
 
-    ghost view = { λ m. record { counts = m.counts.items; buckets = m.buckets.items; keys = m.keys } };
+    ghost view = { λ m. record {
+      counts = m.counts.items;
+      buckets = m.buckets.items;
+      keys = map vec_items m.keys.keys;
+    } };
 
     ghost invariant = { λ m. 0 < length m.counts.items };
 }
@@ -191,12 +193,16 @@ impl<A: Allocator + Copy> UsedIds<A> {
         if !self.is_shared(position) {
             return Ok(false);
         }
-        let Some(key) = id_key(alloc, text)? else {
+        let Some(key) = id_key(text) else {
             return Ok(false);
         };
-        let Ok(added) = self.keys.insert(key) else {
+        if self.keys.contains(key.bytes()) {
+            return Ok(true);
+        }
+        let kept = Vec::from_slice(alloc, key.bytes())?;
+        let Ok(_) = self.keys.insert(kept) else {
             return Err(AllocError);
         };
-        Ok(!added)
+        Ok(false)
     }
 }

@@ -10,15 +10,15 @@ use Rattle.warc_checking.proofs.used_ids.tally_rows.Goals as goal
 pub counting-preserved : goal.counting-preserved
 counting-preserved g c =
     let old = c.counting.counts.items in
-    let new = c.count_id.new.counts in
+    let new = c.count_id-bucket.new.counts in
     let row_is : slice_get c.args.rows.now c.counting.position ≡ Some c.in-Some.row = sym c.get.ensures ∙ c.in-Some.is in
     let value : c.deref_mut.result.now ≡ old = c.deref_mut.ensures.value in
-    let size : length new ≡ length old = c.count_id.auto.counts ∙ ap length value in
+    let size : length new ≡ length old = c.count_id-bucket.auto.counts ∙ ap length value in
     let len : c.counting.counts.len ≡ length old = search rules in
     let text = ap (λ (r : Row). id_key r.id) c.row.view_is in
     let whole = whole_back c.counting.counts.len new old len size in
     let buckets = c.counting.buckets.items in
-    let bucket = c.in_ok-bucket.bucket in
+    let bucket = c.count_id-bucket.result in
     let next = c.push.new.self.items in
     let pushed : next ≡ buckets ++ bucket ∷ [] = search rules in
     let P : List ℕ → Type 0 = λ l. IsTally (c.counting.position + 1) c.args.rows.now l next in
@@ -26,9 +26,9 @@ counting-preserved g c =
     let Few : List ℕ → Type 0 = λ l. buckets_in l ≤ 2 ^ 32 in
     let more =
     tally_more c.counting.position c.args.rows.now c.in-Some.row old new buckets bucket row_is (omega (arith, c.counting.invariant.tally.some, size))
-    size c.counting.invariant.len (λ key is. c.in_ok-bucket.ensures.bucket key (text ∙ is) ∙ ap (λ l. bucket_of (buckets_in l) key) value)
-    (rw (← value) c.count_id.ensures.more) (λ key is. c.in_ok-bucket.ensures.once key (text ∙ is))
-    (λ key is seen. c.in_ok-bucket.ensures.twice key (text ∙ is) (rw value seen)) c.counting.invariant.tally in
+    size c.counting.invariant.len (λ key is. c.count_id-bucket.ensures.bucket key (text ∙ is) ∙ ap (λ l. bucket_of (buckets_in l) key) value)
+    (rw (← value) c.count_id-bucket.ensures.more) (λ key is. c.count_id-bucket.ensures.once key (text ∙ is))
+    (λ key is seen. c.count_id-bucket.ensures.twice key (text ∙ is) (rw value seen)) c.counting.invariant.tally in
     record {
       tally = subst P (sym whole) (subst Q (sym pushed) more);
       few = subst Few (sym whole) (omega (arith, size, c.counting.invariant.few));
