@@ -7,7 +7,6 @@ ghost use Rattle.warc_answer.specs.Payloads.{is_http, is_http_response};
 use crate::answer::{Reason, ReplayFault};
 use crate::blocks::{any_bad, judge_blocks};
 use crate::replay::total;
-use std::alloc::Allocator;
 use warc_frame::{OutFault, PIECE, Source};
 use warc_payload::laws::{front_tells_head, front_tells_no_head};
 use warc_payload::{MOST_HEAD_BYTES, body_start};
@@ -34,11 +33,11 @@ fn is_http(uri: &[u8]) -> bool
 
 /// Whether a record's block begins with the head of an HTTP response: it is a response, and its target begins with
 /// `http:` or `https:`.
-pub(crate) fn is_http_response<A: Allocator>(origin: &Typed<A>) -> bool
+pub(crate) fn is_http_response(origin: &Typed<'_>) -> bool
     ensures { result ≡ is_http_response (said origin.now) }
 {
-    match (&origin.kind, &origin.target) {
-        (Kind::Response, Some(target)) => is_http(target.bytes()),
+    match (origin.kind, origin.target()) {
+        (Kind::Response, Some(target)) => is_http(target),
         _ => false,
     }
 }

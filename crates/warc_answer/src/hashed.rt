@@ -18,7 +18,6 @@ ghost use Rattle.warc_answer.specs.Places.{LieIn, ReadsPlaces, len_of, text_at};
 use crate::blocks::{SHORT, any_bad, judge_blocks};
 use crate::body::is_http_response;
 use crate::replay::total;
-use std::alloc::Allocator;
 use warc_fixity::{Algorithm, Digest, Hasher};
 use warc_frame::{PIECE, ReadFault, Source, read_range};
 use warc_payload::laws::{front_tells_head, front_tells_no_head};
@@ -255,9 +254,9 @@ fn digest_payload<S: Source>(
 /// if a joined block isn't what its digest says, or if an HTTP response has no HTTP head. `places` are the places of
 /// the joined blocks, as `Parts::join` gives them; `origin` is what the origin's head says. Each byte of the joined
 /// blocks is read at most twice, and none is kept.
-pub fn digest_joined<S: Source, A: Allocator>(
+pub fn digest_joined<S: Source>(
     source: &mut S,
-    origin: &Typed<A>,
+    origin: &Typed<'_>,
     places: &[Place],
     algorithm: Algorithm,
 ) -> Result<Option<PayloadDigest>, ReadFault>
@@ -273,9 +272,9 @@ pub fn digest_joined<S: Source, A: Allocator>(
 
 /// The digest of the payload in the block of a record alone, which is `len` bytes at an offset. None if the record is
 /// an HTTP response without an HTTP head. The block's own digest isn't judged.
-pub fn digest_own<S: Source, A: Allocator>(
+pub fn digest_own<S: Source>(
     source: &mut S,
-    head: &Typed<A>,
+    head: &Typed<'_>,
     start: u64,
     len: u64,
     algorithm: Algorithm,

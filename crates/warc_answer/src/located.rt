@@ -98,7 +98,7 @@ pub fn locate_joined<S: Source, A: Allocator + Copy>(
     alloc: A,
     source: &mut S,
     path: Path,
-    origin: &Typed<A>,
+    origin: &Typed<'_>,
     places: &[Place],
 ) -> Result<Located<A>, ReplayFault>
     ensures located { IfHeld (S.seen source.old).holds (λ bytes. (records : List Record)

@@ -17,7 +17,6 @@ ghost use Rattle.warc_answer.specs.Replays.{IsReplayOn, WantsNoMemory, WritesLat
 use crate::answer::{Answer, Path, Reason, ReplayFault};
 use crate::blocks::send_blocks;
 use crate::body::{find_body, is_http_response};
-use std::alloc::Allocator;
 use warc_frame::{Sink, Source};
 use warc_payload::laws::one_of_three;
 use warc_record::Typed;
@@ -50,10 +49,10 @@ pub(crate) struct Begun {
 }
 
 /// What is said of the payload of an origin, and where in the joined blocks it begins. The joined blocks are judged.
-pub(crate) fn begin_body<S: Source, A: Allocator>(
+pub(crate) fn begin_body<S: Source>(
     source: &mut S,
     path: Path,
-    origin: &Typed<A>,
+    origin: &Typed<'_>,
     places: &[Place],
 ) -> Result<Begun, ReplayFault>
     ensures begun { IfHeld (S.seen source.old).holds (λ bytes. (records : List Record)
@@ -87,10 +86,10 @@ pub(crate) fn begin_body<S: Source, A: Allocator>(
 /// `Parts::join` gives them; `origin` is what the origin's head says. For a reason, nothing is written. No block is
 /// kept: the joined blocks are read once to judge their digests and to find the HTTP head, and once more to write the
 /// body, through a buffer of 8,192 bytes. If the source changes in between, the body isn't what was judged.
-pub fn replay_joined<S: Source, W: Sink, A: Allocator>(
+pub fn replay_joined<S: Source, W: Sink>(
     source: &mut S,
     path: Path,
-    origin: &Typed<A>,
+    origin: &Typed<'_>,
     places: &[Place],
     out: &mut W,
 ) -> Result<Answer, ReplayFault>

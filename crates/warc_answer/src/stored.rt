@@ -191,7 +191,7 @@ fn judge_other<S: Source, A: Allocator + Copy>(
 pub fn judge_joined<S: Source, A: Allocator + Copy>(
     alloc: A,
     source: &mut S,
-    origin: &Typed<A>,
+    origin: &Typed<'_>,
     own: &[u8],
     places: &[Place],
 ) -> Result<Stored<A>, ReplayFault>
