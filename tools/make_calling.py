@@ -15,7 +15,16 @@ from collections.abc import Iterator
 from shared import TOP, matched, read
 
 PAGE = "crates/warc/CALLING.md"
-SOURCES = ("archives", "reader", "iterating", "fixity", "front", "payloads", "stated", "summary")
+SOURCES = (
+    "warc/src/archives",
+    "warc/src/reader",
+    "warc_reading/src/iterating",
+    "warc/src/checking",
+    "warc/src/fixity",
+    "warc/src/payloads",
+    "warc/src/stated",
+    "warc/src/summary",
+)
 CALLER = (
     ("rust", "crates/example_page/src/page.rt"),
     ("antt", "crates/example_page/specs/Page.antt"),
@@ -84,7 +93,7 @@ def calls(text: str) -> Iterator[tuple[str, list[str]]]:
 
 
 def types(text: str) -> list[str]:
-    """The public types of a source file that has no public function: what contracts see of them, and what they give."""
+    """The public types of a source file of iterators: what contracts see of them, and what they give."""
     lines: list[str] = []
     comment: list[str] = []
     for line in text.splitlines():
@@ -100,9 +109,9 @@ def types(text: str) -> list[str]:
 def contracts() -> Iterator[str]:
     """A section for each file, with its calls by their type."""
     for name in SOURCES:
-        text = read(f"crates/warc/src/{name}.rt")
+        text = read(f"crates/{name}.rt")
         title = matched(re.match(r"//! (.*)", text))[1].rstrip(".")
-        yield f"### {title} (`{name}.rt`)\n"
+        yield f"### {title} (`{name.rpartition('/')[2]}.rt`)\n"
         last = None
         lines = []
         for kind, call in calls(text):
@@ -110,7 +119,7 @@ def contracts() -> Iterator[str]:
                 lines += [kind] if kind else []
             last = kind
             lines += [*call, ""]
-        yield "```rust\n" + "\n".join(lines or types(text)).rstrip() + "\n```\n"
+        yield "```rust\n" + "\n".join(types(text) if "Iterator for" in text else lines).rstrip() + "\n```\n"
 
 
 def page() -> str:

@@ -5,7 +5,7 @@ use crate::sources::{broken, source_of};
 use crate::telling::{add_number, add_text};
 use std::alloc::{AllocError, Allocator, Global};
 use suites_script::Case;
-use warc::{Front, open_front};
+use warc::{Listing, open_front};
 use warc_frame::{Fault, FaultKind, MemSink, OutFault, Sink, Source};
 use warc_vectors::{Break, BrokenSource, BrokenWriter, RefusingAllocator};
 
@@ -14,6 +14,9 @@ const MOST: u64 = 5000;
 
 /// How many bytes a write takes at most where writes break.
 const PIECE: usize = 7;
+
+/// The good records at the front of a source, and the fault after them.
+type Front<S, A> = (Listing<S, A>, Option<Fault>);
 
 /// What a front says of itself, what copying it answers, and the bytes that went out.
 #[derive(Drop)]
@@ -53,10 +56,10 @@ impl Copied {
 /// What a front gives that is copied to a sink in memory.
 fn copy_whole<S: Source, A: Allocator>(alloc: Global, front: &mut Front<S, A>) -> Copied {
     let mut out = MemSink::new(Vec::new(alloc));
-    let told = front.copy_to(&mut out);
+    let told = front.0.copy_to(&mut out);
     Copied {
-        fault: front.fault(),
-        records: front.count(),
+        fault: front.1,
+        records: front.0.count(),
         told,
         sent: out.into_inner(),
     }
@@ -71,7 +74,7 @@ fn copied_twice<S: Source, A: Allocator + Copy>(
     let mut front = open_front(heap, source);
     let first = copy_whole(alloc, &mut front);
     let again = copy_whole(alloc, &mut front);
-    (first, again, front.into_source())
+    (first, again, front.0.into_source())
 }
 
 /// What the front of these bytes gives.
@@ -244,10 +247,10 @@ fn copied_to<S: Source, A: Allocator>(
     (number, how): (u64, Break),
 ) -> Result<Copied, AllocError> {
     let mut out = BrokenWriter::new(alloc, number, how).taking(PIECE);
-    let told = front.copy_to(&mut out);
+    let told = front.0.copy_to(&mut out);
     Ok(Copied {
-        fault: front.fault(),
-        records: front.count(),
+        fault: front.1,
+        records: front.0.count(),
         told,
         sent: out.bytes().to_vec(alloc)?,
     })
@@ -391,6 +394,6 @@ pub(crate) fn add_front(
     add_requests(alloc, requests, case.number(1), answer)?;
     let mut front = open_front(alloc, source_of(alloc, archive, usize::MAX)?);
     let told = add_writes(alloc, &mut front, &whole, answer);
-    front.into_source();
+    front.0.into_source();
     told
 }

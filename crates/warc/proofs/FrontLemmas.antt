@@ -1,6 +1,7 @@
 -- The good front of a source.
 use Rattle.std.proofs.Common.{◌≡◌, ℕ, ◌^◌, ◌<◌, ◌≤◌, List, [], ◌++◌, length, take, drop, Option, Some, None, Ok, Err, refl, sym, ap, subst, ◌∙◌, arith, length-append}
 use Rattle.std.specs.Prelude.{Result}
+use Rattle.std.specs.Result.{result_err}
 use Rattle.std.proofs.Math.Seq.{take-append_seam}
 use Rattle.std.proofs.lemmas.List.{append_assoc, append-nil, take-append-drop}
 use Rattle.std.specs.Io.KnownBytes.{append_known}
@@ -18,34 +19,14 @@ use Rattle.warc_reading.specs.Fronts.{AreFrontRows, reach_of}
 use Rattle.warc_reading.specs.Growing.{grown}
 use Rattle.warc_reading.specs.Opening.{Opens}
 use Rattle.warc_reading.specs.Row.{Row}
-use Rattle.warc.specs.Front.{CopiesFront, Fronted, AreRowsOfFront, OpensFront, refused_by}
+use Rattle.warc.specs.Front.{CopiesFront, AreRowsOfFront, OpensFront}
 
 -- ---- what was opened
 
-abbrev pub fault_in : Result (Unit {0}) Fault → Option Fault
-fault_in (Ok u) = None
-fault_in (Err f) = Some f
-
-pub front_opened : {S : Type 0} (front : Fronted S) (rows : List Row) (old new : SeenSource) (answer given : Result (Unit {0}) Fault) → answer ≡ given → front.listing.rows ≡ rows → front.fault ≡ fault_in given
-    → Opens IsArchiveOf old new (grown answer rows) → ((bytes : List ℕ) → old.holds ≡ Some bytes → AreFrontRows bytes answer rows) → OpensFront old new front
-front_opened front rows old new answer (Ok u) is same none opens fronts =
-    let P : Option Fault → List Row → Type 0 = λ f xs. Opens IsArchiveOf old new (refused_by f xs) in
-    let Q : Option Fault → List Row → Type 0 = λ f xs. (bytes : List ℕ) → old.holds ≡ Some bytes → AreRowsOfFront bytes f xs in
-    let O : Result (Unit {0}) Fault → Type 0 = λ r. Opens IsArchiveOf old new (grown r rows) in
-    let F : Result (Unit {0}) Fault → Type 0 = λ r. (bytes : List ℕ) → old.holds ≡ Some bytes → AreFrontRows bytes r rows in
-    record {
-      opens = subst (λ f. P f front.listing.rows) (sym none) (subst (λ xs. P None xs) (sym same) (subst O is opens));
-      rows_are = subst (λ f. Q f front.listing.rows) (sym none) (subst (λ xs. Q None xs) (sym same) (subst F is fronts));
-    }
-front_opened front rows old new answer (Err e) is same some opens fronts =
-    let P : Option Fault → List Row → Type 0 = λ f xs. Opens IsArchiveOf old new (refused_by f xs) in
-    let Q : Option Fault → List Row → Type 0 = λ f xs. (bytes : List ℕ) → old.holds ≡ Some bytes → AreRowsOfFront bytes f xs in
-    let O : Result (Unit {0}) Fault → Type 0 = λ r. Opens IsArchiveOf old new (grown r rows) in
-    let F : Result (Unit {0}) Fault → Type 0 = λ r. (bytes : List ℕ) → old.holds ≡ Some bytes → AreFrontRows bytes r rows in
-    record {
-      opens = subst (λ f. P f front.listing.rows) (sym some) (subst (λ xs. P (Some e) xs) (sym same) (subst O is opens));
-      rows_are = subst (λ f. Q f front.listing.rows) (sym some) (subst (λ xs. Q (Some e) xs) (sym same) (subst F is fronts));
-    }
+pub front_opened : (rows : List Row) (old new : SeenSource) (answer : Result (Unit {0}) Fault) (fault : Option Fault) → fault ≡ result_err answer
+    → Opens IsArchiveOf old new (grown answer rows) → ((bytes : List ℕ) → old.holds ≡ Some bytes → AreFrontRows bytes answer rows) → OpensFront old new rows fault
+front_opened rows old new (Ok u) fault is opens fronts = rw is (record { opens = opens; rows_are = fronts })
+front_opened rows old new (Err e) fault is opens fronts = rw is (record { opens = opens; rows_are = fronts })
 
 -- the bytes begin with those of the records
 pub front_begins : (bytes : List ℕ) (found : Option Fault) (rows : List Row) → AreRowsOfFront bytes found rows → (text more : List ℕ) × (bytes ≡ text ++ more) × IsArchiveOf text rows

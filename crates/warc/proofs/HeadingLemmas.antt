@@ -1,7 +1,6 @@
 -- A head that is read again is that of the record there.
-use Rattle.std.proofs.Common.{◌≡◌, ◌≢◌, ℕ, zero, suc, ◌+◌, ◌≤◌, min, length, drop, List, [], ◌∷◌, Some, None, Result, Ok, Err, IfErr, refl, sym, ap, subst, ◌∙◌, arith}
+use Rattle.std.proofs.Common.{◌≡◌, ◌≢◌, ℕ, List, [], ◌∷◌, Some, None, Result, Ok, Err, IfErr, refl, sym, ap, subst, ◌∙◌, arith}
 use Rattle.std.specs.List.{slice_get}
-use Rattle.std.proofs.lemmas.Option.{slice_get_within}
 use Rattle.std.specs.Option.{option_to_list}
 use Rattle.warc_frame.specs.Seen.{SeenSource}
 use Rattle.warc_frame.specs.declared.reading.Head.{Head}
@@ -49,21 +48,3 @@ takes_head law rows i row old new r at given end reads fails = record {
       let (p, there, same) = placed is.are.records i row (sym (ap (λ l. slice_get l i) is.are.rows_are) ∙ at) in
       record { placed = p; has = (checkable_archive law bytes rows is rows refl).heads i p there; row_is = same }) fails;
 }
-
--- the rows that are left at a position
-pub none_left : {X : Type 0} (xs : List X) (i : ℕ) → slice_get xs i ≡ None → drop i xs ≡ []
-none_left [] zero is = refl
-none_left [] (suc i) is = refl
-none_left (x ∷ xs) zero is = absurd (cc is)
-none_left (x ∷ xs) (suc i) is = none_left xs i is
-
-one_left : {X : Type 0} (xs : List X) (i : ℕ) (x : X) → slice_get xs i ≡ Some x → drop i xs ≡ x ∷ drop (suc i) xs
-one_left [] i x is = absurd (cc is)
-one_left (y ∷ ys) zero x is = let same : y ≡ x = cc is in ap (λ z. z ∷ ys) same
-one_left (y ∷ ys) (suc i) x is = one_left ys i x is
-
-pub some_left : {X : Type 0} (xs : List X) (i n most : ℕ) (x : X) → slice_get xs i ≡ Some x → length xs ≤ most → n ≡ min (length xs) (min (i + 1) most) → drop i xs ≡ x ∷ drop n xs
-some_left xs i n most x is within next =
-    let inside = slice_get_within xs i x is in
-    let one : n ≡ suc i = omega (arith, inside, within, next) in
-    one_left xs i x is ∙ ap (λ k. x ∷ drop k xs) (sym one)

@@ -1,12 +1,11 @@
 -- How the blocks of an archive compare with the digests that their heads state, and the lines that say so. This
 -- project's own notion.
-use Rattle.std.specs.Prelude.{◌≡◌, ℕ, List, [], ◌∷◌, ◌++◌, length, map, slice_get, unwrap_or, codes, decimal, Result, Ok, Err}
+use Rattle.std.specs.Prelude.{◌≡◌, ℕ, List, [], ◌∷◌, ◌++◌, length, map, slice_get, unwrap_or, codes, decimal}
 use Rattle.std.specs.List.{enumerate_from, flat_map, join_with_byte}
 use Rattle.warc_field.specs.Area.{Pair, first_value}
 use Rattle.warc_value.specs.declared.hash.Verdict.{Verdict}
 use Rattle.warc_value.specs.declared.hash.Verdict.TheVariants.{Good, Bad, Unchecked}
 use Rattle.warc_fixity.specs.Judged.{stated_verdict}
-use Rattle.warc_frame.specs.declared.fault.Fault.{Fault}
 use Rattle.warc_frame.specs.Names.{warc_block_digest}
 use Rattle.warc_record.specs.Ids.{bare_text}
 use Rattle.warc_reading.specs.Archive.{Contents, IsArchiveOf}
@@ -50,15 +49,6 @@ pub record AreDigested (bytes : List ℕ) (rows : List Row) (judged : Judgements
 
 abbrev pub IsDigested : {S : Type 0} → List ℕ → Digested S → Type 0
 IsDigested bytes digested = AreDigested bytes digested.listing.rows digested.judged
-
--- what opening gives, or why it gives none; and the source that it leaves
-abbrev pub digested_of : {S : Type 0} → Result (Digested S) (Fault × S) → Result (Digested S) Fault
-digested_of (Ok digested) = Ok digested
-digested_of (Err refused) = Err refused.0
-
-abbrev pub source_digested : {S : Type 0} → Result (Digested S) (Fault × S) → S
-source_digested (Ok digested) = digested.listing.source
-source_digested (Err refused) = refused.1
 
 -- how many records there are, and how many of each verdict
 abbrev pub counts_of : List Verdict → Counts

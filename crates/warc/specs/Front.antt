@@ -8,7 +8,7 @@ use Rattle.warc_frame.specs.Seen.{IfHeld, Seen, SeenSource}
 use Rattle.warc_frame.specs.Send.{WentOut, sent_of}
 use Rattle.warc_frame.specs.declared.fault.Fault.{Fault}
 use Rattle.warc_frame.specs.declared.fault.OutFault.{OutFault}
-use Rattle.warc_reading.specs.Archive.{Contents, IsArchiveOf}
+use Rattle.warc_reading.specs.Archive.{IsArchiveOf}
 use Rattle.warc_reading.specs.Fronts.{IsLongestFront, reach_of}
 use Rattle.warc_reading.specs.Opening.{Opens}
 use Rattle.warc_reading.specs.Row.{Row}
@@ -23,16 +23,11 @@ abbrev pub AreRowsOfFront : List ℕ → Option Fault → List Row → Type 0
 AreRowsOfFront bytes None rows = IsArchiveOf bytes rows
 AreRowsOfFront bytes (Some f) rows = IsLongestFront (take (reach_of f) bytes) rows
 
--- a source that may hold more, the rows of the good records at its front, and the fault after these, if there is one
-pub record Fronted (S : Type 0) : Type 0 where
-  pub listing : Contents S
-  pub fault : Option Fault
-
 -- Opening the good front of a source. The fault is the one by which opening the whole refuses it, and where the source
 -- holds bytes, the rows are those of the longest list of good records that they begin with.
-pub record OpensFront {S : Type 0} (old new : SeenSource) (front : Fronted S) : Type 0 where
-  pub opens : Opens IsArchiveOf old new (refused_by front.fault front.listing.rows)
-  pub rows_are : IfHeld old.holds (λ bytes. AreRowsOfFront bytes front.fault front.listing.rows)
+pub record OpensFront (old new : SeenSource) (rows : List Row) (fault : Option Fault) : Type 0 where
+  pub opens : Opens IsArchiveOf old new (refused_by fault rows)
+  pub rows_are : IfHeld old.holds (λ bytes. AreRowsOfFront bytes fault rows)
 
 -- a fact about the bytes of an archive of these rows, with which those begin that a source holds, fewer than 2^64
 abbrev pub IfBegun : SeenSource → List Row → (List ℕ → Type 0) → Type 0

@@ -1,12 +1,11 @@
 -- What an archive holds, in numbers and dates, and the lines that say so. This project's own notion.
-use Rattle.std.specs.Prelude.{◌≡◌, ◌≢◌, ℕ, ◌<◌, Bool, true, false, not, List, [], ◌∷◌, ◌++◌, length, map, filter, slice_get, codes, decimal, Option, Some, is_some, option_map, unwrap_or, MatchOption, Result, Ok, Err}
+use Rattle.std.specs.Prelude.{◌≡◌, ◌≢◌, ℕ, ◌<◌, Bool, true, false, not, List, [], ◌∷◌, ◌++◌, length, map, filter, slice_get, codes, decimal, Option, Some, is_some, option_map, unwrap_or, MatchOption}
 use Rattle.std.specs.List.{flat_map}
 use Rattle.warc_field.specs.Area.{Pair}
 use Rattle.warc_value.specs.Dates.{Instant, instant_of}
 use Rattle.warc_value.specs.declared.hash.Verdict.{Verdict}
 use Rattle.warc_value.specs.declared.hash.Verdict.TheVariants.{Good, Bad, Unchecked}
 use Rattle.warc_frame.specs.Names.{warc_segment_number}
-use Rattle.warc_frame.specs.declared.fault.Fault.{Fault}
 use Rattle.warc_record.specs.Readings.{present_value}
 use Rattle.warc_record.specs.declared.types.Kind.TheVariants.{Warcinfo, Response, Resource, Request, Metadata, Revisit, Conversion, Continuation, Other}
 use Rattle.warc_index.specs.Captures.{is_earlier}
@@ -47,15 +46,6 @@ pub record AreFlagged (bytes : List ℕ) (rows : List Row) (flags : Flags) : Typ
 
 abbrev pub IsSummarized : {S : Type 0} → List ℕ → Flagged S → Type 0
 IsSummarized bytes flagged = AreFlagged bytes flagged.listing.rows flagged.flags
-
--- what opening gives, or why it gives none; and the source that it leaves
-abbrev pub summarized_of : {S : Type 0} → Result (Flagged S) (Fault × S) → Result (Flagged S) Fault
-summarized_of (Ok flagged) = Ok flagged
-summarized_of (Err refused) = Err refused.0
-
-abbrev pub source_summarized : {S : Type 0} → Result (Flagged S) (Fault × S) → S
-source_summarized (Ok flagged) = flagged.listing.source
-source_summarized (Err refused) = refused.1
 
 abbrev pub instant_at : Row → Option Instant
 instant_at row = instant_of row.date

@@ -8,7 +8,7 @@ ghost use Rattle.warc.specs.Extracting.{Extracts, position_with};
 ghost use Rattle.warc_reading.specs.Keeping.{kept_bytes};
 ghost use Rattle.warc_index.specs.Captures.{AreCapturesOf, chosen_of};
 ghost use Rattle.warc_reading.specs.Archive.{IsArchiveOf};
-ghost use Rattle.warc_reading.specs.Indexed.{AreOf, IsIndexed, archive_of, indexed_record, source_left};
+ghost use Rattle.warc_reading.specs.Indexed.{AreOf, IsIndexed, IsUnchanged, indexed_record};
 ghost use Rattle.warc.specs.Capturing.{JudgesAll};
 ghost use Rattle.warc.specs.Captures.{capture_positions, captures_text};
 ghost use Rattle.warc.specs.Closure.{GivesNeeded, GivesOthers};
@@ -16,8 +16,8 @@ ghost use Rattle.warc.specs.Listing.{listing};
 ghost use Rattle.warc.specs.Outcomes.{GivesStoredAt, JudgesAt, answer_seen, outcome_seen};
 ghost use Rattle.warc_answer.specs.Answers.{path_from, path_of};
 ghost use Rattle.warc.specs.Locating.{LocatesAt, LocatesFor};
-ghost use Rattle.warc_reading.specs.Growing.{Grows, grown, source_grown, without_source};
-ghost use Rattle.warc_reading.specs.Opening.{Opens};
+ghost use Rattle.warc_reading.specs.Growing.{Grows};
+ghost use Rattle.warc_reading.specs.Opening.{Opens, source_left, without_source};
 ghost use Rattle.warc.specs.PayloadText.{payloads_text};
 ghost use Rattle.warc.specs.PayloadVerdicts.{GivesPayload, JudgesPayloads};
 ghost use Rattle.warc.specs.Replaying.{Replays};
@@ -26,22 +26,30 @@ ghost use Rattle.warc.specs.Judged.{GivesStated, GivesVerdict};
 ghost use Rattle.warc.specs.Selecting.{AreOthers, ArePositions, Selects, selected_text};
 ghost use Rattle.warc.specs.Taking.{GivesRecord};
 
+use crate::blocks::send_part;
+use crate::bodies::give_body;
 use crate::capture_line::list_outcomes;
-use crate::capturing::capture_positions;
+use crate::capturing::{capture_positions, judge_all};
+use crate::closing::{closed_positions, standing_positions};
+use crate::comparing::take_payload;
 use crate::fault::{BodyFault, ExtractFault, TakeFault};
-use crate::iterating::RowIter;
-use crate::outcome::{Outcome, StoredAt};
+use crate::judging::{take_stated_at, take_verdict_at};
+use crate::locating::{locate_at, locate_for};
+use crate::outcome::{Outcome, StoredAt, judge_at, send_at};
+use crate::part::Part;
 use crate::payload::PayloadVerdict;
-use crate::payloads::Payloads;
-use crate::reader::Listing;
-use crate::replay::{path_from, path_in};
+use crate::payloads::{Payloads, judge_payloads, list_payloads};
+use crate::records::take_record_at;
+use crate::replay::{path_from, path_in, replay_rows};
+use crate::row::list_rows;
+use crate::selecting::{other_positions, select_rows, selected_len};
 use std::alloc::{AllocError, Allocator, Global};
 use std::marker::Model;
-use std::mem;
 use warc_answer::{Answer, Located, Path, ReplayFault};
+use warc_checking::check_rows;
 use warc_frame::{Fault, Framed, OutFault, Sink, Source};
 use warc_index::Unfound;
-use warc_reading::{Lookup, Row, Rows, UnorderedLookup, read_on};
+use warc_reading::{Lookup, Opened, Row, RowIter, UnorderedLookup};
 use warc_record::id_key;
 use warc_value::{Moment, Verdict};
 
@@ -49,8 +57,7 @@ use warc_value::{Moment, Verdict};
 /// what its index and its parts keep.
 #[derive(Drop)]
 pub struct Archive<S: Source, A: Allocator = Global> {
-    listing: Listing<S, A>,
-    lookup: Lookup<A>,
+    opened: Opened<S, Lookup<A>, A>,
 }
 
 impl<S: Source, A: Allocator> Model for Archive<S, A> {
@@ -58,7 +65,11 @@ impl<S: Source, A: Allocator> Model for Archive<S, A> {
 
     ghost Value = { Archived S };
 
-    ghost view = { λ a. record { listing = a.listing; index = a.lookup.index; parts = a.lookup.parts } };
+    ghost view = { λ a. record {
+      listing = record { source = a.opened.source; rows = a.opened.rows };
+      index = a.opened.kept.index;
+      parts = a.opened.kept.parts;
+    } };
 }
 
 impl<S: Source, A: Allocator> Archive<S, A> {
@@ -66,35 +77,35 @@ impl<S: Source, A: Allocator> Archive<S, A> {
     pub fn count(&self) -> usize
         ensures { result ≡ length self.now.listing.rows }
     {
-        self.listing.count()
+        self.opened.rows.len()
     }
 
     /// What is kept of the record at a position, if there is one.
     pub fn row(&self, position: usize) -> Option<Row<'_>>
         ensures { result ≡ slice_get self.now.listing.rows position }
     {
-        self.listing.row(position)
+        self.opened.rows.get(position)
     }
 
     /// What is kept of each record, in order.
     pub fn rows(&self) -> RowIter<'_, A>
         ensures { result ≡ self.now.listing.rows }
     {
-        self.listing.rows()
+        self.opened.rows.iter()
     }
 
     /// Returns the source.
     pub fn into_source(self) -> S
         ensures { result ≡ self.listing.source }
     {
-        self.listing.into_source()
+        self.opened.source
     }
 
     /// Writes a line for each record, as a listing does.
     pub fn list<W: Sink>(&self, out: &mut W) -> Result<(), OutFault>
         ensures { SendsText (W.seen out.old) (W.seen out.new) result (listing self.now.listing.rows) }
     {
-        self.listing.list(out)
+        list_rows(&self.opened.rows, out)
     }
 }
 
@@ -102,17 +113,17 @@ impl<S: Source, A: Allocator + Copy> Archive<S, A> {
     /// Reads the source as a listing is read, and keeps with the rows what finds the records and joins their segments.
     /// Once all is read it is put in order, which takes no memory.
     pub fn open(alloc: A, source: S) -> Result<Archive<S, A>, (Fault, S)>
-        ensures { Opens IsIndexed (S.seen source) (S.seen (source_left result)) (archive_of result) }
+        ensures { Opens IsIndexed (S.seen source) (S.seen (source_left (λ a. a.listing.source) result))
+            (without_source (λ a. a) result) }
     {
-        let mut source = source;
-        let gathering = UnorderedLookup::new(alloc);
-        let (answer, rows, gathering) = read_on(alloc, &mut source, Rows::new(alloc), gathering);
-        match answer {
-            Ok(()) => Ok(Archive {
-                listing: Listing { source, rows },
-                lookup: gathering.into_lookup(),
-            }),
-            Err(fault) => Err((fault, source)),
+        match Opened::open(alloc, source, UnorderedLookup::new(alloc)) {
+            Ok(Opened { source, rows, kept }) => {
+                let kept = kept.into_lookup();
+                Ok(Archive {
+                    opened: Opened { source, rows, kept },
+                })
+            }
+            Err(refused) => Err(refused),
         }
     }
 
@@ -122,15 +133,12 @@ impl<S: Source, A: Allocator + Copy> Archive<S, A> {
     where
         S: Drop,
         ensures grows { Grows IsIndexed self.old (S.seen source) (S.seen
-            (source_grown result self.new.listing.source)) (grown (without_source result) self.new) }
+            (source_left (λ _. self.new.listing.source) result)) (without_source (λ _. self.new) result) }
         ensures refused { OnErr result (self.new.listing ≡ self.old.listing) }
         ensures stays { (bytes : List ℕ) → IsIndexed bytes self.old → OnErr result (IsIndexed bytes self.new) }
     {
-        let alloc = self.listing.allocator();
-        let found = mem::replace(&mut self.lookup, Lookup::new(alloc));
-        let (answer, lookup) = self.listing.grow_with(source, found);
-        self.lookup = lookup;
-        answer
+        let alloc = self.opened.rows.allocator();
+        self.opened.grow(source, Lookup::new(alloc))
     }
 
     /// How many bytes of texts are kept of the records: the texts that `list` writes, those by which records are found,
@@ -139,45 +147,36 @@ impl<S: Source, A: Allocator + Copy> Archive<S, A> {
         ensures sum { result ≡ min (kept_bytes self.now) 18446744073709551615 }
         ensures bounds { (bytes : List ℕ) → IsIndexed bytes self.now → IsKeptCount self.now result }
     {
-        let found = self
-            .lookup
-            .index
-            .kept()
-            .saturating_add(self.lookup.parts.kept());
-        self.listing.rows.kept().saturating_add(found)
+        let Opened { rows, kept, .. } = &self.opened;
+        let found = kept.index.kept().saturating_add(kept.parts.kept());
+        rows.kept().saturating_add(found)
     }
 
     /// The record at a position, as a listing gives it.
     pub fn record(&mut self, position: usize) -> Result<Framed<A>, TakeFault>
         ensures takes { GivesRecord self.old.listing.rows position (S.seen self.old.listing.source)
             (S.seen self.new.listing.source) result }
-        ensures rows { self.new.listing.rows ≡ self.old.listing.rows }
-        ensures index { self.new.index ≡ self.old.index }
-        ensures parts { self.new.parts ≡ self.old.parts }
+        ensures unchanged { IsUnchanged self.old self.new }
     {
-        self.listing.record(position)
+        take_record_at(&mut self.opened.source, &self.opened.rows, position)
     }
 
     /// How the block of the record at a position compares with its digest, as a listing gives it.
     pub fn verdict(&mut self, position: usize) -> Result<Verdict, TakeFault>
         ensures takes { GivesVerdict self.old.listing.rows position (S.seen self.old.listing.source)
             (S.seen self.new.listing.source) result }
-        ensures rows { self.new.listing.rows ≡ self.old.listing.rows }
-        ensures index { self.new.index ≡ self.old.index }
-        ensures parts { self.new.parts ≡ self.old.parts }
+        ensures unchanged { IsUnchanged self.old self.new }
     {
-        self.listing.verdict(position)
+        take_verdict_at(&mut self.opened.source, &self.opened.rows, position)
     }
 
     /// How the block of the record at a position compares with the digest that its head states, as a listing gives it.
     pub fn stated_verdict(&mut self, position: usize) -> Result<Verdict, TakeFault>
         ensures takes { GivesStated self.old.listing.rows position (S.seen self.old.listing.source)
             (S.seen self.new.listing.source) result }
-        ensures rows { self.new.listing.rows ≡ self.old.listing.rows }
-        ensures index { self.new.index ≡ self.old.index }
-        ensures parts { self.new.parts ≡ self.old.parts }
+        ensures unchanged { IsUnchanged self.old self.new }
     {
-        self.listing.stated_verdict(position)
+        take_stated_at(&mut self.opened.source, &self.opened.rows, position)
     }
 
     /// The position of the first record of any kind with the id that a text holds.
@@ -185,8 +184,8 @@ impl<S: Source, A: Allocator + Copy> Archive<S, A> {
         ensures { (records : List Placed) → AreOf records self.now.index self.now.parts →
             IfOk result (λ found. found ≡ position_with records id.now) }
     {
-        match id_key(self.listing.rows.allocator(), id)? {
-            Some(key) => Ok(self.lookup.index.first_with(&key)),
+        match id_key(self.opened.rows.allocator(), id)? {
+            Some(key) => Ok(self.opened.kept.index.first_with(&key)),
             None => Ok(None),
         }
     }
@@ -200,9 +199,7 @@ impl<S: Source, A: Allocator + Copy> Archive<S, A> {
     pub fn extract<W: Sink>(&mut self, id: &[u8], out: &mut W) -> Result<u64, ExtractFault>
         ensures extracts { Extracts self.old id.now (S.seen self.old.listing.source)
             (S.seen self.new.listing.source) (W.seen out.old) (W.seen out.new) result }
-        ensures rows { self.new.listing.rows ≡ self.old.listing.rows }
-        ensures index { self.new.index ≡ self.old.index }
-        ensures parts { self.new.parts ≡ self.old.parts }
+        ensures unchanged { IsUnchanged self.old self.new }
     {
         let Ok(found) = self.first_with(id) else {
             return Err(ExtractFault::Out(OutFault::Memory(0)));
@@ -210,7 +207,8 @@ impl<S: Source, A: Allocator + Copy> Archive<S, A> {
         let Some(position) = found else {
             return Err(ExtractFault::NoRecord);
         };
-        self.listing.block_to(position, out)
+        let Opened { source, rows, .. } = &mut self.opened;
+        send_part(source, rows, position, Part::Block, out)
     }
 
     /// The positions of the capture that is chosen for a URI as of a moment, and of its origin; or the reason P1 to
@@ -219,7 +217,7 @@ impl<S: Source, A: Allocator + Copy> Archive<S, A> {
         ensures { (records : List Placed) → AreOf records self.now.index self.now.parts → result ≡ path_of
             (map indexed_record records) uri.now moment.now }
     {
-        path_in(&self.lookup, uri, moment)
+        path_in(&self.opened.kept, uri, moment)
     }
 
     /// The positions of a capture and of its origin; or the reason P3 to P6.
@@ -227,7 +225,7 @@ impl<S: Source, A: Allocator + Copy> Archive<S, A> {
         ensures { (records : List Placed) → AreOf records self.now.index self.now.parts → result ≡ path_from
             (map indexed_record records) position }
     {
-        path_from(&self.lookup, position)
+        path_from(&self.opened.kept, position)
     }
 
     /// Where the body lies that `replay` writes: its answer, and the spans of the source whose bytes, one after
@@ -236,11 +234,10 @@ impl<S: Source, A: Allocator + Copy> Archive<S, A> {
     pub fn locate(&mut self, uri: &[u8], moment: &Moment) -> Result<Located<A>, ReplayFault>
         ensures locates { LocatesFor self.old.listing.rows self.old.index self.old.parts uri.now moment.now
             (S.seen self.old.listing.source) (S.seen self.new.listing.source) result }
-        ensures rows { self.new.listing.rows ≡ self.old.listing.rows }
-        ensures index { self.new.index ≡ self.old.index }
-        ensures parts { self.new.parts ≡ self.old.parts }
+        ensures unchanged { IsUnchanged self.old self.new }
     {
-        self.listing.locate(&self.lookup, uri, moment)
+        let Opened { source, rows, kept } = &mut self.opened;
+        locate_for(source, rows, kept, uri, moment)
     }
 
     /// Where the body lies that `replay_at` writes, as `locate` says it. If there is no record it is `NoRecord`, and if
@@ -248,11 +245,10 @@ impl<S: Source, A: Allocator + Copy> Archive<S, A> {
     pub fn locate_at(&mut self, position: usize) -> Result<Located<A>, BodyFault>
         ensures locates { LocatesAt self.old.listing.rows self.old.index self.old.parts position
             (S.seen self.old.listing.source) (S.seen self.new.listing.source) result }
-        ensures rows { self.new.listing.rows ≡ self.old.listing.rows }
-        ensures index { self.new.index ≡ self.old.index }
-        ensures parts { self.new.parts ≡ self.old.parts }
+        ensures unchanged { IsUnchanged self.old self.new }
     {
-        self.listing.locate_body(&self.lookup, position)
+        let Opened { source, rows, kept } = &mut self.opened;
+        locate_at(source, rows, kept, position)
     }
 
     /// Writes the body that was captured of a URI, as of a moment: the payload of the origin of the latest capture
@@ -271,11 +267,10 @@ impl<S: Source, A: Allocator + Copy> Archive<S, A> {
         ensures replays { Replays self.old.listing.rows self.old.index self.old.parts uri.now moment.now
             (S.seen self.old.listing.source) (S.seen self.new.listing.source) (W.seen out.old) (W.seen out.new)
             result }
-        ensures rows { self.new.listing.rows ≡ self.old.listing.rows }
-        ensures index { self.new.index ≡ self.old.index }
-        ensures parts { self.new.parts ≡ self.old.parts }
+        ensures unchanged { IsUnchanged self.old self.new }
     {
-        self.listing.replay(&self.lookup, uri, moment, out)
+        let Opened { source, rows, kept } = &mut self.opened;
+        replay_rows(source, rows, kept, uri, moment, out)
     }
 
     /// Writes the body that the capture at a position gives, as `replay` writes the body of the chosen capture. If
@@ -288,11 +283,10 @@ impl<S: Source, A: Allocator + Copy> Archive<S, A> {
         ensures gives { GivesBodyAt self.old.listing.rows self.old.index self.old.parts position
             (S.seen self.old.listing.source) (S.seen self.new.listing.source) (W.seen out.old) (W.seen out.new)
             result }
-        ensures rows { self.new.listing.rows ≡ self.old.listing.rows }
-        ensures index { self.new.index ≡ self.old.index }
-        ensures parts { self.new.parts ≡ self.old.parts }
+        ensures unchanged { IsUnchanged self.old self.new }
     {
-        self.listing.give_body(&self.lookup, position, out)
+        let Opened { source, rows, kept } = &mut self.opened;
+        give_body(source, rows, kept, position, out)
     }
 
     /// What the capture at a position gives, as `replay_at` judges it, without the body: the position of its origin,
@@ -301,11 +295,10 @@ impl<S: Source, A: Allocator + Copy> Archive<S, A> {
     pub fn outcome_at(&mut self, position: usize) -> Result<Outcome<A>, BodyFault>
         ensures judges { JudgesAt self.old.listing.rows self.old.index self.old.parts position
             (S.seen self.old.listing.source) (S.seen self.new.listing.source) result }
-        ensures rows { self.new.listing.rows ≡ self.old.listing.rows }
-        ensures index { self.new.index ≡ self.old.index }
-        ensures parts { self.new.parts ≡ self.old.parts }
+        ensures unchanged { IsUnchanged self.old self.new }
     {
-        self.listing.judge_at(&self.lookup, position)
+        let Opened { source, rows, kept } = &mut self.opened;
+        judge_at(source, rows, kept, position)
     }
 
     /// Writes what is stored of the origin of the capture at a position, as `replay_at` writes a body, but a coded one
@@ -318,18 +311,17 @@ impl<S: Source, A: Allocator + Copy> Archive<S, A> {
         ensures gives { GivesStoredAt self.old.listing.rows self.old.index self.old.parts position
             (S.seen self.old.listing.source) (S.seen self.new.listing.source) (W.seen out.old) (W.seen out.new)
             (answer_seen result) }
-        ensures rows { self.new.listing.rows ≡ self.old.listing.rows }
-        ensures index { self.new.index ≡ self.old.index }
-        ensures parts { self.new.parts ≡ self.old.parts }
+        ensures unchanged { IsUnchanged self.old self.new }
     {
-        self.listing.send_at(&self.lookup, position, out)
+        let Opened { source, rows, kept } = &mut self.opened;
+        send_at(source, rows, kept, position, out)
     }
 
     /// The positions of all captures, in their order. `Err`: no memory for them.
     pub fn captures(&self) -> Result<Vec<usize, A>, AllocError>
         ensures { IfOk result (λ positions. positions.items ≡ capture_positions self.now.listing.rows) }
     {
-        capture_positions(&self.listing.rows)
+        capture_positions(&self.opened.rows)
     }
 
     /// The outcomes of the captures at positions, in their order, as `outcome_at` gives them. Each origin is read and
@@ -337,11 +329,10 @@ impl<S: Source, A: Allocator + Copy> Archive<S, A> {
     pub fn outcomes(&mut self, positions: &[usize]) -> Result<Vec<Outcome<A>, A>, OutFault>
         ensures judges { JudgesAll self.old.listing.rows self.old.index self.old.parts positions.now
             (S.seen self.old.listing.source) (S.seen self.new.listing.source) result }
-        ensures rows { self.new.listing.rows ≡ self.old.listing.rows }
-        ensures index { self.new.index ≡ self.old.index }
-        ensures parts { self.new.parts ≡ self.old.parts }
+        ensures unchanged { IsUnchanged self.old self.new }
     {
-        self.listing.judge_all(&self.lookup, positions)
+        let Opened { source, rows, kept } = &mut self.opened;
+        judge_all(source, rows, kept, positions)
     }
 
     /// Writes a line for each outcome, with ten columns: the capture's position, its date as written, its instant and
@@ -355,7 +346,7 @@ impl<S: Source, A: Allocator + Copy> Archive<S, A> {
         ensures { SendsText (W.seen out.old) (W.seen out.new) result
             (captures_text self.now.listing.rows (map outcome_seen outcomes.now)) }
     {
-        list_outcomes(&self.listing.rows, outcomes, out)
+        list_outcomes(&self.opened.rows, outcomes, out)
     }
 
     /// How the payload of the record at a position compares with the digest that its first `WARC-Payload-Digest`
@@ -366,11 +357,10 @@ impl<S: Source, A: Allocator + Copy> Archive<S, A> {
     pub fn payload_verdict(&mut self, position: usize) -> Result<Option<PayloadVerdict>, TakeFault>
         ensures gives { GivesPayload self.old.listing.rows self.old.index self.old.parts position
             (S.seen self.old.listing.source) (S.seen self.new.listing.source) result }
-        ensures rows { self.new.listing.rows ≡ self.old.listing.rows }
-        ensures index { self.new.index ≡ self.old.index }
-        ensures parts { self.new.parts ≡ self.old.parts }
+        ensures unchanged { IsUnchanged self.old self.new }
     {
-        self.listing.payload_verdict(&self.lookup, position)
+        let Opened { source, rows, kept } = &mut self.opened;
+        take_payload(source, rows, kept, position)
     }
 
     /// How the payload of each record compares with the digest that its head states, as `payload_verdict` judges it.
@@ -379,11 +369,10 @@ impl<S: Source, A: Allocator + Copy> Archive<S, A> {
     pub fn payloads(&mut self) -> Result<Payloads<A>, OutFault>
         ensures judges { JudgesPayloads self.old.listing.rows self.old.index self.old.parts
             (S.seen self.old.listing.source) (S.seen self.new.listing.source) result }
-        ensures rows { self.new.listing.rows ≡ self.old.listing.rows }
-        ensures index { self.new.index ≡ self.old.index }
-        ensures parts { self.new.parts ≡ self.old.parts }
+        ensures unchanged { IsUnchanged self.old self.new }
     {
-        self.listing.payloads(&self.lookup)
+        let Opened { source, rows, kept } = &mut self.opened;
+        judge_payloads(source, rows, kept)
     }
 
     /// Writes a line for each payload that has a digest and isn't good: the position of its record, `bad` or
@@ -397,7 +386,7 @@ impl<S: Source, A: Allocator + Copy> Archive<S, A> {
         ensures { SendsText (W.seen out.old) (W.seen out.new) result
             (payloads_text self.now.listing.rows payloads.now) }
     {
-        self.listing.list_payloads(payloads, out)
+        list_payloads(&self.opened.rows, payloads, out)
     }
 
     /// The positions of the captures of a URI, each once: by instant, then by position. `Err`: no memory for them.
@@ -406,9 +395,8 @@ impl<S: Source, A: Allocator + Copy> Archive<S, A> {
             IfOk result (λ positions. AreCapturesOf (map indexed_record is.listed.are.records) uri.now
             positions.items) }
     {
-        self.lookup
-            .index
-            .captures_of(self.listing.rows.allocator(), uri)
+        let alloc = self.opened.rows.allocator();
+        self.opened.kept.index.captures_of(alloc, uri)
     }
 
     /// The position of the capture that is chosen for a URI as of a moment: the one that a replay gives, or gives a
@@ -417,7 +405,7 @@ impl<S: Source, A: Allocator + Copy> Archive<S, A> {
         ensures { (records : List Placed) → AreOf records self.now.index self.now.parts →
             result ≡ chosen_of (map indexed_record records) uri.now moment.now }
     {
-        self.lookup.index.latest(uri, moment)
+        self.opened.kept.index.latest(uri, moment)
     }
 
     /// Writes the records at positions, byte for byte, as a listing does.
@@ -425,13 +413,9 @@ impl<S: Source, A: Allocator + Copy> Archive<S, A> {
         requires ascending { ArePositions (length self.old.listing.rows) positions.now }
         ensures selects { Selects self.old.listing.rows positions.now (S.seen self.old.listing.source)
             (S.seen self.new.listing.source) (W.seen out.old) (W.seen out.new) result }
-
-        // The rows stay, and so does what finds and joins the records.
-        ensures rows { self.new.listing.rows ≡ self.old.listing.rows }
-        ensures index { self.new.index ≡ self.old.index }
-        ensures parts { self.new.parts ≡ self.old.parts }
+        ensures unchanged { IsUnchanged self.old self.new }
     {
-        self.listing.select(positions, out)
+        select_rows(&mut self.opened.source, &self.opened.rows, positions, out)
     }
 
     /// How many bytes `select` writes of the records at positions.
@@ -440,7 +424,7 @@ impl<S: Source, A: Allocator + Copy> Archive<S, A> {
         ensures { (bytes : List ℕ) → IsArchiveOf bytes self.now.listing.rows →
             result ≡ length (selected_text self.now.listing.rows positions.now bytes) }
     {
-        self.listing.selected_len(positions)
+        selected_len(&self.opened.rows, positions)
     }
 
     /// The positions of all records but those at positions, as a listing gives them.
@@ -448,7 +432,8 @@ impl<S: Source, A: Allocator + Copy> Archive<S, A> {
         requires ascending { ArePositions (length self.now.listing.rows) positions.now }
         ensures { IfOk result (λ others. AreOthers (length self.now.listing.rows) positions.now others.items) }
     {
-        self.listing.others(positions)
+        let rows = &self.opened.rows;
+        other_positions(rows.allocator(), rows.len(), positions)
     }
 
     /// The positions of the records at positions and of all that they need, ascending, each once: with each record
@@ -465,11 +450,10 @@ impl<S: Source, A: Allocator + Copy> Archive<S, A> {
         requires ascending { ArePositions (length self.old.listing.rows) positions.now }
         ensures closes { GivesNeeded self.old.listing.rows self.old.index self.old.parts positions.now
             (S.seen self.old.listing.source) (S.seen self.new.listing.source) result }
-        ensures rows { self.new.listing.rows ≡ self.old.listing.rows }
-        ensures index { self.new.index ≡ self.old.index }
-        ensures parts { self.new.parts ≡ self.old.parts }
+        ensures unchanged { IsUnchanged self.old self.new }
     {
-        self.listing.closed(&self.lookup, positions)
+        let Opened { source, rows, kept } = &mut self.opened;
+        closed_positions(source, rows, kept, positions)
     }
 
     /// The positions of all records but those at positions and those that need one of them, ascending: a record is left
@@ -484,11 +468,10 @@ impl<S: Source, A: Allocator + Copy> Archive<S, A> {
         requires ascending { ArePositions (length self.old.listing.rows) positions.now }
         ensures closes { GivesOthers self.old.listing.rows self.old.index self.old.parts positions.now
             (S.seen self.old.listing.source) (S.seen self.new.listing.source) result }
-        ensures rows { self.new.listing.rows ≡ self.old.listing.rows }
-        ensures index { self.new.index ≡ self.old.index }
-        ensures parts { self.new.parts ≡ self.old.parts }
+        ensures unchanged { IsUnchanged self.old self.new }
     {
-        self.listing.closed_others(&self.lookup, positions)
+        let Opened { source, rows, kept } = &mut self.opened;
+        standing_positions(source, rows, kept, positions)
     }
 
     /// Writes a line for each finding, as a listing does, and answers how many there are. A read that fails does so
@@ -496,12 +479,9 @@ impl<S: Source, A: Allocator + Copy> Archive<S, A> {
     pub fn check<W: Sink>(&mut self, out: &mut W) -> Result<usize, OutFault>
         ensures checks { Checks self.old.listing.rows (S.seen self.old.listing.source)
             (S.seen self.new.listing.source) (W.seen out.old) (W.seen out.new) result }
-
-        // The rows stay, and so does what finds and joins the records.
-        ensures rows { self.new.listing.rows ≡ self.old.listing.rows }
-        ensures index { self.new.index ≡ self.old.index }
-        ensures parts { self.new.parts ≡ self.old.parts }
+        ensures unchanged { IsUnchanged self.old self.new }
     {
-        self.listing.check(out)
+        let alloc = self.opened.rows.allocator();
+        check_rows(alloc, &mut self.opened.source, &self.opened.rows, out)
     }
 }

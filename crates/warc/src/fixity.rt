@@ -1,9 +1,9 @@
 //! How the blocks of an archive compare with the digests that their heads state.
 ghost use Rattle.std.specs.Prelude.{◌≡◌, ◌∷◌, ◌++◌, true, false, [], codes, OnErr, OnOk, map};
 ghost use Rattle.warc_frame.specs.Effects.{Puts, SendsText};
-ghost use Rattle.warc_reading.specs.Opening.{Opens};
+ghost use Rattle.warc_reading.specs.Opening.{Opens, source_left, without_source};
 ghost use Rattle.warc.specs.Counting.{verdict_at};
-ghost use Rattle.warc.specs.Fixity.{IsDigested, counts_line, counts_of, digest_at, digest_kept, fixity_text, digested_of, source_digested, stated_on};
+ghost use Rattle.warc.specs.Fixity.{IsDigested, counts_line, counts_of, digest_at, digest_kept, fixity_text, stated_on};
 ghost use Rattle.warc.specs.Fixity.{unless_good, verdict_line, verdict_text};
 
 use crate::counting::Verdicts;
@@ -15,7 +15,7 @@ use std::marker::Model;
 use warc_field::Fields;
 use warc_frame::{Fault, OutBuffer, OutFault, SendFault, Sink, Source, put_columns};
 use warc_quick::{QuickHead, QuickRecord};
-use warc_reading::{Keep, Row, Rows, read_on};
+use warc_reading::{Keep, Opened, Row};
 use warc_record::bare;
 use warc_value::Verdict;
 
@@ -239,9 +239,7 @@ pub(crate) fn put_counts<W: Sink>(
 /// values of the digests by which blocks aren't good.
 #[derive(Drop)]
 pub struct Fixity<S: Source, A: Allocator = Global> {
-    source: S,
-    rows: Rows<A>,
-    digests: Digests<A>,
+    opened: Opened<S, Digests<A>, A>,
 }
 
 impl<S: Source, A: Allocator> Model for Fixity<S, A> {
@@ -249,7 +247,10 @@ impl<S: Source, A: Allocator> Model for Fixity<S, A> {
 
     ghost Value = { Digested S };
 
-    ghost view = { λ a. record { listing = record { source = a.source; rows = a.rows }; judged = a.digests } };
+    ghost view = { λ a. record {
+      listing = record { source = a.opened.source; rows = a.opened.rows };
+      judged = a.opened.kept;
+    } };
 }
 
 impl<S: Source, A: Allocator> Fixity<S, A> {
@@ -257,14 +258,14 @@ impl<S: Source, A: Allocator> Fixity<S, A> {
     pub fn counts(&self) -> Counts
         ensures { result ≡ counts_of self.now.judged.verdicts }
     {
-        self.digests.counts()
+        self.opened.kept.counts()
     }
 
     /// Returns the source.
     pub fn into_source(self) -> S
         ensures { result ≡ self.listing.source }
     {
-        self.source
+        self.opened.source
     }
 
     /// Writes a line for each block that isn't good: the position of its record, `bad` or `unchecked`, the bare id and
@@ -274,12 +275,13 @@ impl<S: Source, A: Allocator> Fixity<S, A> {
             (fixity_text self.now.listing.rows self.now.judged) }
     {
         let mut buffer = OutBuffer::new();
-        'listing: for position in 0..self.rows.len() {
-            let Some(row) = self.rows.get(position) else {
+        let rows = &self.opened.rows;
+        'listing: for position in 0..rows.len() {
+            let Some(row) = rows.get(position) else {
                 unreachable!()
             };
-            let verdict = self.digests.verdict(position);
-            let digest = self.digests.at(position);
+            let verdict = self.opened.kept.verdict(position);
+            let digest = self.opened.kept.at(position);
             put_if(position as u64, verdict, &row, digest, &mut buffer, out)?;
         }
         put_counts(self.counts(), &mut buffer, out)?;
@@ -292,18 +294,12 @@ impl<S: Source, A: Allocator + Copy> Fixity<S, A> {
     /// Reads the source as a listing is read, and keeps beside the rows the values of the digests by which blocks
     /// aren't good.
     pub fn open(alloc: A, source: S) -> Result<Fixity<S, A>, (Fault, S)>
-        ensures { Opens IsDigested (S.seen source) (S.seen (source_digested result)) (digested_of result) }
+        ensures { Opens IsDigested (S.seen source) (S.seen (source_left (λ a. a.listing.source) result))
+            (without_source (λ a. a) result) }
     {
-        let mut source = source;
-        let kept = Digests::new(alloc);
-        let (answer, rows, digests) = read_on(alloc, &mut source, Rows::new(alloc), kept);
-        match answer {
-            Ok(()) => Ok(Fixity {
-                source,
-                rows,
-                digests,
-            }),
-            Err(fault) => Err((fault, source)),
+        match Opened::open(alloc, source, Digests::new(alloc)) {
+            Ok(opened) => Ok(Fixity { opened }),
+            Err(refused) => Err(refused),
         }
     }
 }

@@ -3,17 +3,18 @@ ghost use Rattle.std.specs.Prelude.{◌∷◌, [], Some, IfErr};
 ghost use Rattle.warc_frame.specs.Effects.{FailsBy};
 ghost use Rattle.warc_frame.specs.Seen.{IfHeld};
 ghost use Rattle.warc_reading.specs.Rereading.{HasHeadOf, ReadsHeads};
-ghost use Rattle.warc.specs.Heading.{IsHeadTaken};
+ghost use Rattle.warc.specs.Heading.{GivesHead, IsHeadTaken};
 ghost use Rattle.warc.specs.Standing.{IsUntaken};
 ghost use Rattle.warc.specs.Taking.{take_result};
 
 use crate::fault::TakeFault;
 use std::alloc::Allocator;
+use warc_frame::laws::head_of_spelled;
 use warc_frame::{Head, Source};
-use warc_reading::{RereadFault, Row, buffer_for, reread_head};
+use warc_reading::{RereadFault, Row, Rows, buffer_for, reread_head};
 
 /// The head of the record of a row, read again.
-pub(crate) fn take_head<S: Source, A: Allocator + Copy>(
+fn take_head<S: Source, A: Allocator + Copy>(
     alloc: A,
     source: &mut S,
     row: &Row<'_>,
@@ -37,4 +38,19 @@ pub(crate) fn take_head<S: Source, A: Allocator + Copy>(
         Err(RereadFault::Read) => Err(TakeFault::Read),
         Err(RereadFault::Memory) => Err(TakeFault::Memory),
     }
+}
+
+/// The head of the record at a position, read again.
+pub(crate) fn take_head_at<S: Source, A: Allocator + Copy>(
+    source: &mut S,
+    rows: &Rows<A>,
+    position: usize,
+) -> Result<Head<A>, TakeFault>
+    ensures { GivesHead rows.now position (S.seen source.old) (S.seen source.new) result }
+{
+    head_of_spelled();
+    let Some(row) = rows.get(position) else {
+        return Err(TakeFault::NoRecord);
+    };
+    take_head(rows.allocator(), source, &row)
 }

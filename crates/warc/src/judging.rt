@@ -3,7 +3,7 @@ ghost use Rattle.std.specs.Prelude.{◌∷◌, [], Some, IfErr};
 ghost use Rattle.warc_frame.specs.Effects.{FailsBy};
 ghost use Rattle.warc_frame.specs.Seen.{IfHeld};
 ghost use Rattle.warc_reading.specs.Rereading.{HasTextOf, ReadsRows};
-ghost use Rattle.warc.specs.Judged.{IsStatedTaken, IsVerdictTaken};
+ghost use Rattle.warc.specs.Judged.{GivesStated, GivesVerdict, IsStatedTaken, IsVerdictTaken};
 ghost use Rattle.warc.specs.Standing.{IsUntaken};
 ghost use Rattle.warc.specs.Taking.{take_result};
 
@@ -12,12 +12,13 @@ use crate::stated::{digest_value, stated_range};
 use std::alloc::Allocator;
 use warc_checking::judge_again;
 use warc_frame::Source;
-use warc_reading::{RereadFault, Row, head_buffer, reread_good};
+use warc_frame::laws::head_of_spelled;
+use warc_reading::{RereadFault, Row, Rows, head_buffer, reread_good};
 use warc_value::Verdict;
 
 /// The verdict on the block of the record of a row. Its head is read again, and its block if a digest of it can be
 /// checked.
-pub(crate) fn take_verdict<S: Source, A: Allocator + Copy>(
+fn take_verdict<S: Source, A: Allocator + Copy>(
     alloc: A,
     source: &mut S,
     row: &Row<'_>,
@@ -40,7 +41,7 @@ pub(crate) fn take_verdict<S: Source, A: Allocator + Copy>(
 
 /// The verdict on the block of the record of a row, by the digest that its head states. Its head is read again, and its
 /// block if a digest is stated.
-pub(crate) fn take_stated<S: Source, A: Allocator + Copy>(
+fn take_stated<S: Source, A: Allocator + Copy>(
     alloc: A,
     source: &mut S,
     row: &Row<'_>,
@@ -64,4 +65,34 @@ pub(crate) fn take_stated<S: Source, A: Allocator + Copy>(
         Ok(verdict) => Ok(verdict),
         Err(_) => Err(TakeFault::Read),
     }
+}
+
+/// The verdict on the block of the record at a position, by the digest that its head asks for.
+pub(crate) fn take_verdict_at<S: Source, A: Allocator + Copy>(
+    source: &mut S,
+    rows: &Rows<A>,
+    position: usize,
+) -> Result<Verdict, TakeFault>
+    ensures { GivesVerdict rows.now position (S.seen source.old) (S.seen source.new) result }
+{
+    head_of_spelled();
+    let Some(row) = rows.get(position) else {
+        return Err(TakeFault::NoRecord);
+    };
+    take_verdict(rows.allocator(), source, &row)
+}
+
+/// The verdict on the block of the record at a position, by the digest that its head states.
+pub(crate) fn take_stated_at<S: Source, A: Allocator + Copy>(
+    source: &mut S,
+    rows: &Rows<A>,
+    position: usize,
+) -> Result<Verdict, TakeFault>
+    ensures { GivesStated rows.now position (S.seen source.old) (S.seen source.new) result }
+{
+    head_of_spelled();
+    let Some(row) = rows.get(position) else {
+        return Err(TakeFault::NoRecord);
+    };
+    take_stated(rows.allocator(), source, &row)
 }

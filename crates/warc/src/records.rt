@@ -5,12 +5,12 @@ ghost use Rattle.warc_frame.specs.Record.{Record};
 ghost use Rattle.warc_frame.specs.Seen.{IfHeld};
 ghost use Rattle.warc_frame.specs.Spelling.{Spells};
 ghost use Rattle.warc.specs.Standing.{HasRecordAt, HasRecordOf, IsUntaken};
-ghost use Rattle.warc.specs.Taking.{IsSpelledIn, IsTaken, ReadsRecord, record_len, take_result};
+ghost use Rattle.warc.specs.Taking.{GivesRecord, IsSpelledIn, IsTaken, ReadsRecord, record_len, take_result};
 
 use crate::fault::TakeFault;
 use std::alloc::Allocator;
 use warc_frame::{FaultKind, Framed, Source, read_one, read_range};
-use warc_reading::Row;
+use warc_reading::{Row, Rows};
 
 /// The length of a record, the two line ends after its block included, where it ends before offset 2^64.
 fn record_len(row: &Row<'_>) -> Option<usize>
@@ -78,7 +78,7 @@ fn read_record<S: Source, A: Allocator + Copy>(
 }
 
 /// The record of a row, read again.
-pub(crate) fn take_record<S: Source, A: Allocator + Copy>(
+fn take_record<S: Source, A: Allocator + Copy>(
     alloc: A,
     source: &mut S,
     row: &Row<'_>,
@@ -97,4 +97,18 @@ pub(crate) fn take_record<S: Source, A: Allocator + Copy>(
         return Err(TakeFault::Memory);
     };
     read_record(alloc, source, row.offset, &mut text)
+}
+
+/// The record at a position, read again.
+pub(crate) fn take_record_at<S: Source, A: Allocator + Copy>(
+    source: &mut S,
+    rows: &Rows<A>,
+    position: usize,
+) -> Result<Framed<A>, TakeFault>
+    ensures { GivesRecord rows.now position (S.seen source.old) (S.seen source.new) result }
+{
+    let Some(row) = rows.get(position) else {
+        return Err(TakeFault::NoRecord);
+    };
+    take_record(rows.allocator(), source, &row)
 }

@@ -5,12 +5,14 @@ ghost use Rattle.warc_frame.specs.Effects.{Emits, ReadsOnly, Sends};
 ghost use Rattle.warc_frame.specs.Record.{Record, max_head};
 ghost use Rattle.warc_frame.specs.Seen.{IsInRange};
 ghost use Rattle.warc_frame.specs.Spelling.{canonical};
+ghost use Rattle.warc.specs.Forms.{WritesEach};
 ghost use Rattle.warc.specs.Copied.{AreTextsOf, IsTextAfter, IsTextOf, block_by, len_by, text_by};
 ghost use Rattle.warc_reading.specs.Placing.{IsInAnyRow, IsInRow};
 
 use crate::copying::{Form, put_as, put_same};
 use crate::segments::put_split;
 use std::alloc::Allocator;
+use warc_frame::laws::head_of_spelled;
 use warc_frame::{OutBuffer, OutFault, Sink, Source};
 use warc_quick::is_canonical_head;
 use warc_reading::{Row, Rows, head_buffer, head_in, reread_text};
@@ -117,7 +119,7 @@ fn put_records<S: Source, A: Allocator + Copy, W: Sink>(
 
 /// Writes what replaces the records of all rows, in their order. Each head is read again, and each block is copied from
 /// the source.
-pub(crate) fn write_rows<S: Source, A: Allocator + Copy, W: Sink>(
+fn write_rows<S: Source, A: Allocator + Copy, W: Sink>(
     alloc: A,
     source: &mut S,
     replacement: Replacement,
@@ -144,4 +146,18 @@ pub(crate) fn write_rows<S: Source, A: Allocator + Copy, W: Sink>(
     )?;
     buffer.flush(out)?;
     Ok(())
+}
+
+/// Writes what replaces each record.
+pub(crate) fn write_each<S: Source, A: Allocator + Copy, W: Sink>(
+    source: &mut S,
+    rows: &Rows<A>,
+    replacement: Replacement,
+    out: &mut W,
+) -> Result<(), OutFault>
+    ensures { WritesEach (text_by replacement) (len_by replacement) rows.now (S.seen source.old) (S.seen source.new)
+        (W.seen out.old) (W.seen out.new) result }
+{
+    head_of_spelled();
+    write_rows(rows.allocator(), source, replacement, rows, out)
 }

@@ -1,11 +1,12 @@
 //! The line that `list` writes for a record.
 ghost use Rattle.std.specs.Prelude.{◌≡◌};
-ghost use Rattle.warc.specs.Listing.{line_of, shown};
-ghost use Rattle.warc_frame.specs.Effects.{Puts};
+ghost use Rattle.warc.specs.Listing.{line_of, listing, shown};
+ghost use Rattle.warc_frame.specs.Effects.{Puts, SendsText};
 
 use itoa::Buffer;
-use warc_frame::{OutBuffer, SendFault, Sink, put_columns};
-use warc_reading::Row;
+use std::alloc::Allocator;
+use warc_frame::{OutBuffer, OutFault, SendFault, Sink, put_columns};
+use warc_reading::{Row, Rows};
 
 /// Adds a record's line to the output, by its position in the archive.
 pub(crate) fn put_line<W: Sink>(
@@ -34,4 +35,19 @@ pub(crate) fn shown_as(text: &[u8]) -> &[u8]
     ensures { result.now ≡ shown text.now }
 {
     if text.is_empty() { b"-" } else { text }
+}
+
+/// Writes the line of each row.
+pub(crate) fn list_rows<A: Allocator, W: Sink>(rows: &Rows<A>, out: &mut W) -> Result<(), OutFault>
+    ensures { SendsText (W.seen out.old) (W.seen out.new) result (listing rows.now) }
+{
+    let mut buffer = OutBuffer::new();
+    'listing: for position in 0..rows.len() {
+        let Some(row) = rows.get(position) else {
+            unreachable!()
+        };
+        put_line(position as u64, &row, &mut buffer, out)?;
+    }
+    buffer.flush(out)?;
+    Ok(())
 }

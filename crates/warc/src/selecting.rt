@@ -3,7 +3,7 @@ ghost use Rattle.std.specs.Prelude.{◌≡◌, ◌≢◌, ◌+◌, ◌<◌, ◌�
 ghost use Rattle.warc_frame.specs.Effects.{Emits, IsOfDevice, IsRange, ReadsOnly, Sends};
 ghost use Rattle.warc.specs.Selected.{AreBytesOf};
 ghost use Rattle.warc_reading.specs.Archive.{IsArchiveOf};
-ghost use Rattle.warc.specs.Selecting.{AreOthers, ArePositions, ReadsRecords, at_positions, selected_text};
+ghost use Rattle.warc.specs.Selecting.{AreOthers, ArePositions, ReadsRecords, Selects, at_positions, selected_text};
 ghost use Rattle.warc.specs.Taking.{IsInRecord, record_len};
 
 use std::alloc::{AllocError, Allocator};
@@ -66,7 +66,7 @@ fn put_selected<S: Source, A: Allocator, W: Sink>(
 }
 
 /// Writes the bytes of the records at positions.
-pub(crate) fn send_selected<S: Source, A: Allocator, W: Sink>(
+fn send_selected<S: Source, A: Allocator, W: Sink>(
     source: &mut S,
     rows: &Rows<A>,
     positions: &[usize],
@@ -83,6 +83,20 @@ pub(crate) fn send_selected<S: Source, A: Allocator, W: Sink>(
     put_selected(source, rows, positions, &mut scratch, &mut buffer, out)?;
     buffer.flush(out)?;
     Ok(())
+}
+
+/// Writes the records at positions, byte for byte.
+pub(crate) fn select_rows<S: Source, A: Allocator, W: Sink>(
+    source: &mut S,
+    rows: &Rows<A>,
+    positions: &[usize],
+    out: &mut W,
+) -> Result<(), OutFault>
+    requires { ArePositions (length rows.now) positions.now }
+    ensures { Selects rows.now positions.now (S.seen source.old) (S.seen source.new) (W.seen out.old)
+        (W.seen out.new) result }
+{
+    send_selected(source, rows, positions, out)
 }
 
 /// How many bytes the records at positions have.

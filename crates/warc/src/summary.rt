@@ -3,10 +3,10 @@ ghost use Rattle.std.specs.Prelude.{◌≡◌, ◌∷◌, ◌++◌, true, false,
 ghost use Rattle.std.specs.List.{concat};
 ghost use Rattle.warc_frame.specs.Effects.{Puts, SendsText};
 ghost use Rattle.warc_index.specs.Captures.{is_earlier};
-ghost use Rattle.warc_reading.specs.Opening.{Opens};
+ghost use Rattle.warc_reading.specs.Opening.{Opens, source_left, without_source};
 ghost use Rattle.warc.specs.Fixity.{stated_on};
 ghost use Rattle.warc.specs.Summary.{IsDateOf, IsEndOf, IsSummarized, IsSummaryOf, has_segment_number, is_nearer, is_numbered, number_line, summary_numbers};
-ghost use Rattle.warc.specs.Summary.{segmented_count, shown_date, source_summarized, summarized_of, summary_text, text_line};
+ghost use Rattle.warc.specs.Summary.{segmented_count, shown_date, summary_text, text_line};
 
 use crate::counting::{Counted, Verdicts, count, one_if};
 use crate::stated::{StatedBlock, plain_stated};
@@ -16,7 +16,7 @@ use std::marker::Model;
 use warc_field::Fields;
 use warc_frame::{Fault, OutBuffer, OutFault, SendFault, Sink, Source, names, put_columns};
 use warc_quick::{QuickHead, QuickRecord};
-use warc_reading::{Keep, Rows, read_on};
+use warc_reading::{Keep, Opened, Rows};
 use warc_record::Kind;
 use warc_value::{Moment, Verdict, read_date};
 
@@ -325,9 +325,7 @@ fn shown_date(date: Option<&[u8]>) -> &[u8]
 /// An archive whose records are counted.
 #[derive(Drop)]
 pub struct Summarized<S: Source, A: Allocator = Global> {
-    source: S,
-    rows: Rows<A>,
-    flags: RecordFlags<A>,
+    opened: Opened<S, RecordFlags<A>, A>,
 }
 
 impl<S: Source, A: Allocator> Model for Summarized<S, A> {
@@ -335,7 +333,10 @@ impl<S: Source, A: Allocator> Model for Summarized<S, A> {
 
     ghost Value = { Flagged S };
 
-    ghost view = { λ a. record { listing = record { source = a.source; rows = a.rows }; flags = a.flags } };
+    ghost view = { λ a. record {
+      listing = record { source = a.opened.source; rows = a.opened.rows };
+      flags = a.opened.kept;
+    } };
 }
 
 impl<S: Source, A: Allocator> Summarized<S, A> {
@@ -343,7 +344,8 @@ impl<S: Source, A: Allocator> Summarized<S, A> {
     pub fn summary(&self) -> Summary<'_>
         ensures { IsSummaryOf self.now.listing.rows self.now.flags result }
     {
-        let rows = &self.rows;
+        let rows = &self.opened.rows;
+        let flags = &self.opened.kept;
         Summary {
             records: rows.len(),
             bytes: rows.end(),
@@ -357,11 +359,11 @@ impl<S: Source, A: Allocator> Summarized<S, A> {
             continuation: count(Counted::Kind(Kind::Continuation), rows),
             other: count(Counted::Kind(Kind::Other), rows),
             captures: count(Counted::Capture, rows),
-            good: self.flags.verdicts.count(Verdict::Good),
-            bad: self.flags.verdicts.count(Verdict::Bad),
-            unchecked: self.flags.verdicts.count(Verdict::Unchecked),
+            good: flags.verdicts.count(Verdict::Good),
+            bad: flags.verdicts.count(Verdict::Bad),
+            unchecked: flags.verdicts.count(Verdict::Unchecked),
             truncated: count(Counted::Truncated, rows),
-            segmented: self.flags.segmented_count(),
+            segmented: flags.segmented_count(),
             first_date: date_at(End::First, rows),
             last_date: date_at(End::Last, rows),
         }
@@ -371,25 +373,19 @@ impl<S: Source, A: Allocator> Summarized<S, A> {
     pub fn into_source(self) -> S
         ensures { result ≡ self.listing.source }
     {
-        self.source
+        self.opened.source
     }
 }
 
 impl<S: Source, A: Allocator + Copy> Summarized<S, A> {
     /// Reads the source as a listing is read, and keeps beside the rows which records are segments.
     pub fn open(alloc: A, source: S) -> Result<Summarized<S, A>, (Fault, S)>
-        ensures { Opens IsSummarized (S.seen source) (S.seen (source_summarized result)) (summarized_of result) }
+        ensures { Opens IsSummarized (S.seen source) (S.seen (source_left (λ a. a.listing.source) result))
+            (without_source (λ a. a) result) }
     {
-        let mut source = source;
-        let kept = RecordFlags::new(alloc);
-        let (answer, rows, flags) = read_on(alloc, &mut source, Rows::new(alloc), kept);
-        match answer {
-            Ok(()) => Ok(Summarized {
-                source,
-                rows,
-                flags,
-            }),
-            Err(fault) => Err((fault, source)),
+        match Opened::open(alloc, source, RecordFlags::new(alloc)) {
+            Ok(opened) => Ok(Summarized { opened }),
+            Err(refused) => Err(refused),
         }
     }
 }

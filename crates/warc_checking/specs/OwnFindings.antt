@@ -1,5 +1,5 @@
--- How findings are kept in flat lists, and how a record's are reported with N4 and N6 among them. States of the code:
--- no public clause cites them.
+-- How findings are kept in flat lists, and how a record's are reported with N4 and N6 among them. States of the code,
+-- but for `all_of` and `AreJudged`, which public contracts cite.
 use Rattle.std.specs.Prelude.{◌≡◌, ℕ, ◌≤◌, zero, suc, Bool, true, false, nat_lt, ◌&&◌, List, [], ◌∷◌, ◌++◌, map, ◌==◌, slice_range, unwrap_or, None, if◌then◌else◌}
 use Rattle.std.specs.List.{AllByRecursion, filter, slice_get}
 use Rattle.std.specs.Option.{option_map_or}

@@ -246,7 +246,7 @@ fn add_reread<S: Source, A: Allocator + Copy>(
 /// Records whose heads were read, of which the last ones wait until their blocks are hashed. Contracts see the findings
 /// that each of them alone shows.
 #[derive(Drop)]
-pub(crate) struct Judging<A: Allocator> {
+pub struct Judging<A: Allocator> {
     findings: OwnFindings<A>,
     batch: Batch<A>,
 }
@@ -265,7 +265,7 @@ impl<A: Allocator> Model for Judging<A> {
 
 impl<A: Allocator + Copy> Judging<A> {
     /// Of no records.
-    pub(crate) fn new(alloc: A) -> Judging<A>
+    pub fn new(alloc: A) -> Judging<A>
         ensures { result ≡ [] }
     {
         Judging {
@@ -337,7 +337,7 @@ impl<A: Allocator + Copy> Judging<A> {
     }
 
     /// What is found of each record. The blocks that wait are hashed first. It takes no memory.
-    pub(crate) fn into_findings(self) -> OwnFindings<A>
+    pub fn into_findings(self) -> OwnFindings<A>
         ensures { map all_of result ≡ self }
     {
         let Judging {

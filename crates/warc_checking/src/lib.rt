@@ -3,7 +3,6 @@
 
 mod batch;
 mod check;
-mod checking;
 mod judging;
 pub mod laws;
 mod lines;
@@ -12,4 +11,6 @@ mod used_ids;
 mod writing;
 
 pub use check::{Rejudged, check_rows, judge_again};
-pub use checking::Checked;
+pub use judging::Judging;
+pub use own_findings::OwnFindings;
+pub use writing::tell_rows;

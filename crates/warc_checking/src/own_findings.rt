@@ -634,7 +634,7 @@ fn mark_at(states: &mut [DigestState], position: usize)
 /// The findings that each record alone shows. Whether N4 holds is kept apart from the others: a record is added before
 /// its digest is known, and marked once that is known to differ. A mark takes no memory.
 #[derive(Drop)]
-pub(crate) struct OwnFindings<A: Allocator> {
+pub struct OwnFindings<A: Allocator> {
     others: OtherFindings<A>,
     states: Vec<DigestState, A>,
 }

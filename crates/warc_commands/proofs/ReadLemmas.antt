@@ -21,7 +21,7 @@ use Rattle.warc_reading.proofs.PlacedLemmas.{placed}
 use Rattle.warc_frame.specs.Effects.{ReadsOnly}
 use Rattle.warc.specs.Forms.{read_len, split_len}
 use Rattle.warc_reading.specs.Placing.{IsInAnyRow}
-use Rattle.warc.specs.Front.{CopiesFront, Fronted, OpensFront}
+use Rattle.warc.specs.Front.{CopiesFront, OpensFront}
 use Rattle.warc.specs.Parts.{IsInPart, ReadsPart, found_len}
 use Rattle.warc.specs.Replaying.{AsksInside, ReadsPath}
 use Rattle.warc.specs.Selected.{HasBytesOf}
@@ -296,13 +296,13 @@ replay_read {S} {old} {mid} {last} {new} {archive} way opens same reads inside =
     subst P (sym same) read
 
 -- a front is opened, and its records are copied
-pub front_read : {S : Type 0} {front : Fronted S} {old mid last new : SeenSource} {before after : Seen} {answer : Result ℕ OutFault} → OpensFront old mid front
-    → CopiesFront front.listing.rows mid last before after answer → new ≡ last → ReadsTimes 2 old new
-front_read {S} {front} {old} {mid} {last} {new} opened copies same =
+pub front_read : {rows : List Row} {found : Option Fault} {old mid last new : SeenSource} {before after : Seen} {answer : Result ℕ OutFault} → OpensFront old mid rows found
+    → CopiesFront rows mid last before after answer → new ≡ last → ReadsTimes 2 old new
+front_read {rows} {found} {old} {mid} {last} {new} opened copies same =
     let reads : ReadsTimes 2 old last = record {
       near = near_then (IsInRange 0 max_archive) old mid last opened.opens.reads.watched opened.opens.reads.near (λ q in_. omega (arith, in_.1)) copies.near.near;
       cost = λ bytes held.
-          let (text, more, whole, archive) = front_begins bytes front.fault front.listing.rows (opened.rows_are bytes held) in
+          let (text, more, whole, archive) = front_begins bytes found rows (opened.rows_are bytes held) in
           omega (arith, opened.opens.cost bytes held, (copies.reads text archive).bound, ap length whole, length-append text more);
     } in
     let P : SeenSource → Type 0 = λ t. ReadsTimes 2 old t in

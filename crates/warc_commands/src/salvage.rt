@@ -77,12 +77,12 @@ where
     ensures kept { (S.seen result.1).holds ≡ (S.seen source).holds }
     ensures reads { ReadsTimes 2 (S.seen source) (S.seen result.1) }
 {
-    let mut front = open_front(alloc, source);
-    match front.copy_to(out) {
+    let (mut listing, found) = open_front(alloc, source);
+    match listing.copy_to(out) {
         Ok(bytes) => {
-            let status = tell_amount(front.fault(), front.count(), bytes, err);
-            (status, front.into_source())
+            let status = tell_amount(found, listing.count(), bytes, err);
+            (status, listing.into_source())
         }
-        Err(fault) => (tell_cut(fault, err), front.into_source()),
+        Err(fault) => (tell_cut(fault, err), listing.into_source()),
     }
 }

@@ -3,18 +3,18 @@ ghost use Rattle.std.specs.Prelude.{◌≡◌};
 ghost use Rattle.warc_lent.specs.Fronts.{IsGoodFront, rows_end};
 
 use std::alloc::Allocator;
-use warc::{Front, open_front};
+use warc::{Listing, open_front};
 use warc_frame::{Fault, SliceSource, Source};
 
 /// Where the last of the good records ends, after its block and CRLF CRLF; 0 where there is none.
-fn end_of<S: Source, A: Allocator>(front: &Front<S, A>) -> u64
-    ensures { result ≡ rows_end front.now.listing.rows }
+fn end_of<S: Source, A: Allocator>(listing: &Listing<S, A>) -> u64
+    ensures { result ≡ rows_end listing.now.rows }
 {
-    let count = front.count();
+    let count = listing.count();
     if count == 0 {
         return 0;
     }
-    match front.row(count - 1) {
+    match listing.row(count - 1) {
         Some(row) => row
             .block_start
             .saturating_add(row.block_len)
@@ -27,6 +27,6 @@ fn end_of<S: Source, A: Allocator>(front: &Front<S, A>) -> u64
 pub fn good_front<A: Allocator + Copy>(alloc: A, bytes: &[u8]) -> (u64, Option<Fault>)
     ensures { IsGoodFront bytes.now result.0 result.1 }
 {
-    let front = open_front(alloc, SliceSource::new(bytes));
-    (end_of(&front), front.fault())
+    let (listing, fault) = open_front(alloc, SliceSource::new(bytes));
+    (end_of(&listing), fault)
 }

@@ -1,6 +1,7 @@
 //! What is kept of a record, as numbers and texts.
 ghost use Rattle.std.specs.Prelude.{◌≡◌, ◌++◌, ℕ, List, [], Result, length, slice_get, IfErr, IfOk, OnErr, Some, None};
 ghost use Rattle.warc_frame.specs.Count.{capped};
+ghost use Rattle.warc_reading.specs.Indexed.{IsUnchanged};
 ghost use Rattle.warc_reading.specs.Row.{Row as Seen};
 ghost use Rattle.warc_lent.specs.Buffers.{HoldsFront, KeepsAfter};
 ghost use Rattle.warc.specs.Judged.{GivesVerdict};
@@ -140,9 +141,7 @@ pub fn verdict_at<S: Source, A: Allocator + Copy>(
     ensures judged { (answer : Result Found GhostFault) × GivesVerdict archive.old.listing.rows position
         (S.seen archive.old.listing.source) (S.seen archive.new.listing.source) answer ×
         (result ≡ verdict_answer answer) }
-    ensures rows { archive.new.listing.rows ≡ archive.old.listing.rows }
-    ensures index { archive.new.index ≡ archive.old.index }
-    ensures parts { archive.new.parts ≡ archive.old.parts }
+    ensures unchanged { IsUnchanged archive.old archive.new }
 {
     match archive.verdict(position) {
         Ok(verdict) => Ok(verdict_number(verdict)),

@@ -4,6 +4,7 @@ ghost use Rattle.warc.specs.Judged.{GivesStated};
 ghost use Rattle.warc.specs.PayloadVerdicts.{GivesPayload};
 ghost use Rattle.warc.specs.declared.fault.TakeFault.{TakeFault as GhostFault};
 ghost use Rattle.warc.specs.declared.payload.PayloadVerdict.{PayloadVerdict as Judged};
+ghost use Rattle.warc_reading.specs.Indexed.{IsUnchanged};
 ghost use Rattle.warc_value.specs.declared.hash.Verdict.{Verdict as Found};
 ghost use Rattle.warc_lent.specs.Rows.{verdict_answer};
 ghost use Rattle.warc_lent.specs.Verdicts.{payload_answer, payload_number, unjudged_number};
@@ -51,9 +52,7 @@ pub fn stated_verdict_at<S: Source, A: Allocator + Copy>(
     ensures judged { (answer : Result Found GhostFault) × GivesStated archive.old.listing.rows position
         (S.seen archive.old.listing.source) (S.seen archive.new.listing.source) answer ×
         (result ≡ verdict_answer answer) }
-    ensures rows { archive.new.listing.rows ≡ archive.old.listing.rows }
-    ensures index { archive.new.index ≡ archive.old.index }
-    ensures parts { archive.new.parts ≡ archive.old.parts }
+    ensures unchanged { IsUnchanged archive.old archive.new }
 {
     match archive.stated_verdict(position) {
         Ok(verdict) => Ok(verdict_number(verdict)),
@@ -70,9 +69,7 @@ pub fn payload_verdict_at<S: Source, A: Allocator + Copy>(
     ensures judged { (answer : Result (Option Judged) GhostFault) × GivesPayload archive.old.listing.rows
         archive.old.index archive.old.parts position (S.seen archive.old.listing.source)
         (S.seen archive.new.listing.source) answer × (result ≡ payload_answer answer) }
-    ensures rows { archive.new.listing.rows ≡ archive.old.listing.rows }
-    ensures index { archive.new.index ≡ archive.old.index }
-    ensures parts { archive.new.parts ≡ archive.old.parts }
+    ensures unchanged { IsUnchanged archive.old archive.new }
 {
     match archive.payload_verdict(position) {
         Ok(verdict) => Ok(payload_number(verdict)),

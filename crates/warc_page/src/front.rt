@@ -9,7 +9,7 @@ ghost use Rattle.warc_page.specs.Shown.{EndsFront, PutsFront};
 use crate::ending::{end_by, ended};
 use crate::shapes::{DONE, PageFront, PageOutcome};
 use std::alloc::Allocator;
-use warc::{Front, open_front};
+use warc::{Listing, open_front};
 use warc_frame::{Fault, SliceSource, Source};
 use warc_heap::{Heap, Memory};
 use warc_lent::{Problem, RowNumbers, put_row_texts, row_numbers};
@@ -24,11 +24,11 @@ fn put_row(row: RowNumbers, index: usize, rows: &mut [RowNumbers])
 }
 
 /// Puts the rows as numbers into the page's buffer, as far as there is room.
-fn put_rows<S: Source, A: Allocator>(front: &Front<S, A>, rows: &mut [RowNumbers])
-    ensures { HoldsFront (map row_numbers front.now.listing.rows) rows.new }
+fn put_rows<S: Source, A: Allocator>(listing: &Listing<S, A>, rows: &mut [RowNumbers])
+    ensures { HoldsFront (map row_numbers listing.now.rows) rows.new }
 {
-    'putting: for position in 0..front.count() {
-        let Some(row) = front.row(position) else {
+    'putting: for position in 0..listing.count() {
+        let Some(row) = listing.row(position) else {
             unreachable!()
         };
         put_row(row_numbers(&row), position, rows);
@@ -36,13 +36,13 @@ fn put_rows<S: Source, A: Allocator>(front: &Front<S, A>, rows: &mut [RowNumbers
 }
 
 /// Puts the texts of the rows into the page's buffer, as far as there is room, and returns their length.
-fn put_texts<S: Source, A: Allocator>(front: &Front<S, A>, texts: &mut [u8]) -> usize
-    ensures texts { HoldsFront (flat_map row_texts front.now.listing.rows) texts.new }
-    ensures whole { result ≡ capped (length (flat_map row_texts front.now.listing.rows)) }
+fn put_texts<S: Source, A: Allocator>(listing: &Listing<S, A>, texts: &mut [u8]) -> usize
+    ensures texts { HoldsFront (flat_map row_texts listing.now.rows) texts.new }
+    ensures whole { result ≡ capped (length (flat_map row_texts listing.now.rows)) }
 {
     let mut taken = 0;
-    'putting: for position in 0..front.count() {
-        let Some(row) = front.row(position) else {
+    'putting: for position in 0..listing.count() {
+        let Some(row) = listing.row(position) else {
             unreachable!()
         };
         taken = put_row_texts(&row, taken, texts);
@@ -77,14 +77,14 @@ pub extern "C" fn page_front(
     ensures { PutsFront bytes.now rows.new texts.new fault.new outcome.new }
 {
     let heap = Heap::new(memory, units);
-    let front = open_front(&heap, SliceSource::new(bytes));
-    put_rows(&front, rows);
-    let length = put_texts(&front, texts);
-    let outcome_of_fault = put_fault(&heap, front.fault(), fault);
+    let (listing, stop) = open_front(&heap, SliceSource::new(bytes));
+    put_rows(&listing, rows);
+    let length = put_texts(&listing, texts);
+    let outcome_of_fault = put_fault(&heap, stop, fault);
     *outcome = PageFront {
-        records: front.count() as u64,
+        records: listing.count() as u64,
         texts: length as u64,
-        end: front.end(),
+        end: listing.end(),
         state: outcome_of_fault.state,
         length: outcome_of_fault.length,
     };

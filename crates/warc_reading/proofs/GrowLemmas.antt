@@ -18,10 +18,10 @@ use Rattle.warc_frame.specs.declared.fault.FaultKind.TheVariants.{Memory, Read, 
 use Rattle.warc_frame.proofs.JudgedLemmas.{judged_cut}
 use Rattle.warc_frame.proofs.LawLemmas.{no_fault_where_spelled}
 use Rattle.warc_record.specs.Heads.{head_fault}
-use Rattle.warc_reading.specs.Archive.{Contents, IsArchiveOf, IsFaultOf, SpellsFrom, contents}
+use Rattle.warc_reading.specs.Archive.{IsArchiveOf, IsFaultOf, SpellsFrom, contents}
 use Rattle.warc_reading.specs.Fronts.{AreFrontRows, IsLongestFront, reach_of}
 use Rattle.warc_reading.specs.Growing.{Grows, IsDeviceFault, grown}
-use Rattle.warc_reading.specs.Opening.{Opens, OpensFrom, faults_after}
+use Rattle.warc_reading.specs.Opening.{Opens, OpensFrom, faults_after, without_source}
 use Rattle.warc_reading.specs.Row.{Placed, Row, row_of}
 use Rattle.warc_reading.specs.Stream.{BeginsSince, Extends, Follows, HasGiven, HasGivenFrom, HasRead, IsKeptOf, IsLeft, Matches, Since, Stands, StaysRefused, Stops, WantsSince}
 use Rattle.warc_reading.specs.declared.reading.Current.{Current}
@@ -518,6 +518,11 @@ grows_as {X} {Y} {Is} {Gives} {old} {new} was x seen y r begins gives grows = re
   };
 }
 
+pub grows_made : {S X Y : Type 0} {Is : List ℕ → X → Type 0} {Gives : List ℕ → Y → Type 0} {old new : SeenSource} (was x : X) (seen y : Y) (r : Result (Unit {0}) (Fault × S)) → ((bytes : List ℕ) → Gives bytes seen → Is bytes was)
+    → ((bytes : List ℕ) → Is bytes x → Gives bytes y) → Grows Is was old new (without_source (λ _. x) r) → Grows Gives seen old new (without_source (λ _. y) r)
+grows_made was x seen y (Ok u) begins gives grows = grows_as was x seen y (Ok u) begins gives grows
+grows_made was x seen y (Err refused) begins gives grows = grows_as was x seen y (Err refused.0) begins gives grows
+
 -- opening is growing of nothing
 pub opens_new : {X : Type 0} {Is : List ℕ → X → Type 0} {old new : SeenSource} (was : X) (answer : Result X Fault) → Is [] was → Grows Is was old new answer → Opens Is old new answer
 opens_new was answer is grows = record {
@@ -583,9 +588,6 @@ kept_by_rows K bytes rows kept l same is beside = record {
   beside = beside;
 }
 
-pub contents_same : {S : Type 0} (s : S) (a b : List Row) → a ≡ b → ◌≡◌ {A = Contents S} (record { source = s; rows = a }) (record { source = s; rows = b })
-contents_same {S} s a b same = let f : List Row → Contents S = λ rows. record { source = s; rows = rows } in ap f same
-
 -- the same by what was answered, where that is known
 pub grows_by_answer : {L : Type 0} {K : L → List Placed → Type 0} {old new : SeenSource} (kept was rows : List Row) (l m : L) (r answer : Result (Unit {0}) Fault) → kept ≡ was → r ≡ answer
     → Grows (IsKeptOf K) (kept, l) old new (grown r (rows, m)) → Grows (IsKeptOf K) (was, l) old new (grown answer (rows, m))
@@ -599,12 +601,6 @@ pub opens_made : {L Y : Type 0} {K : L → List Placed → Type 0} {Gives : List
     → ((bytes : List ℕ) → IsKeptOf K bytes (rows, m) → Gives bytes y) → Grows (IsKeptOf K) (none, l) old new (grown r (rows, m)) → Opens Gives old new (grown answer y)
 opens_made {L} {Y} {K} {Gives} {old} {new} l m none rows y r answer is empty_rows begins gives grows =
     opens_as (rows, m) y answer gives (opens_new ([], l) (grown answer (rows, m)) (none_kept K l begins) (grows_by_answer none [] rows l m r answer empty_rows is grows))
-
-pub opens_failed : {L Y : Type 0} {K : L → List Placed → Type 0} {Gives : List ℕ → Y → Type 0} {old new : SeenSource} (l m : L) (none rows : List Row) (r : Result (Unit {0}) Fault) (f : Fault) → r ≡ Err f → none ≡ [] → K l []
-    → Grows (IsKeptOf K) (none, l) old new (grown r (rows, m)) → Opens Gives old new (Err f)
-opens_failed {L} {Y} {K} {Gives} {old} {new} l m none rows r f is empty_rows begins grows =
-    let failed : Opens (IsKeptOf K) old new (Err f) = opens_new ([], l) (Err f) (none_kept K l begins) (grows_by_answer none [] rows l m r (Err f) empty_rows is grows) in
-    refuses_with f failed
 
 pub on_err_by : {X E P Q : Type 0} (r : Result X E) → (P → Q) → OnErr r P → OnErr r Q
 on_err_by (Ok x) gives p = tt

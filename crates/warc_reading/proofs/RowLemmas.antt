@@ -1,8 +1,9 @@
 -- Rows in flat lists.
-use Rattle.std.proofs.Common.{◌≡◌, ℕ, ◌+◌, ◌-◌, ◌^◌, ◌<◌, ◌≤◌, List, [], ◌∷◌, ◌++◌, length, zero, suc, take, drop, map, Some, refl, subst, sym, ap, ◌∙◌, arith, length-append}
+use Rattle.std.proofs.Common.{◌≡◌, ℕ, ◌+◌, ◌-◌, ◌^◌, ◌<◌, ◌≤◌, List, [], ◌∷◌, ◌++◌, length, zero, suc, min, take, drop, map, Some, None, refl, subst, sym, ap, ◌∙◌, arith, length-append}
 use Rattle.std.proofs.lemmas.List.{append_assoc, length-drop, length-take-le, take-map, take-append-drop, take-append-le, drop-append-le, map-append, take_at, drop_at, append-nil}
 use Rattle.std.specs.List.{AllByRecursion, slice_get, slice_range, sum_by}
 use Rattle.std.proofs.lemmas.List.Sums.{sum_by-cons}
+use Rattle.std.proofs.lemmas.Option.{slice_get_within}
 use Rattle.warc_reading.specs.Archive.{IsArchiveOf, SpellsFrom}
 use Rattle.warc_reading.specs.Row.{Placed, Row, row_of}
 use Rattle.warc_reading.specs.Keeping.{texts_len}
@@ -276,3 +277,21 @@ push_kept t t1 t2 t3 t4 row p ps qs h1 h2 h3 h4 short is pushed kept =
       sym (rows_unpacked t4 qs) ∙ ap (map (row_at t4)) entries ∙ rows ∙ ap (λ (r : Row). map (row_at t) (map unpacked ps) ++ r ∷ []) same
           ∙ ap (λ rows. rows ++ row ∷ []) (rows_unpacked t ps),
     )
+
+-- the rows that are left at a position
+pub none_left : {X : Type 0} (xs : List X) (i : ℕ) → slice_get xs i ≡ None → drop i xs ≡ []
+none_left [] zero is = refl
+none_left [] (suc i) is = refl
+none_left (x ∷ xs) zero is = absurd (cc is)
+none_left (x ∷ xs) (suc i) is = none_left xs i is
+
+one_left : {X : Type 0} (xs : List X) (i : ℕ) (x : X) → slice_get xs i ≡ Some x → drop i xs ≡ x ∷ drop (suc i) xs
+one_left [] i x is = absurd (cc is)
+one_left (y ∷ ys) zero x is = let same : y ≡ x = cc is in ap (λ z. z ∷ ys) same
+one_left (y ∷ ys) (suc i) x is = one_left ys i x is
+
+pub some_left : {X : Type 0} (xs : List X) (i n most : ℕ) (x : X) → slice_get xs i ≡ Some x → length xs ≤ most → n ≡ min (length xs) (min (i + 1) most) → drop i xs ≡ x ∷ drop n xs
+some_left xs i n most x is within next =
+    let inside = slice_get_within xs i x is in
+    let one : n ≡ suc i = omega (arith, inside, within, next) in
+    one_left xs i x is ∙ ap (λ k. x ∷ drop k xs) (sym one)

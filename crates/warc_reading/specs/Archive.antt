@@ -1,5 +1,5 @@
 -- A listing of an archive as one value, and what it says of the bytes of its source.
-use Rattle.std.specs.Prelude.{◌≡◌, ℕ, ◌+◌, ◌≤◌, List, [], ◌∷◌, ◌++◌, length, map, Result, Ok, Err}
+use Rattle.std.specs.Prelude.{◌≡◌, ℕ, ◌+◌, ◌≤◌, List, [], ◌∷◌, ◌++◌, length, map}
 use Rattle.std.specs.List.{AllByRecursion}
 use Rattle.warc_frame.specs.Faults.{IsFirstFault}
 use Rattle.warc_frame.specs.Record.{Record, max_archive}
@@ -54,13 +54,3 @@ pub record IsRecordEnd (bytes : List ℕ) (offset : ℕ) : Type 0 where
 -- the first fault of bytes: the fault after the longest list of good records with which they begin
 abbrev pub IsFaultOf : List ℕ → Fault → Type 0
 IsFaultOf bytes f = IsFirstFault head_fault 0 bytes f
-
--- the rows that opening gives, or why it gives none
-abbrev pub rows_of : {S : Type 0} → Result (Contents S) (Fault × S) → Result (List Row) Fault
-rows_of (Ok archive) = Ok archive.rows
-rows_of (Err refused) = Err refused.0
-
--- the source that opening leaves: the archive's, or the one that is returned
-abbrev pub source_of : {S : Type 0} → Result (Contents S) (Fault × S) → S
-source_of (Ok archive) = archive.source
-source_of (Err refused) = refused.1

@@ -32,12 +32,3 @@ pub record Grows {X : Type 0} (Is : List ℕ → X → Type 0) (was : X) (old ne
 abbrev pub grown : {X : Type 0} → Result (Unit {0}) Fault → X → Result X Fault
 grown (Ok u) x = Ok x
 grown (Err f) x = Err f
-
-abbrev pub without_source : {S : Type 0} → Result (Unit {0}) (Fault × S) → Result (Unit {0}) Fault
-without_source (Ok u) = Ok u
-without_source (Err refused) = Err refused.0
-
--- the new source: it is kept, or returned
-abbrev pub source_grown : {S : Type 0} → Result (Unit {0}) (Fault × S) → S → S
-source_grown (Ok u) s = s
-source_grown (Err refused) s = refused.1

@@ -1,7 +1,6 @@
 -- What an archive keeps of its records besides their rows: what finds them by target, instant and id, and what joins
 -- segmented ones.
-use Rattle.std.specs.Prelude.{◌≡◌, ℕ, List, length, map, Result, Ok, Err}
-use Rattle.warc_frame.specs.declared.fault.Fault.{Fault}
+use Rattle.std.specs.Prelude.{◌≡◌, ℕ, List, length, map}
 use Rattle.warc_record.specs.Readings.{Reading, reading_of}
 use Rattle.warc_index.specs.Captures.{Indexed, indexed_of}
 use Rattle.warc_index.specs.Orders.{IsIndexOf, Indexes}
@@ -51,13 +50,3 @@ pub record IsIndexed {S : Type 0} (bytes : List ℕ) (archive : Archived S) : Ty
 abbrev pub IsUnchanged : {S : Type 0} → Archived S → Archived S → Type 0
 IsUnchanged old new =
     (new.listing.rows ≡ old.listing.rows) × (new.index ≡ old.index) × (new.parts ≡ old.parts)
-
--- what opening an archive gives, or why it gives none
-abbrev pub archive_of : {S : Type 0} → Result (Archived S) (Fault × S) → Result (Archived S) Fault
-archive_of (Ok archive) = Ok archive
-archive_of (Err refused) = Err refused.0
-
--- the source that it leaves: the archive's, or the one that is returned
-abbrev pub source_left : {S : Type 0} → Result (Archived S) (Fault × S) → S
-source_left (Ok archive) = archive.listing.source
-source_left (Err refused) = refused.1

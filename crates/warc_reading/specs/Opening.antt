@@ -1,5 +1,5 @@
 -- What opening a source reads of it, and when it is refused.
-use Rattle.std.specs.Prelude.{◌≡◌, ℕ, ◌+◌, ◌≤◌, ◌<◌, ◌⊎◌, List, length, take, drop, Result, IfOk, IfErr, MatchResult}
+use Rattle.std.specs.Prelude.{◌≡◌, ℕ, ◌+◌, ◌≤◌, ◌<◌, ◌⊎◌, List, length, take, drop, Result, Ok, Err, IfOk, IfErr, MatchResult}
 use Rattle.warc_frame.specs.Count.{raised}
 use Rattle.warc_frame.specs.Record.{max_archive}
 use Rattle.warc_frame.specs.Told.{IsCut}
@@ -75,3 +75,13 @@ pub record OpensFrom (start : ℕ) {X : Type 0} (Is : List ℕ → X → Type 0)
 -- opening a source
 abbrev pub Opens : {X : Type 0} → (List ℕ → X → Type 0) → SeenSource → SeenSource → Result X Fault → Type 0
 Opens Is old new answer = OpensFrom 0 Is old new answer
+
+-- what opening or growing gives, as it is seen, or why it gives nothing
+abbrev pub without_source : {S X Y : Type 0} → (X → Y) → Result X (Fault × S) → Result Y Fault
+without_source see (Ok x) = Ok (see x)
+without_source see (Err refused) = Err refused.0
+
+-- the source that is left: the one of what is given, or the one that is returned
+abbrev pub source_left : {S X : Type 0} → (X → S) → Result X (Fault × S) → S
+source_left kept (Ok x) = kept x
+source_left kept (Err refused) = refused.1

@@ -3,14 +3,18 @@
 #![tactic(auto)]
 
 mod block;
+mod iterating;
 mod keeping;
+mod opened;
 mod reading;
 mod rereading;
 mod rows;
 mod spare_fields;
 
 pub use block::{BlockDigest, NoBlock, TakeBlock};
+pub use iterating::RowIter;
 pub use keeping::{Keep, Lookup, RecordLookup, RowsAlone, UnorderedLookup};
+pub use opened::Opened;
 pub use reading::{read_front, read_on};
 pub use rereading::{
     RereadFault, buffer_for, good_head_in, head_buffer, head_in, reread_good, reread_head,

@@ -11,5 +11,5 @@ loop-position-preserved c =
           ∙ read_more _ _ c.loop-position.archive.listing.rows c.loop-position.position c.loop-position.records.items c.in_ok-record.record before.rows
           (takes.taken _ (ap Some before.bytes)) is (before.read is);
       bytes = same_bytes _ _ takes.reads.kept ∙ before.bytes;
-      rows = c.in_ok-record.ensures.rows ∙ before.rows;
+      rows = c.in_ok-record.ensures.unchanged.0 ∙ before.rows;
     }

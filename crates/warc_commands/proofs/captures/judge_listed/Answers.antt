@@ -35,5 +35,5 @@ returns g c = record {
     is.kept,
     λ p in_. listed_inside _ is.listed.are.records c.in-Ok.positions.items (c.in-Ok.ensures bytes is) p (subst (λ l. Contains l p) c.deref.ensures.value in_),
   )) c.outcomes.ensures.judges.fails;
-  rows = c.outcomes.ensures.rows;
+  rows = c.outcomes.ensures.unchanged.0;
 }

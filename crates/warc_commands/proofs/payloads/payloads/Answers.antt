@@ -9,7 +9,7 @@ returns-in-Err-clause-ends g c = inr (inl (not_opened _ _ _ _ _ _ c.in-Err.fault
 
 pub returns-clause-ends : goal.returns-clause-ends
 returns-clause-ends g c =
-    payloads_end _ _ c.payloads-judged.result _ _ _ _ _ _ _ _ _ c.in-Ok.ensures c.payloads-judged.ensures.judges c.payloads-judged.ensures.rows
+    payloads_end _ _ c.payloads-judged.result _ _ _ _ _ _ _ _ _ c.in-Ok.ensures c.payloads-judged.ensures.judges c.payloads-judged.ensures.unchanged.0
     (ap (λ s. (g.S.Source.seen s).faults) c.into_source.ensures) c.tell_payloads.ensures
 
 pub returns-in-Err-clause-reads : goal.returns-in-Err-clause-reads

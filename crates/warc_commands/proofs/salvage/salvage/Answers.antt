@@ -1,19 +1,18 @@
 use Rattle.std.proofs.Common.{inl, inr, ap}
 use Rattle.warc_commands.proofs.ReadLemmas.{front_read}
-use Rattle.warc_commands.proofs.SalvageLemmas.{amount_as, salvage_cut, salvaged, status_as}
+use Rattle.warc_commands.proofs.SalvageLemmas.{amount_as, salvage_cut, salvaged}
 use Rattle.warc_commands.proofs.salvage.salvage.Goals as goal
 
 pub returns-in-Ok-clause-ends : goal.returns-in-Ok-clause-ends
-returns-in-Ok-clause-ends g c = inl (salvaged c.open_front-front.result _ _ _ _ _ _ _ _ _ c.open_front-front.ensures c.in-Ok.bytes c.in-Ok.ensures.copies (ap (λ s. (g.S.Source.seen s).faults) c.into_source.ensures)
-    (amount_as _ _ _ _ _ _ _ _ _ c.fault.ensures c.copy_to.ensures.fault c.count.ensures c.copy_to.ensures.rows c.tell_amount-status.ensures.told)
-    (status_as c.fault.ensures c.copy_to.ensures.fault c.tell_amount-status.ensures.status))
+returns-in-Ok-clause-ends g c = inl (salvaged _ _ _ _ _ _ _ _ _ _ _ c.open_front-listing.ensures c.in-Ok.bytes c.in-Ok.ensures.copies (ap (λ s. (g.S.Source.seen s).faults) c.into_source.ensures)
+    (amount_as _ _ _ _ _ _ _ c.count.ensures c.copy_to.ensures.rows c.tell_amount-status.ensures.told) c.tell_amount-status.ensures.status)
 
 pub returns-in-Err-clause-ends : goal.returns-in-Err-clause-ends
-returns-in-Err-clause-ends g c = inr (salvage_cut c.open_front-front.result _ _ _ _ _ _ _ _ _ c.open_front-front.ensures c.in-Err.fault c.in-Err.ensures.copies (ap (λ s. (g.S.Source.seen s).faults) c.into_source-in-Err.ensures)
+returns-in-Err-clause-ends g c = inr (salvage_cut _ _ _ _ _ _ _ _ _ _ _ c.open_front-listing.ensures c.in-Err.fault c.in-Err.ensures.copies (ap (λ s. (g.S.Source.seen s).faults) c.into_source-in-Err.ensures)
     c.tell_cut.ensures.told c.tell_cut.ensures.status)
 
 pub returns-in-Ok-clause-reads : goal.returns-in-Ok-clause-reads
-returns-in-Ok-clause-reads g c = front_read c.open_front-front.ensures c.in-Ok.ensures.copies (ap (λ s. g.S.Source.seen s) c.into_source.ensures)
+returns-in-Ok-clause-reads g c = front_read c.open_front-listing.ensures c.in-Ok.ensures.copies (ap (λ s. g.S.Source.seen s) c.into_source.ensures)
 
 pub returns-in-Err-clause-reads : goal.returns-in-Err-clause-reads
-returns-in-Err-clause-reads g c = front_read c.open_front-front.ensures c.in-Err.ensures.copies (ap (λ s. g.S.Source.seen s) c.into_source-in-Err.ensures)
+returns-in-Err-clause-reads g c = front_read c.open_front-listing.ensures c.in-Err.ensures.copies (ap (λ s. g.S.Source.seen s) c.into_source-in-Err.ensures)

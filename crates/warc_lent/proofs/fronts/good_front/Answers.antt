@@ -5,10 +5,10 @@ use Rattle.warc_lent.proofs.fronts.good_front.Goals as goal
 pub returns : goal.returns
 returns g c =
     let held = ap Some c.new.ensures.bytes in
-    let opens = c.open_front-front.ensures in
-    rw c.fault.ensures (record {
-      rows = c.open_front-front.result.listing.rows;
+    let opens = c.open_front-listing.ensures in
+    record {
+      rows = c.open_front-listing.result.0.rows;
       are = opens.rows_are c.args.bytes.now held;
       end_is = c.end_of.ensures;
       refused = front_refused _ _ c.args.bytes.now _ _ refl refl held opens.opens;
-    })
+    }

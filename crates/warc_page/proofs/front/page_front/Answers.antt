@@ -4,10 +4,10 @@ use Rattle.warc_page.proofs.front.page_front.Goals as goal
 
 pub returns : goal.returns
 returns c = record {
-  kept = c.open_front-front.result.listing.rows;
-  stop = c.open_front-front.result.fault;
-  are = c.open_front-front.ensures.rows_are c.args.bytes.now (ap Some c.new.ensures.bytes);
-  refused = stops_for c.args.bytes.now _ _ c.open_front-front.result.fault c.open_front-front.result.listing.rows (ap Some c.new.ensures.bytes) refl refl c.open_front-front.ensures.opens;
+  kept = c.open_front-listing.result.0.rows;
+  stop = c.open_front-listing.result.1;
+  are = c.open_front-listing.ensures.rows_are c.args.bytes.now (ap Some c.new.ensures.bytes);
+  refused = stops_for c.args.bytes.now _ _ c.open_front-listing.result.1 c.open_front-listing.result.0.rows (ap Some c.new.ensures.bytes) refl refl c.open_front-listing.ensures.opens;
   rows_are = search rules;
   texts_are = search rules;
   records_is = search rules;

@@ -5,4 +5,4 @@ use Rattle.warc_page.proofs.front.put_rows.Given as goal
 
 -- the rows so far
 abbrev pub invariant-putting : goal.invariant-putting
-invariant-putting g l = HoldsFront (map row_numbers (take l.position l.front.listing.rows)) l.rows
+invariant-putting g l = HoldsFront (map row_numbers (take l.position l.listing.rows)) l.rows

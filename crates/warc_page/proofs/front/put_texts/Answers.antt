@@ -9,7 +9,7 @@ use Rattle.warc_page.proofs.front.put_texts.Goals as goal
 pub putting-preserved : goal.putting-preserved
 putting-preserved g c =
     let i = c.putting.position in
-    let all = c.args.front.now.listing.rows in
+    let all = c.args.listing.now.rows in
     let at : slice_get all i ≡ Some c.in-Some.row = sym c.row.ensures ∙ c.in-Some.is in
     let before = flat_map row_texts (take i all) in
     let next = texts_next row_texts all i c.in-Some.row at in

@@ -8,6 +8,6 @@ use Rattle.warc_page.proofs.front.put_texts.Given as goal
 -- the texts of the rows so far, and their length
 abbrev pub invariant-putting : goal.invariant-putting
 invariant-putting g l = record {
-  front : HoldsFront (flat_map row_texts (take l.position l.front.listing.rows)) l.texts;
-  whole : l.taken ≡ capped (length (flat_map row_texts (take l.position l.front.listing.rows)));
+  front : HoldsFront (flat_map row_texts (take l.position l.listing.rows)) l.texts;
+  whole : l.taken ≡ capped (length (flat_map row_texts (take l.position l.listing.rows)));
 }

@@ -6,4 +6,4 @@ use Rattle.warc.proofs.archives.Archive.extract.Goals as goal
 pub returns-clause-extracts : goal.returns-clause-extracts
 returns-clause-extracts g c =
     let listing = ap (λ (a : Archived g.row.S.Denot). a.listing) c.self.view_is in
-    extracts_at c.args.self.now c.args.id.now c.in-Some.position _ _ _ _ c.block_to.result (λ records are. sym (c.in-Ok.ensures records are) ∙ c.in-Some.is) (rw (← listing) c.block_to.ensures.gives)
+    extracts_at c.args.self.now c.args.id.now c.in-Some.position _ _ _ _ c.send_part.result (λ records are. sym (c.in-Ok.ensures records are) ∙ c.in-Some.is) (rw (← listing) c.send_part.ensures)

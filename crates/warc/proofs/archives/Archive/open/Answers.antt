@@ -1,13 +1,11 @@
-use Rattle.warc_reading.proofs.GrowLemmas.{opens_failed, opens_made}
-use Rattle.warc_reading.proofs.IndexedLemmas.{are_of_same}
+use Rattle.warc_reading.proofs.IndexedLemmas.{are_of_same, opens_with, refuses_with}
 use Rattle.warc.proofs.archives.Archive.open.Goals as goal
 
 pub returns-in-Ok : goal.returns-in-Ok
-returns-in-Ok g c = opens_made _ _ _ _ _ _ _ c.in-Ok.is c.new.ensures c.new-gathering.ensures (λ bytes kept. record {
+returns-in-Ok g c = opens_with _ _ (λ bytes kept. record {
   listed = kept.listed;
-  kept =
-      are_of_same _ _ _ _ _ c.into_lookup.ensures.index c.into_lookup.ensures.parts kept.beside;
-}) c.read_on-answer.ensures.grows
+  kept = are_of_same _ _ _ _ _ c.into_lookup-kept.ensures.index c.into_lookup-kept.ensures.parts kept.beside;
+}) c.in-Ok.ensures
 
 pub returns-in-Err : goal.returns-in-Err
-returns-in-Err g c = opens_failed _ _ _ _ _ _ c.in-Err.is c.new.ensures c.new-gathering.ensures c.read_on-answer.ensures.grows
+returns-in-Err g c = refuses_with _ c.in-Err.ensures
