@@ -9,7 +9,7 @@ use Rattle.warc_frame.specs.declared.fault.OutFault.TheVariants as outs
 use Rattle.warc_frame.proofs.EffectLemmas.{reads_both, reads_within}
 use Rattle.warc_index.specs.declared.unfound.Unfound.{Unfound}
 use Rattle.warc_field.specs.Area.{Pair}
-use Rattle.warc_record.specs.Readings.{Reading, reading_of}
+use Rattle.warc_record.specs.Readings.{reading_of}
 use Rattle.warc_segment.specs.Joined.{PlacedRecord, PlacesAreOfRecords, joined_places}
 use Rattle.warc_segment.specs.declared.place.Place.{Place}
 use Rattle.warc_answer.specs.Answers.{IsAnswerOn}
@@ -125,7 +125,7 @@ on_path records found path {old} {new} is has =
     subst (λ (f : Result Path Unfound). ReadsOnly (IsOnPath records f) (path_reads records f) old new) (sym is) has
 
 -- the places of an origin that is found are those of what is joined to it
-pub places_in : (bytes : List ℕ) (records : List Placed) (position : ℕ) → SpellsFrom 0 records bytes → {fields : List Pair} {head : Reading} (items : List Place) (at : IsOriginAt records position fields head items) → PlacesAreOfRecords
+pub places_in : (bytes : List ℕ) (records : List Placed) (position : ℕ) → SpellsFrom 0 records bytes → {fields : List Pair} (items : List Place) (at : IsOriginAt records position fields items) → PlacesAreOfRecords
     → PlacesAreAsLong → ArePlacesIn records (slice_get records position) items
 places_in bytes records position spelled items at law long =
     let (joined, whole, places) = places_are bytes records position at.placed spelled at.there items law at.places_are in

@@ -1,10 +1,10 @@
 -- Which records are marked as needed, by position. States of the code: no public clause cites them.
 use Rattle.std.specs.Prelude.{◌≡◌, ◌⊎◌, ◌↔◌, ℕ, ◌<◌, Bool, true, false, List, [], ◌∷◌, length, map, Contains, slice_get, slice_index_or, Option, Some, Result, IfErr, IfOk, OnOk}
+use Rattle.warc_field.specs.Area.{Pair}
 use Rattle.warc_frame.specs.Effects.{FailsBy}
 use Rattle.warc_frame.specs.Seen.{IfHeld, SeenSource}
 use Rattle.warc_frame.specs.declared.fault.OutFault.{OutFault}
 use Rattle.warc_record.specs.Readings.{Reading, reading_of}
-use Rattle.warc_record.specs.Seen.{said}
 use Rattle.warc_record.specs.declared.readings.SegmentNumber.TheVariants.{Number}
 use Rattle.warc_index.specs.Walks.{walk}
 use Rattle.warc_segment.specs.Joined.{piece_placed}
@@ -14,7 +14,6 @@ use Rattle.warc_reading.specs.Archive.{IsArchiveOf}
 use Rattle.warc_reading.specs.Indexed.{placed_record}
 use Rattle.warc_reading.specs.Rereading.{ReadsHeads}
 use Rattle.warc_reading.specs.Row.{Placed, Row}
-use Rattle.warc_reading.specs.declared.rereading.Reread.{Reread}
 use Rattle.warc.specs.Selecting.{ArePositions}
 use Rattle.warc_answer.specs.Seen.{IsEarly}
 use Rattle.warc_answer.specs.declared.answer.ReplayFault.TheVariants.{Out}
@@ -96,11 +95,11 @@ pub record IsSegmentAt (records : List Placed) (p q : ℕ) : Type 0 where
   pub there : slice_get records p ≡ Some first
   pub is : IsSegmentBy (pieces_of records) (reading_of first.content.fields) q
 
--- what is said by the head of the record at a position, read again; of the source that head alone is read
-pub record SaysAgain {A : Type 0} (rows : List Row) (position : ℕ) (old new : SeenSource)
-    (answer : Result (Reread A) OutFault) : Type 0 where
+-- the fields of the record at a position, read again; of the source its head alone is read
+pub record SaysAgain (rows : List Row) (position : ℕ) (old new : SeenSource)
+    (answer : Result (List Pair) OutFault) : Type 0 where
   pub told : IfHeld old.holds (λ bytes. (is : IsArchiveOf bytes rows) (p : Placed)
-      → slice_get is.are.records position ≡ Some p → IfOk answer (λ x. said x.typed ≡ reading_of p.content.fields))
+      → slice_get is.are.records position ≡ Some p → IfOk answer (λ head. head ≡ p.content.fields))
   pub early : IfErr answer (λ e. IsEarly (Out e))
   pub reads : (row : Row) → slice_get rows position ≡ Some row → ReadsHeads (row ∷ []) old new
   pub fails : FailsBy (λ bytes. IsArchiveOf bytes rows) answer old new

@@ -4,8 +4,6 @@ use Rattle.std.specs.Prelude.{◌≡◌, ℕ, ◌+◌, ◌<◌, ◌≤◌, List,
 use Rattle.warc_field.specs.Area.{Pair}
 use Rattle.warc_frame.specs.Effects.{FailsBy, Preserves, ReadsOnly}
 use Rattle.warc_frame.specs.Seen.{AsksOnly, IfHeld, SeenSource}
-use Rattle.warc_record.specs.Readings.{Reading, reading_of}
-use Rattle.warc_record.specs.Seen.{said}
 use Rattle.warc_frame.specs.declared.fault.OutFault.TheVariants.{Memory}
 use Rattle.warc_segment.specs.Joined.{joined_places}
 use Rattle.warc_segment.specs.Kept.{Kept as Parts, kept_in}
@@ -42,13 +40,11 @@ abbrev pub IsRecordAt : List Row → Parts → ℕ → List ℕ → Type 0
 IsRecordAt rows parts position bytes = (is : IsArchiveOf bytes rows) × ArePartsOf is.are.records parts
     × (position < length (contents is.are.records))
 
--- the record at the position is this one, its head says this, and these are the places of what is joined to its block
-pub record IsOriginAt (records : List Placed) (position : ℕ) (fields : List Pair) (head : Reading) (places : List Place)
-    : Type 0 where
+-- the record at the position has these fields, and these are the places of what is joined to its block
+pub record IsOriginAt (records : List Placed) (position : ℕ) (fields : List Pair) (places : List Place) : Type 0 where
   pub placed : Placed
   pub there : slice_get records position ≡ Some placed
   pub fields_are : fields ≡ placed.content.fields
-  pub head_is : head ≡ reading_of placed.content.fields
   pub places_are : joined_places (map placed_record records) (placed_record placed) ≡ Ok places
 
 -- the segments of the record at the position don't join
@@ -59,7 +55,7 @@ pub record IsGapAt (records : List Placed) (position : ℕ) (gap : Gap) : Type 0
 
 -- the origin at a position; or its gap, or nothing where a read or a growth of the memory failed
 abbrev pub IsOriginFound : {A : Type 0} → List Placed → ℕ → Result (Origin A) ReplayFault → Type 0
-IsOriginFound records position (Ok o) = IsOriginAt records position o.head.fields (said o.head.typed) o.places.items
+IsOriginFound records position (Ok o) = IsOriginAt records position o.head o.places.items
 IsOriginFound records position (Err (Reason why)) = (gap : Gap) × (why ≡ Segments gap) × IsGapAt records position gap
 IsOriginFound records position (Err (Out e)) = ⊤
 

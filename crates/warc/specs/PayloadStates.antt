@@ -144,7 +144,7 @@ pub record JudgesNextPayload {A : Type 0} (rows : List Row) (index : Indexes) (p
     (known knows : List Known) (old new : SeenSource) (answer : Result (Compared A) OutFault) : Type 0 where
   pub told : IfHeld old.holds (λ bytes. (is : IsArchiveOf bytes rows) → AreOf is.are.records index parts
       → AreKnown (contents is.are.records) known → IfOk answer (λ c.
-      IsComparedAt (contents is.are.records) position c.head.fields c.verdict
+      IsComparedAt (contents is.are.records) position c.head c.verdict
       × AreKnown (contents is.are.records) knows))
   pub early : IfErr answer (λ e. IsEarly (Out e))
   pub inside : AsksInside rows index parts old new

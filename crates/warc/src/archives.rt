@@ -180,14 +180,12 @@ impl<S: Source, A: Allocator + Copy> Archive<S, A> {
     }
 
     /// The position of the first record of any kind with the id that a text holds.
-    fn first_with(&self, id: &[u8]) -> Result<Option<usize>, AllocError>
+    fn first_with(&self, id: &[u8]) -> Option<usize>
         ensures { (records : List Placed) → AreOf records self.now.index self.now.parts →
-            IfOk result (λ found. found ≡ position_with records id.now) }
+            result ≡ position_with records id.now }
     {
-        match id_key(self.opened.rows.allocator(), id)? {
-            Some(key) => Ok(self.opened.kept.index.first_with(&key)),
-            None => Ok(None),
-        }
+        let key = id_key(id)?;
+        self.opened.kept.index.first_with(&key)
     }
 
     /// Writes the block of the first record of any kind with the id, in brackets or without, and answers its length.
@@ -195,16 +193,13 @@ impl<S: Source, A: Allocator + Copy> Archive<S, A> {
     /// kept: it goes through a buffer of 8,192 bytes.
     ///
     /// A read that fails, or a source that no longer gives what it gave at opening, is `Read`; a write that fails is
-    /// `Write`. Each says how many bytes went out, which are the first of the block. `Memory` comes before any byte.
+    /// `Write`. Each says how many bytes went out, which are the first of the block. It takes no memory.
     pub fn extract<W: Sink>(&mut self, id: &[u8], out: &mut W) -> Result<u64, ExtractFault>
         ensures extracts { Extracts self.old id.now (S.seen self.old.listing.source)
             (S.seen self.new.listing.source) (W.seen out.old) (W.seen out.new) result }
         ensures unchanged { IsUnchanged self.old self.new }
     {
-        let Ok(found) = self.first_with(id) else {
-            return Err(ExtractFault::Out(OutFault::Memory(0)));
-        };
-        let Some(position) = found else {
+        let Some(position) = self.first_with(id) else {
             return Err(ExtractFault::NoRecord);
         };
         let Opened { source, rows, .. } = &mut self.opened;

@@ -12,15 +12,16 @@ use crate::needed::{Mark, free_marks, is_free, mark_ways, marked_positions, take
 use std::alloc::Allocator;
 use warc_frame::laws::head_of_spelled;
 use warc_frame::{OutFault, Source};
-use warc_reading::{Lookup, Reread, Rows, buffer_for, read_again};
+use warc_reading::{Lookup, Rows, buffer_for, reread_good};
+use warc_record::GoodHead;
 use warc_segment::Parts;
 
-/// The head of the record at a position, which is read again, and what it says.
+/// The head of the record at a position, which is read again.
 fn head_at<S: Source, A: Allocator + Copy>(
     source: &mut S,
     rows: &Rows<A>,
     position: usize,
-) -> Result<Reread<A>, OutFault>
+) -> Result<GoodHead<A>, OutFault>
     requires { position < length rows.now }
     ensures { SaysAgain rows.now position (S.seen source.old) (S.seen source.new) result }
 {
@@ -32,7 +33,7 @@ fn head_at<S: Source, A: Allocator + Copy>(
     let Ok(mut buf) = buffer_for(alloc, &row) else {
         return Err(OutFault::Memory(0));
     };
-    match read_again(alloc, source, &row, &mut buf) {
+    match reread_good(alloc, source, &row, &mut buf) {
         Ok(head) => Ok(head),
         Err(fault) => Err(fault.after(0)),
     }
@@ -53,7 +54,7 @@ fn take_segments_of<S: Source, A: Allocator + Copy>(
         (S.seen source.new) result }
 {
     let head = head_at(source, rows, position)?;
-    match take_series(parts, marks, &head.typed) {
+    match take_series(parts, marks, &head.typed()) {
         Ok(()) => Ok(()),
         Err(_) => Err(OutFault::Memory(0)),
     }
@@ -134,7 +135,7 @@ fn judge_segments_of<S: Source, A: Allocator + Copy>(
         (S.seen source.new) result }
 {
     let head = head_at(source, rows, position)?;
-    match leave_if_named(parts, standings, &head.typed, position) {
+    match leave_if_named(parts, standings, &head.typed(), position) {
         Ok(()) => Ok(()),
         Err(_) => Err(OutFault::Memory(0)),
     }

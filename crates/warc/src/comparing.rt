@@ -20,20 +20,20 @@ use crate::payload::{
 use std::alloc::Allocator;
 use warc_answer::laws::has_one_payload;
 use warc_answer::{ReplayFault, digest_own};
+use warc_field::Fields;
 use warc_frame::laws::head_of_spelled;
 use warc_frame::{OutFault, Source};
-use warc_reading::{Lookup, Reread, Row, Rows, buffer_for, read_again};
-use warc_record::Kind;
+use warc_reading::{Lookup, Row, Rows, buffer_for, reread_good};
+use warc_record::{GoodHead, Kind, Typed};
 
-/// The head of the record of a row, which is read again, and what it says.
+/// The head of the record of a row, which is read again.
 fn head_of_row<S: Source, A: Allocator + Copy>(
     alloc: A,
     source: &mut S,
     row: &Row<'_>,
-) -> Result<Reread<A>, OutFault>
-    ensures said { IfOk result (λ head. said head.typed ≡ reading_of head.fields) }
+) -> Result<GoodHead<A>, OutFault>
     ensures read { IfHeld (S.seen source.old).holds (λ bytes. (is : HasTextOf row.now bytes) →
-        IfOk result (λ head. head.fields ≡ is.placed.content.fields)) }
+        IfOk result (λ head. head ≡ is.placed.content.fields)) }
     ensures early { IfErr result (λ e. IsEarly (ReplayFault.Out e)) }
     ensures reads { ReadsHeads (row.now ∷ []) (S.seen source.old) (S.seen source.new) }
     ensures fails { FailsBy (HasTextOf row.now) result (S.seen source.old) (S.seen source.new) }
@@ -41,7 +41,7 @@ fn head_of_row<S: Source, A: Allocator + Copy>(
     let Ok(mut buf) = buffer_for(alloc, row) else {
         return Err(OutFault::Memory(0));
     };
-    match read_again(alloc, source, row, &mut buf) {
+    match reread_good(alloc, source, row, &mut buf) {
         Ok(head) => Ok(head),
         Err(fault) => Err(fault.after(0)),
     }
@@ -51,29 +51,24 @@ fn head_of_row<S: Source, A: Allocator + Copy>(
 fn own_verdict<S: Source, A: Allocator + Copy>(
     source: &mut S,
     row: &Row<'_>,
-    head: &Reread<A>,
+    fields: &Fields<A>,
+    typed: &Typed<'_>,
 ) -> Result<PayloadVerdict, OutFault>
-    requires { said head.now.typed ≡ reading_of head.now.fields }
+    requires { said typed.now ≡ reading_of fields.now }
     ensures told { IfHeld (S.seen source.old).holds (λ bytes. (is : HasTextOf row.now bytes) →
-        head.now.fields ≡ is.placed.content.fields → IfOk result (IsOwnVerdict is.placed.content)) }
+        fields.now ≡ is.placed.content.fields → IfOk result (IsOwnVerdict is.placed.content)) }
     ensures early { IfErr result (λ e. IsEarly (ReplayFault.Out e)) }
     ensures reads { ReadsOnly (IsInRange row.now.block_start row.now.block_len) (row.now.block_len + row.now.block_len)
         (S.seen source.old) (S.seen source.new) }
     ensures fails { FailsBy (HasTextOf row.now) result (S.seen source.old) (S.seen source.new) }
 {
     has_one_payload();
-    if let Some(verdict) = early_verdict(&head.fields) {
+    if let Some(verdict) = early_verdict(fields) {
         return Ok(verdict);
     }
-    let algorithm = algorithm_for(&head.fields);
-    match digest_own(
-        source,
-        &head.typed,
-        row.block_start,
-        row.block_len,
-        algorithm,
-    ) {
-        Ok(digest) => Ok(payload_verdict(&head.fields, digest)),
+    let algorithm = algorithm_for(fields);
+    match digest_own(source, typed, row.block_start, row.block_len, algorithm) {
+        Ok(digest) => Ok(payload_verdict(fields, digest)),
         Err(_) => Err(OutFault::Read(0)),
     }
 }
@@ -109,27 +104,28 @@ fn verdict_by_head<S: Source, A: Allocator + Copy>(
     lookup: &Lookup<A>,
     position: usize,
     row: &Row<'_>,
-    head: &Reread<A>,
+    head: &GoodHead<A>,
     digested: &mut KnownDigests<A>,
 ) -> Result<Option<PayloadVerdict>, OutFault>
-    requires { said head.now.typed ≡ reading_of head.now.fields }
-    ensures { JudgesPayload rows.now lookup.now.index lookup.now.parts position row.now head.now.fields
+    ensures { JudgesPayload rows.now lookup.now.index lookup.now.parts position row.now head.now
         digested.old.known.items digested.new.known.items (S.seen source.old) (S.seen source.new) result }
 {
     head_of_spelled();
-    if !states_payload(&head.fields) {
+    let fields = head.fields();
+    if !states_payload(fields) {
         return Ok(None);
     }
-    match holder_of(head.typed.kind) {
+    let typed = head.typed();
+    match holder_of(typed.kind) {
         Holder::Nobody => Ok(Some(PayloadVerdict::Unchecked(Unjudged::Request))),
         Holder::Origin => {
-            let algorithm = algorithm_for(&head.fields);
+            let algorithm = algorithm_for(fields);
             match path_digest(source, rows, lookup, position, algorithm, digested) {
-                Ok(digest) => Ok(Some(revisit_verdict(&head.fields, digest))),
+                Ok(digest) => Ok(Some(revisit_verdict(fields, digest))),
                 Err(fault) => Err(fault),
             }
         }
-        Holder::Itself => match own_verdict(source, row, head) {
+        Holder::Itself => match own_verdict(source, row, fields, &typed) {
             Ok(verdict) => Ok(Some(verdict)),
             Err(fault) => Err(fault),
         },
@@ -139,7 +135,7 @@ fn verdict_by_head<S: Source, A: Allocator + Copy>(
 /// The head of a record, and the verdict on its payload, if it states a digest.
 #[derive(Drop)]
 pub(crate) struct Compared<A: Allocator> {
-    pub(crate) head: Reread<A>,
+    pub(crate) head: GoodHead<A>,
     pub(crate) verdict: Option<PayloadVerdict>,
 }
 

@@ -12,11 +12,10 @@ use crate::stated::{StatedBlock, digest_value, plain_stated};
 use itoa::Buffer;
 use std::alloc::{AllocError, Allocator, Global};
 use std::marker::Model;
-use warc_field::Fields;
 use warc_frame::{Fault, OutBuffer, OutFault, SendFault, Sink, Source, put_columns};
 use warc_quick::{QuickHead, QuickRecord};
 use warc_reading::{Keep, Opened, Row};
-use warc_record::bare;
+use warc_record::{GoodHead, bare};
 use warc_value::Verdict;
 
 /// How many records an archive has, and how many of them have a block that its digest fits, one that it doesn't fit,
@@ -128,12 +127,12 @@ impl<A: Allocator + Copy> Keep<A> for Digests<A> {
         &mut self,
         alloc: A,
         _position: usize,
-        fields: &Fields<A>,
+        head: &GoodHead<A>,
         _block_start: u64,
         _block_len: u64,
         block: StatedBlock,
     ) -> Result<(), AllocError> {
-        self.add(alloc, block.verdict(), digest_value(fields))
+        self.add(alloc, block.verdict(), digest_value(head.fields()))
     }
 
     fn keep_plain(

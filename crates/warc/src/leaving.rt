@@ -181,7 +181,7 @@ fn recalled(standings: &[Standing], segment: usize) -> Option<bool>
 pub(crate) fn series_is_named<A: Allocator + Copy>(
     parts: &Parts<A>,
     standings: &mut [Standing],
-    typed: &Typed<A>,
+    typed: &Typed<'_>,
 ) -> Result<bool, AllocError>
     ensures same { length standings.new ≡ length standings.old }
     ensures judges { (all : List PlacedRecord) → parts.now ≡ kept_in all →
@@ -208,7 +208,7 @@ pub(crate) fn series_is_named<A: Allocator + Copy>(
 pub(crate) fn leave_if_named<A: Allocator + Copy>(
     parts: &Parts<A>,
     standings: &mut [Standing],
-    typed: &Typed<A>,
+    typed: &Typed<'_>,
     position: usize,
 ) -> Result<(), AllocError>
     ensures same { length standings.new ≡ length standings.old }

@@ -38,7 +38,7 @@ fn locate_on<S: Source, A: Allocator + Copy>(
         rows.allocator(),
         source,
         path,
-        &origin.head.typed,
+        &origin.head.typed(),
         &origin.places,
     )
 }

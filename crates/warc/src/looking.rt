@@ -43,8 +43,8 @@ fn look_at<S: Source, A: Allocator + Copy>(
     places_are_as_long();
     let origin = origin_at(source, rows, lookup, position)?;
     let alloc = rows.allocator();
-    let own = own_type(&origin.head.fields);
-    match judge_joined(alloc, source, &origin.head.typed, own, &origin.places) {
+    let own = own_type(origin.head.fields());
+    match judge_joined(alloc, source, &origin.head.typed(), own, &origin.places) {
         Ok(stored) => Ok(Look {
             stored,
             places: origin.places,

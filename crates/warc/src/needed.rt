@@ -114,7 +114,7 @@ fn is_segment(marks: &[Mark], position: usize) -> bool
 pub(crate) fn take_series<A: Allocator + Copy>(
     parts: &Parts<A>,
     marks: &mut [Mark],
-    typed: &Typed<A>,
+    typed: &Typed<'_>,
 ) -> Result<(), AllocError>
     ensures same { length marks.new ≡ length marks.old }
     ensures takes { (all : List PlacedRecord) → parts.now ≡ kept_in all → length marks.old ≡ length all →

@@ -9,21 +9,21 @@ use std::alloc::Allocator;
 use warc_answer::{Reason, ReplayFault};
 use warc_frame::laws::head_of_spelled;
 use warc_frame::{OutFault, Source};
-use warc_reading::{Lookup, Reread, Rows, buffer_for, read_again};
-use warc_record::Typed;
+use warc_reading::{Lookup, Rows, buffer_for, reread_good};
+use warc_record::{GoodHead, Typed};
 use warc_segment::{JoinFault, Parts, Place};
 
 /// A record's head, and the places of the blocks that are joined to its own.
 #[derive(Drop)]
 pub(crate) struct Origin<A: Allocator> {
-    pub(crate) head: Reread<A>,
+    pub(crate) head: GoodHead<A>,
     pub(crate) places: Vec<Place, A>,
 }
 
 /// The places of the blocks that are joined to a record's own, by what its head says and where its block is.
 fn joined<A: Allocator + Copy>(
     parts: &Parts<A>,
-    typed: &Typed<A>,
+    typed: &Typed<'_>,
     place: Place,
 ) -> Result<Vec<Place, A>, ReplayFault>
     ensures joined { (all : List PlacedRecord) → parts.now ≡ kept_in all → IsJoinedBy (λ places. places.items)
@@ -54,17 +54,18 @@ pub(crate) fn origin_at<S: Source, A: Allocator + Copy>(
     let Ok(mut buf) = buffer_for(alloc, &row) else {
         return Err(ReplayFault::Out(OutFault::Memory(0)));
     };
-    let head = match read_again(alloc, source, &row, &mut buf) {
+    let head = match reread_good(alloc, source, &row, &mut buf) {
         Ok(head) => head,
         Err(fault) => return Err(ReplayFault::Out(fault.after(0))),
     };
+    let typed = head.typed();
     let place = Place {
         start: row.block_start,
         len: row.block_len,
-        wanted: head.typed.wanted,
+        wanted: typed.wanted(),
         truncated: row.is_truncated,
     };
-    match joined(&lookup.parts, &head.typed, place) {
+    match joined(&lookup.parts, &typed, place) {
         Ok(places) => Ok(Origin { head, places }),
         Err(fault) => Err(fault),
     }

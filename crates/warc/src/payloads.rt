@@ -267,7 +267,7 @@ fn judge_next<S: Source, A: Allocator + Copy>(
         digested.new.known.items payloads.old payloads.new (S.seen source.old) (S.seen source.new) result }
 {
     let next = compare_at(source, rows, lookup, position, digested)?;
-    let value = payload_value(&next.head.fields);
+    let value = payload_value(next.head.fields());
     payloads.add_or_fail(rows.allocator(), next.verdict, value)
 }
 

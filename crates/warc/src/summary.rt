@@ -17,7 +17,7 @@ use warc_field::Fields;
 use warc_frame::{Fault, OutBuffer, OutFault, SendFault, Sink, Source, names, put_columns};
 use warc_quick::{QuickHead, QuickRecord};
 use warc_reading::{Keep, Opened, Rows};
-use warc_record::Kind;
+use warc_record::{GoodHead, Kind};
 use warc_value::{Moment, Verdict, read_date};
 
 /// How many records and bytes an archive has, how many records of each kind, how many captures, how many blocks of each
@@ -124,12 +124,12 @@ impl<A: Allocator + Copy> Keep<A> for RecordFlags<A> {
         &mut self,
         _alloc: A,
         _position: usize,
-        fields: &Fields<A>,
+        head: &GoodHead<A>,
         _block_start: u64,
         _block_len: u64,
         block: StatedBlock,
     ) -> Result<(), AllocError> {
-        self.add(has_segment_number(fields), block.verdict())
+        self.add(has_segment_number(head.fields()), block.verdict())
     }
 
     fn keep_plain(
@@ -139,9 +139,6 @@ impl<A: Allocator + Copy> Keep<A> for RecordFlags<A> {
         found: &QuickRecord<'_>,
         _block_start: u64,
     ) -> Result<(), AllocError> {
-        if !found.head.is_alone {
-            return Ok(());
-        }
         self.add(false, plain_stated(found))
     }
 

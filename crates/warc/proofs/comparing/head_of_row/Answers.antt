@@ -3,8 +3,8 @@ use Rattle.warc_reading.proofs.HeadLemmas.{fails_ended}
 use Rattle.warc_checking.proofs.JudgeLemmas.{head_there}
 use Rattle.warc.proofs.comparing.head_of_row.Goals as goal
 
-pub returns-in-Ok-read_again-clause-read : goal.returns-in-Ok-read_again-clause-read
-returns-in-Ok-read_again-clause-read g c = λ bytes held is. c.in-Ok-read_again.ensures.read bytes held (head_there c.args.row.now bytes is)
+pub returns-in-Ok-reread_good-clause-read : goal.returns-in-Ok-reread_good-clause-read
+returns-in-Ok-reread_good-clause-read g c = λ bytes held is. c.in-Ok-reread_good.ensures.read bytes held (head_there c.args.row.now bytes is)
 
 pub returns-clause-fails : goal.returns-clause-fails
 returns-clause-fails g c =

@@ -9,13 +9,13 @@ use Rattle.warc.proofs.comparing.own_verdict.Goals as goal
 
 pub returns-in-Some-clause-told : goal.returns-in-Some-clause-told
 returns-in-Some-clause-told g c = λ bytes held is same.
-    own_early c.has_one_payload.ensures.block is.placed.content c.args.head.now.fields c.in-Some.verdict same c.in-Some.ensures
+    own_early c.has_one_payload.ensures.block is.placed.content c.args.fields.now c.in-Some.verdict same c.in-Some.ensures
 
 pub returns-in-Ok-clause-told : goal.returns-in-Ok-clause-told
 returns-in-Ok-clause-told g c = λ bytes held is same.
     let start = ap (λ (r : Row). r.block_start) c.row.view_is in
     let len = ap (λ (r : Row). r.block_len) c.row.view_is in
-    own_made is.placed.content c.args.head.now.fields _ _ c.algorithm_for-algorithm.result c.in-Ok.digest c.payload_verdict.result same
+    own_made is.placed.content c.args.fields.now _ _ c.algorithm_for-algorithm.result c.in-Ok.digest c.payload_verdict.result same
     (ap is_http_response (c.requires ∙ ap reading_of same)) (block_here c.args.row.now bytes is _ _ start len) c.algorithm_for-algorithm.ensures c.payload_verdict.ensures
     (c.in-Ok.ensures.digest bytes held (block_there c.args.row.now bytes _ _ start len is))
 

@@ -1,6 +1,6 @@
-use Rattle.std.proofs.Common.{refl, ap}
+use Rattle.std.proofs.Common.{refl, sym, ap, ◌∙◌}
 use Rattle.warc_frame.proofs.EffectLemmas.{fails_as, fails_more, fails_never}
-use Rattle.warc_record.specs.Readings.{Reading}
+use Rattle.warc_record.specs.Readings.{Reading, reading_of}
 use Rattle.warc_reading.specs.Archive.{contents}
 use Rattle.warc.proofs.ComparedLemmas.{judged_none, judged_some, revisit_made}
 use Rattle.warc.proofs.DigestLemmas.{block_inside, text_at_row, text_there}
@@ -9,8 +9,8 @@ use Rattle.warc.proofs.comparing.verdict_by_head.Goals as goal
 pub returns-in-Nobody : goal.returns-in-Nobody
 returns-in-Nobody g c = record {
   told = λ bytes held is are known at. (
-    judged_some (contents is.are.records) c.args.position at.placed.content c.args.head.now.fields c.args.head.now.typed.kind _ at.fields_are (c.states_payload.ensures.some c.if-not-states_payload.false)
-        (ap (λ (r : Reading). r.kind) c.requires) (c.in-Nobody.ensures (contents is.are.records) c.args.position at.placed.content _ refl),
+    judged_some (contents is.are.records) c.args.position at.placed.content c.fields-fields.result.now c.typed-typed.result.kind _ (c.fields-fields.ensures.fields ∙ at.fields_are) (c.states_payload.ensures.some c.if-not-states_payload.false)
+        (ap (λ (r : Reading). r.kind) (c.typed-typed.ensures ∙ ap reading_of (sym c.fields-fields.ensures.fields))) (c.in-Nobody.ensures (contents is.are.records) c.args.position at.placed.content _ refl),
     known,
   );
   early = tt;
@@ -23,10 +23,10 @@ pub returns-in-Ok : goal.returns-in-Ok
 returns-in-Ok g c = record {
   told = λ bytes held is are known at.
       let (has, knows) = c.in-Ok.ensures.told bytes held is are known in (
-        judged_some (contents is.are.records) c.args.position at.placed.content c.args.head.now.fields c.args.head.now.typed.kind _ at.fields_are (c.states_payload.ensures.some c.if-not-states_payload.false)
-            (ap (λ (r : Reading). r.kind) c.requires)
+        judged_some (contents is.are.records) c.args.position at.placed.content c.fields-fields.result.now c.typed-typed.result.kind _ (c.fields-fields.ensures.fields ∙ at.fields_are) (c.states_payload.ensures.some c.if-not-states_payload.false)
+            (ap (λ (r : Reading). r.kind) (c.typed-typed.ensures ∙ ap reading_of (sym c.fields-fields.ensures.fields)))
             (c.in-Origin.ensures (contents is.are.records) c.args.position at.placed.content _
-            (revisit_made (contents is.are.records) c.args.position at.placed.content c.args.head.now.fields c.algorithm_for-algorithm.result c.in-Ok.digest c.revisit_verdict.result at.fields_are c.algorithm_for-algorithm.ensures c.revisit_verdict.ensures has)),
+            (revisit_made (contents is.are.records) c.args.position at.placed.content c.fields-fields.result.now c.algorithm_for-algorithm.result c.in-Ok.digest c.revisit_verdict.result (c.fields-fields.ensures.fields ∙ at.fields_are) c.algorithm_for-algorithm.ensures c.revisit_verdict.ensures has)),
         knows,
       );
   early = tt;
@@ -49,10 +49,10 @@ returns-in-Ok-own_verdict g c =
     let own = c.in-Ok-own_verdict.ensures in
     record {
       told = λ bytes held is are known at. (
-        judged_some (contents is.are.records) c.args.position at.placed.content c.args.head.now.fields c.args.head.now.typed.kind _ at.fields_are (c.states_payload.ensures.some c.if-not-states_payload.false)
-            (ap (λ (r : Reading). r.kind) c.requires)
+        judged_some (contents is.are.records) c.args.position at.placed.content c.fields-fields.result.now c.typed-typed.result.kind _ (c.fields-fields.ensures.fields ∙ at.fields_are) (c.states_payload.ensures.some c.if-not-states_payload.false)
+            (ap (λ (r : Reading). r.kind) (c.typed-typed.ensures ∙ ap reading_of (sym c.fields-fields.ensures.fields)))
             (c.in-Itself.ensures (contents is.are.records) c.args.position at.placed.content _
-            (own.told bytes held (text_at_row c.head_of_spelled.ensures bytes c.args.rows.now c.args.position c.args.row.now is at.placed at.there at.row_is) at.fields_are)),
+            (own.told bytes held (text_at_row c.head_of_spelled.ensures bytes c.args.rows.now c.args.position c.args.row.now is at.placed at.there at.row_is) (c.fields-fields.ensures.fields ∙ at.fields_are))),
         known,
       );
       early = tt;
@@ -75,7 +75,7 @@ returns-in-Err-own_verdict g c =
 pub returns-then-not-states_payload : goal.returns-then-not-states_payload
 returns-then-not-states_payload g c = record {
   told = λ bytes held is are known at.
-      (judged_none (contents is.are.records) c.args.position at.placed.content c.args.head.now.fields at.fields_are (c.states_payload.ensures.none c.if-not-states_payload.true), known);
+      (judged_none (contents is.are.records) c.args.position at.placed.content c.fields-fields.result.now (c.fields-fields.ensures.fields ∙ at.fields_are) (c.states_payload.ensures.none c.if-not-states_payload.true), known);
   early = tt;
   inside = λ there bytes is off. refl;
   keeps = record { kept = refl; watched = refl };

@@ -1,6 +1,7 @@
 use Rattle.std.proofs.Common.{Ok, refl, sym, ap, subst, ◌∙◌, arith}
 use Rattle.std.proofs.lemmas.Result.{err_from_is_err_and}
 use Rattle.warc_frame.proofs.EffectLemmas.{fails_after, fails_more}
+use Rattle.warc_record.specs.Readings.{reading_of}
 use Rattle.warc_segment.specs.Joined.{ArePlacesOf}
 use Rattle.warc_answer.specs.Stored.{own_type}
 use Rattle.warc_answer.specs.declared.answer.Path.{Path}
@@ -41,7 +42,7 @@ returns-in-Err g c =
             short = is.short;
             leads = found_as is.are.records (Ok path) path at.placed refl at.there (Ok joined) whole;
             places_are = subst (λ l. ArePlacesOf bytes l joined) (sym c.deref.ensures.value) places;
-          }) at.head_is (c.own_type-own.ensures ∙ ap own_type at.fields_are));
+          }) (c.typed.ensures ∙ ap reading_of at.fields_are) (c.own_type-own.ensures ∙ ap own_type (c.fields.ensures.fields ∙ at.fields_are)));
       reads = λ bytes held is parts. record {
         reads =
             let at = found.told bytes held is parts in
@@ -80,7 +81,7 @@ returns-in-Ok g c =
             short = is.short;
             leads = found_as is.are.records (Ok path) path at.placed refl at.there (Ok joined) whole;
             places_are = subst (λ l. ArePlacesOf bytes l joined) (sym c.deref.ensures.value) places;
-          }) at.head_is (c.own_type-own.ensures ∙ ap own_type at.fields_are));
+          }) (c.typed.ensures ∙ ap reading_of at.fields_are) (c.own_type-own.ensures ∙ ap own_type (c.fields.ensures.fields ∙ at.fields_are)));
       reads = λ bytes held is parts.
           let at = found.told bytes held is parts in
           let places = places_in bytes is.are.records c.args.position is.are.spelled items at c.places_are_of_records.ensures c.places_are_as_long.ensures in

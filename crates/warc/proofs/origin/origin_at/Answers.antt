@@ -59,51 +59,50 @@ returns-in-Err g c = record {
 
 pub returns : goal.returns
 returns g c =
-    let q : PlacedRecord = record { head = said c.in-Ok-read_again.head.typed; place = record { start = c.row.inside.block_start; len = c.row.inside.block_len; wanted = c.in-Ok-read_again.head.typed.wanted; truncated = c.row.inside.is_truncated } } in
+    let q : PlacedRecord = record { head = said c.typed-typed.result; place = record { start = c.row.inside.block_start; len = c.row.inside.block_len; wanted = c.wanted.result; truncated = c.row.inside.is_truncated } } in
     record {
       told = λ bytes held is parts.
           let (p, there, same) = placed is.are.records c.args.position c.in-Some.row (ap (λ l. slice_get l c.args.position) (sym is.are.rows_are) ∙ sym c.get.ensures ∙ c.in-Some.is) in
           let can = checkable_archive c.head_of_spelled.ensures bytes c.args.rows.now is c.args.rows.now refl in
-          let says = c.in-Ok-read_again.ensures.said ∙ ap reading_of (c.in-Ok-read_again.ensures.read bytes held (record { placed = p; has = can.heads c.args.position p there; row_is = same })) in
-          not_found (Unit {0}) (Unit {0}) (λ x. []) is.are.records c.args.position p q c.in-Err-joined.fault there says (place_by_row p _ _ (c.row.view_is ∙ same) (ap (λ h. h.wanted) says)) (c.in-Err-joined.ensures.joined (map placed_record is.are.records) parts);
+          let says = c.typed-typed.ensures ∙ ap reading_of (c.in-Ok-reread_good.ensures.read bytes held (record { placed = p; has = can.heads c.args.position p there; row_is = same })) in
+          not_found (Unit {0}) (Unit {0}) (λ x. []) is.are.records c.args.position p q c.in-Err-joined.fault there says (place_by_row p _ _ (c.row.view_is ∙ same) (c.wanted.ensures ∙ ap (λ h. h.wanted) says)) (c.in-Err-joined.ensures.joined (map placed_record is.are.records) parts);
       reads = λ bytes held is parts.
           let (p, there, same) = placed is.are.records c.args.position c.in-Some.row (ap (λ l. slice_get l c.args.position) (sym is.are.rows_are) ∙ sym c.get.ensures ∙ c.in-Some.is) in
-          head_only is.are.records c.args.position p c.in-Some.row there same c.in-Ok-read_again.ensures.reads;
+          head_only is.are.records c.args.position p c.in-Some.row there same c.in-Ok-reread_good.ensures.reads;
       inside = λ bytes is parts.
           let (p, there, same) = placed is.are.records c.args.position c.in-Some.row (ap (λ l. slice_get l c.args.position) (sym is.are.rows_are) ∙ sym c.get.ensures ∙ c.in-Some.is) in
-          record { asks = head_inside bytes is.are.records c.args.position p is.are.spelled there c.in-Some.row _ _ same c.in-Ok-read_again.ensures.reads; ends = tt };
+          record { asks = head_inside bytes is.are.records c.args.position p is.are.spelled there c.in-Some.row _ _ same c.in-Ok-reread_good.ensures.reads; ends = tt };
       early = unjoined_early _ c.in-Err-joined.ensures.fault;
-      keeps = record { kept = c.in-Ok-read_again.ensures.reads.kept; watched = c.in-Ok-read_again.ensures.reads.watched };
-      fails = unjoined_fails (Unit {0}) _ c.in-Err-joined.ensures.fault c.in-Ok-read_again.ensures.fails.may;
+      keeps = record { kept = c.in-Ok-reread_good.ensures.reads.kept; watched = c.in-Ok-reread_good.ensures.reads.watched };
+      fails = unjoined_fails (Unit {0}) _ c.in-Err-joined.ensures.fault c.in-Ok-reread_good.ensures.fails.may;
     }
 
 pub returns-in-Ok-joined : goal.returns-in-Ok-joined
 returns-in-Ok-joined g c =
-    let q : PlacedRecord = record { head = said c.in-Ok-read_again.head.typed; place = record { start = c.row.inside.block_start; len = c.row.inside.block_len; wanted = c.in-Ok-read_again.head.typed.wanted; truncated = c.row.inside.is_truncated } } in
+    let q : PlacedRecord = record { head = said c.typed-typed.result; place = record { start = c.row.inside.block_start; len = c.row.inside.block_len; wanted = c.wanted.result; truncated = c.row.inside.is_truncated } } in
     record {
       told = λ bytes held is parts.
           let (p, there, same) = placed is.are.records c.args.position c.in-Some.row (ap (λ l. slice_get l c.args.position) (sym is.are.rows_are) ∙ sym c.get.ensures ∙ c.in-Some.is) in
           let can = checkable_archive c.head_of_spelled.ensures bytes c.args.rows.now is c.args.rows.now refl in
-          let fields = c.in-Ok-read_again.ensures.read bytes held (record { placed = p; has = can.heads c.args.position p there; row_is = same }) in
-          let says = c.in-Ok-read_again.ensures.said ∙ ap reading_of fields in
+          let fields = c.in-Ok-reread_good.ensures.read bytes held (record { placed = p; has = can.heads c.args.position p there; row_is = same }) in
+          let says = c.typed-typed.ensures ∙ ap reading_of fields in
           record {
             placed = p;
             there = there;
             fields_are = fields;
-            head_is = says;
-            places_are = as_placed is.are.records p q (Ok c.in-Ok-joined.places.items) says (place_by_row p _ _ (c.row.view_is ∙ same) (ap (λ h. h.wanted) says)) (c.in-Ok-joined.ensures.joined (map placed_record is.are.records) parts);
+            places_are = as_placed is.are.records p q (Ok c.in-Ok-joined.places.items) says (place_by_row p _ _ (c.row.view_is ∙ same) (c.wanted.ensures ∙ ap (λ h. h.wanted) says)) (c.in-Ok-joined.ensures.joined (map placed_record is.are.records) parts);
           };
       reads = λ bytes held is parts.
           let (p, there, same) = placed is.are.records c.args.position c.in-Some.row (ap (λ l. slice_get l c.args.position) (sym is.are.rows_are) ∙ sym c.get.ensures ∙ c.in-Some.is) in
-          head_only is.are.records c.args.position p c.in-Some.row there same c.in-Ok-read_again.ensures.reads;
+          head_only is.are.records c.args.position p c.in-Some.row there same c.in-Ok-reread_good.ensures.reads;
       inside = λ bytes is parts.
           let (p, there, same) = placed is.are.records c.args.position c.in-Some.row (ap (λ l. slice_get l c.args.position) (sym is.are.rows_are) ∙ sym c.get.ensures ∙ c.in-Some.is) in
           record {
-            asks = head_inside bytes is.are.records c.args.position p is.are.spelled there c.in-Some.row _ _ same c.in-Ok-read_again.ensures.reads;
+            asks = head_inside bytes is.are.records c.args.position p is.are.spelled there c.in-Some.row _ _ same c.in-Ok-reread_good.ensures.reads;
             ends = joined_end bytes is.are.records c.args.position p is.are.spelled there q c.in-Ok-joined.places.items (ap (λ (r : Row). r.block_start) (c.row.view_is ∙ same)) (ap (λ (r : Row). r.block_len) (c.row.view_is ∙ same))
                 (c.in-Ok-joined.ensures.joined (map placed_record is.are.records) parts);
           };
       early = tt;
-      keeps = record { kept = c.in-Ok-read_again.ensures.reads.kept; watched = c.in-Ok-read_again.ensures.reads.watched };
-      fails = fails_never c.in-Ok-read_again.ensures.fails.may;
+      keeps = record { kept = c.in-Ok-reread_good.ensures.reads.kept; watched = c.in-Ok-reread_good.ensures.reads.watched };
+      fails = fails_never c.in-Ok-reread_good.ensures.fails.may;
     }

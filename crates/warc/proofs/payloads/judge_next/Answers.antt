@@ -1,6 +1,8 @@
+use Rattle.std.proofs.Common.{ap, ◌∙◌}
 use Rattle.std.proofs.lemmas.Result.{err_from_is_err_and}
 use Rattle.warc_frame.proofs.EffectLemmas.{fails_as}
 use Rattle.warc_reading.specs.Archive.{contents}
+use Rattle.warc.specs.PayloadVerdicts.{payload_value}
 use Rattle.warc.proofs.CaptureLemmas.{memory_early}
 use Rattle.warc.proofs.ComparedLemmas.{judged_next, next_memory}
 use Rattle.warc.proofs.payloads.judge_next.Goals as goal
@@ -22,7 +24,7 @@ returns g c =
     record {
       told = λ bytes held is are known judged.
           let (at, knows) = next.told bytes held is are known in
-          judged_next c.add_or_fail.result (contents is.are.records) c.args.position _ _ c.in_ok-next.next.head.fields c.in_ok-next.next.verdict c.payload_value-value.result.now _ knows judged at c.payload_value-value.ensures c.add_or_fail.ensures.ok;
+          judged_next c.add_or_fail.result (contents is.are.records) c.args.position _ _ c.in_ok-next.next.head c.in_ok-next.next.verdict c.payload_value-value.result.now _ knows judged at (c.payload_value-value.ensures ∙ ap payload_value c.fields.ensures.fields) c.add_or_fail.ensures.ok;
       early = memory_early _ c.add_or_fail.ensures.memory;
       inside = next.inside;
       keeps = next.keeps;
