@@ -1,12 +1,12 @@
 //! Replays of joined blocks: what is answered and what goes out, and what where a read or a write fails.
 
-use crate::stored::{Block, Named, stored, typed};
+use crate::stored::{Block, Named, stored};
 use crate::telling::{fault_of, tell};
 use std::alloc::{AllocError, Global};
 use suites_script::{Case, Trial};
 use warc_answer::{Answer, Path, ReplayFault, replay_joined};
-use warc_frame::MemSink;
-use warc_record::Typed;
+use warc_frame::{MemSink, read_one};
+use warc_record::{Typed, type_head};
 use warc_segment::Place;
 use warc_value::{Wanted, digest};
 use warc_vectors::{Break, BrokenSource, BrokenWriter};
@@ -45,7 +45,7 @@ const WHOLE: Reads = Reads {
 /// What a replay to a sink answers.
 fn replay(
     source: &mut BrokenSource,
-    origin: &Typed,
+    origin: &Typed<'_>,
     places: &[Place],
     sink: &mut MemSink,
 ) -> Result<Answer, ReplayFault> {
@@ -55,7 +55,7 @@ fn replay(
 /// What a replay to a writer answers.
 fn replay_to_writer(
     source: &mut BrokenSource,
-    origin: &Typed,
+    origin: &Typed<'_>,
     places: &[Place],
     writer: &mut BrokenWriter,
 ) -> Result<Answer, ReplayFault> {
@@ -66,7 +66,7 @@ fn replay_to_writer(
 fn send(
     alloc: Global,
     source: &mut BrokenSource,
-    origin: &Typed,
+    origin: &Typed<'_>,
     places: &[Place],
     blocks: &[Block],
 ) -> Result<Vec<u8>, AllocError> {
@@ -81,7 +81,7 @@ fn send(
 /// The same where the blocks are read so.
 fn read_and_send(
     alloc: Global,
-    origin: &Typed,
+    origin: &Typed<'_>,
     blocks: &[Block],
     reads: Reads,
 ) -> Result<Vec<u8>, AllocError> {
@@ -93,7 +93,7 @@ fn read_and_send(
 /// Tells what is answered where one write to a writer breaks, each being of one byte.
 fn write_out(
     alloc: Global,
-    origin: &Typed,
+    origin: &Typed<'_>,
     blocks: &[Block],
     writer: &mut BrokenWriter,
 ) -> Result<Vec<u8>, AllocError> {
@@ -106,7 +106,7 @@ fn write_out(
 /// The same of the write of that number.
 fn break_write(
     alloc: Global,
-    origin: &Typed,
+    origin: &Typed<'_>,
     blocks: &[Block],
     how: Break,
     number: u64,
@@ -125,7 +125,7 @@ enum Failing {
 /// What is answered if the read or write with this number fails.
 fn fail_at(
     alloc: Global,
-    origin: &Typed,
+    origin: &Typed<'_>,
     blocks: &[Block],
     failing: Failing,
     number: u64,
@@ -140,7 +140,7 @@ fn fail_at(
 /// twice in a row is added once.
 fn fail_each(
     alloc: Global,
-    origin: &Typed,
+    origin: &Typed<'_>,
     blocks: &[Block],
     failing: Failing,
     answer: &mut Vec<u8>,
@@ -167,7 +167,7 @@ fn fail_each(
 /// Tells what is answered, which is the same with reads of 1 byte, of 7 bytes and of all.
 fn replay_in_pieces(
     alloc: Global,
-    origin: &Typed,
+    origin: &Typed<'_>,
     blocks: &[Block],
     answer: &mut Vec<u8>,
 ) -> Result<(), AllocError> {
@@ -186,7 +186,7 @@ fn replay_in_pieces(
 /// Reports what is answered for a place of a block in a source of these bytes.
 fn replay_place(
     alloc: Global,
-    origin: &Typed,
+    origin: &Typed<'_>,
     case: &Case<'_>,
     answer: &mut Vec<u8>,
 ) -> Result<(), AllocError> {
@@ -203,7 +203,7 @@ fn replay_place(
 /// Answers a case about an origin with this head.
 fn answer_about(
     alloc: Global,
-    origin: &Typed,
+    origin: &Typed<'_>,
     blocks: &[Block],
     case: &Case<'_>,
     answer: &mut Vec<u8>,
@@ -286,9 +286,12 @@ impl Replays {
         case: &Case<'_>,
         answer: &mut Vec<u8>,
     ) -> Result<(), AllocError> {
-        match typed(alloc, &self.head) {
-            Some(origin) => answer_about(alloc, &origin, &self.blocks, case, answer),
-            None => answer.extend_from_slice(b"no head\n"),
+        let Ok((framed, _)) = read_one(alloc, &self.head) else {
+            return answer.extend_from_slice(b"no head\n");
+        };
+        match type_head(framed.fields()) {
+            Ok(origin) => answer_about(alloc, &origin, &self.blocks, case, answer),
+            Err(_) => answer.extend_from_slice(b"no head\n"),
         }
     }
 }

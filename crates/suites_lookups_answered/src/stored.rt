@@ -1,8 +1,6 @@
 //! Origins, and the blocks that are joined to them.
 
 use std::alloc::{AllocError, Global};
-use warc_frame::read_one;
-use warc_record::{Typed, type_head};
 use warc_segment::Place;
 use warc_value::Wanted;
 
@@ -19,14 +17,6 @@ pub(crate) struct Block {
     pub(crate) bytes: Vec<u8>,
     pub(crate) wanted: Wanted,
     pub(crate) truncated: bool,
-}
-
-/// What the head says that a text begins with.
-pub(crate) fn typed(alloc: Global, text: &[u8]) -> Option<Typed> {
-    match read_one(alloc, text) {
-        Ok((framed, _)) => type_head(alloc, framed.fields()).ok(),
-        Err(_) => None,
-    }
 }
 
 /// Bytes that hold the blocks, the last one first, with other bytes between them; and the places of the blocks.

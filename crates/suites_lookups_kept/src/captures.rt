@@ -4,7 +4,7 @@ use crate::heads::{Head, Records, Step};
 use std::alloc::{AllocError, Global};
 use suites_script::{Case, Refusal, Refusals};
 use warc_index::{Index, Unfound, UnorderedIndex};
-use warc_record::{Typed, id_key};
+use warc_record::{Typed, id_key, type_head};
 use warc_value::read_date;
 use warc_vectors::{Heap, RefusingAllocator};
 
@@ -37,17 +37,11 @@ fn by_pair(index: &Index<Heap<'_>>, target: &[u8], date: &[u8]) -> Option<usize>
 }
 
 /// The first capture with an id, or the first record with it.
-fn by_id(
-    alloc: Global,
-    index: &Index<Heap<'_>>,
-    id: &[u8],
-    is_capture: bool,
-) -> Result<Option<usize>, AllocError> {
-    match id_key(alloc, id) {
-        Ok(Some(key)) if is_capture => Ok(index.by_key(&key)),
-        Ok(Some(key)) => Ok(index.first_with(&key)),
-        Ok(None) => Ok(None),
-        Err(error) => Err(error),
+fn by_id(index: &Index<Heap<'_>>, id: &[u8], is_capture: bool) -> Option<usize> {
+    match id_key(id) {
+        Some(key) if is_capture => index.by_key(&key),
+        Some(key) => index.first_with(&key),
+        None => None,
     }
 }
 
@@ -64,19 +58,6 @@ fn latest_text(
     }
 }
 
-/// What it answers to an id.
-fn id_text(
-    alloc: Global,
-    index: &Index<Heap<'_>>,
-    id: &[u8],
-    is_capture: bool,
-) -> Result<String, AllocError> {
-    match by_id(alloc, index, id, is_capture) {
-        Ok(position) => position_text(alloc, position),
-        Err(error) => Err(error),
-    }
-}
-
 /// What it answers to the words of a case from one on.
 fn asked(
     alloc: Global,
@@ -89,8 +70,8 @@ fn asked(
     match case.text(from) {
         "latest" => latest_text(alloc, index, one, two),
         "pair" => position_text(alloc, by_pair(index, one, two)),
-        "capture" => id_text(alloc, index, one, true),
-        "first" => id_text(alloc, index, one, false),
+        "capture" => position_text(alloc, by_id(index, one, true)),
+        "first" => position_text(alloc, by_id(index, one, false)),
         "origin" => {
             let number = case.number(from.saturating_add(1)) as usize;
             found_text(alloc, index.origin(number))
@@ -102,7 +83,7 @@ fn asked(
 
 /// Adds what a head says, again where it is refused. Whether it was; `None` where that left another number of bytes
 /// kept, or it is refused again.
-fn add_again(index: &mut Index<Heap<'_>>, typed: &Typed) -> Option<bool> {
+fn add_again(index: &mut Index<Heap<'_>>, typed: &Typed<'_>) -> Option<bool> {
     let kept = index.kept();
     if index.add(typed).is_ok() {
         return Some(false);
@@ -112,7 +93,8 @@ fn add_again(index: &mut Index<Heap<'_>>, typed: &Typed) -> Option<bool> {
 
 /// The same of a record.
 fn add_head(alloc: Global, index: &mut Index<Heap<'_>>, head: &Head) -> Option<bool> {
-    match head.typed(alloc) {
+    let fields = head.fields(alloc).ok()?;
+    match type_head(&fields) {
         Ok(typed) => add_again(index, &typed),
         Err(_) => None,
     }
@@ -137,7 +119,7 @@ fn add_all(alloc: Global, index: &mut Index<Heap<'_>>, records: &Records) -> Opt
 
 /// Adds what a head says to those that wait to be put in order, again where it is refused. Whether it was; `None` where
 /// it is refused again.
-fn push_again(index: &mut UnorderedIndex<Heap<'_>>, typed: &Typed) -> Option<bool> {
+fn push_again(index: &mut UnorderedIndex<Heap<'_>>, typed: &Typed<'_>) -> Option<bool> {
     if index.add(typed).is_ok() {
         return Some(false);
     }
@@ -146,7 +128,8 @@ fn push_again(index: &mut UnorderedIndex<Heap<'_>>, typed: &Typed) -> Option<boo
 
 /// The same of a record.
 fn push_head(alloc: Global, index: &mut UnorderedIndex<Heap<'_>>, head: &Head) -> Option<bool> {
-    match head.typed(alloc) {
+    let fields = head.fields(alloc).ok()?;
+    match type_head(&fields) {
         Ok(typed) => push_again(index, &typed),
         Err(_) => None,
     }

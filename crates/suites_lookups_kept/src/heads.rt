@@ -4,46 +4,35 @@ use crate::captures::answer_capture;
 use crate::series::answer_series;
 use std::alloc::{AllocError, Allocator, Global};
 use suites_script::{Case, Trial};
-use warc_field::read_area;
-use warc_record::{Typed, type_head};
-use warc_segment::Place;
-use warc_value::Wanted;
+use warc_field::{Fields, read_area};
 
-/// A record: what it is called, the field lines of its head, the length of its block, and where that stands, if this
+/// A record: what it is called, the field lines of its head, the length of its block, and where that begins, if this
 /// isn't by its position.
 #[derive(Drop)]
 pub(crate) struct Head {
     name: Vec<u8>,
     text: Vec<u8>,
     len: u64,
-    place: Option<Place>,
+    start: Option<u64>,
 }
 
 impl Head {
-    /// What the head says. Its lines read, so that memory alone can be wanting.
-    pub(crate) fn typed<A: Allocator + Copy>(&self, alloc: A) -> Result<Typed<A>, AllocError> {
-        typed(alloc, &self.text)
+    /// The fields of the head. Its lines read, so that memory alone can be wanting.
+    pub(crate) fn fields<A: Allocator + Copy>(&self, alloc: A) -> Result<Fields<A>, AllocError> {
+        read_area(alloc, &self.text).map_err(|_| AllocError)
     }
 
-    /// The place of its block where it is the record at a position.
-    pub(crate) fn place(&self, position: u64) -> Place {
-        match self.place {
-            Some(place) => place,
-            None => Place {
-                start: position.saturating_add(1).saturating_mul(1000),
-                len: self.len,
-                wanted: Wanted::Unchecked,
-                truncated: false,
-            },
+    /// The offset at which its block begins where it is the record at a position.
+    pub(crate) fn start(&self, position: u64) -> u64 {
+        match self.start {
+            Some(start) => start,
+            None => position.saturating_add(1).saturating_mul(1000),
         }
     }
-}
 
-/// What the field lines of a head say.
-fn typed<A: Allocator + Copy>(alloc: A, text: &[u8]) -> Result<Typed<A>, AllocError> {
-    match read_area(alloc, text) {
-        Ok(fields) => type_head(alloc, &fields).map_err(|_| AllocError),
-        Err(_) => Err(AllocError),
+    /// The length of its block.
+    pub(crate) fn len(&self) -> u64 {
+        self.len
     }
 }
 
@@ -64,19 +53,13 @@ pub struct Records {
     steps: Vec<Step>,
 }
 
-/// The place that the words of a case say, if any.
-fn place_of(case: &Case<'_>) -> Option<Place> {
-    let wanted = match case.text(4) {
-        "checked" => Wanted::Sha1([7; 20]),
-        "unchecked" => Wanted::Unchecked,
-        _ => return None,
-    };
-    Some(Place {
-        start: case.number(3),
-        len: case.number(2),
-        wanted,
-        truncated: case.text(5) == "truncated",
-    })
+/// The offset that the words of a case say, if any.
+fn start_of(case: &Case<'_>) -> Option<u64> {
+    if case.word(3).is_empty() {
+        None
+    } else {
+        Some(case.number(3))
+    }
 }
 
 /// The head of the revisit with a number in a chain, which names another number.
@@ -134,7 +117,7 @@ impl Records {
             name: case.word(1).to_vec(alloc)?,
             text: case.given().to_vec(alloc)?,
             len: case.optional_number(2),
-            place: place_of(case),
+            start: start_of(case),
         };
         self.heads.push(head).map_err(|_| AllocError)
     }
@@ -146,7 +129,7 @@ impl Records {
             name: Vec::new(alloc),
             text: text.as_bytes().to_vec(alloc)?,
             len: 0,
-            place: None,
+            start: None,
         };
         self.steps.push(Step::Add(number))?;
         self.heads.push(head).map_err(|_| AllocError)

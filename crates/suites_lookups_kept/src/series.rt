@@ -3,7 +3,7 @@
 use crate::heads::{Head, Records, Step};
 use std::alloc::{AllocError, Global};
 use suites_script::Case;
-use warc_record::{SegmentNumber, Typed};
+use warc_record::{SegmentNumber, Typed, type_head};
 use warc_segment::{Gap, JoinFault, Parts, Place};
 use warc_value::Wanted;
 use warc_vectors::{Heap, RefusingAllocator};
@@ -16,33 +16,30 @@ const MOST: u64 = 5000;
 
 /// Adds what a head says, again where memory was refused. Whether it was refused; `None` where that left another number
 /// of bytes kept, or where memory was refused again.
-fn add_again<'a>(
-    parts: &mut Parts<Heap<'a>>,
-    typed: &Typed<Heap<'a>>,
-    place: Place,
-) -> Option<bool> {
+fn add_again(parts: &mut Parts<Heap<'_>>, typed: &Typed<'_>, start: u64, len: u64) -> Option<bool> {
     let kept = parts.kept();
-    if parts.add(typed, place).is_ok() {
+    if parts.add(typed, start, len).is_ok() {
         return Some(false);
     }
-    (parts.kept() == kept && parts.add(typed, place).is_ok()).then_some(true)
+    (parts.kept() == kept && parts.add(typed, start, len).is_ok()).then_some(true)
 }
 
-/// The same of a record, whose head takes its memory elsewhere.
-fn add_head<'a>(
-    parts: &mut Parts<Heap<'a>>,
-    willing: Heap<'a>,
+/// The same of a record, whose fields take their memory elsewhere.
+fn add_head(
+    parts: &mut Parts<Heap<'_>>,
+    willing: Heap<'_>,
     head: &Head,
     position: u64,
 ) -> Option<bool> {
-    match head.typed(willing) {
-        Ok(typed) => add_again(parts, &typed, head.place(position)),
+    let fields = head.fields(willing).ok()?;
+    match type_head(&fields) {
+        Ok(typed) => add_again(parts, &typed, head.start(position), head.len()),
         Err(_) => None,
     }
 }
 
 /// Lets happen what happens to an archive. Whether an addition was refused; `None` where that changed something.
-fn make<'a>(parts: &mut Parts<Heap<'a>>, willing: Heap<'a>, records: &Records) -> Option<bool> {
+fn make(parts: &mut Parts<Heap<'_>>, willing: Heap<'_>, records: &Records) -> Option<bool> {
     let mut is_refused = false;
     let mut position = 0u64;
     for step in records.steps() {
@@ -100,8 +97,19 @@ fn join<'a>(
     head: &Head,
     position: u64,
 ) -> Result<Vec<Place, Heap<'a>>, JoinFault> {
-    match head.typed(willing) {
-        Ok(typed) => parts.join(&typed, head.place(position)),
+    let Ok(fields) = head.fields(willing) else {
+        return Err(JoinFault::Memory);
+    };
+    match type_head(&fields) {
+        Ok(typed) => {
+            let place = Place {
+                start: head.start(position),
+                len: head.len(),
+                wanted: typed.wanted(),
+                truncated: typed.texts.is_truncated,
+            };
+            parts.join(&typed, place)
+        }
         Err(_) => Err(JoinFault::Memory),
     }
 }
@@ -257,27 +265,21 @@ impl Refused {
 
 /// Adds a segment with a number to a series of `count`, each with a block of one byte. The last one alone states the
 /// total.
-fn add_number<'a>(
-    parts: &mut Parts<Heap<'a>>,
-    typed: &mut Typed<Heap<'a>>,
+fn add_number(
+    parts: &mut Parts<Heap<'_>>,
+    typed: &mut Typed<'_>,
     number: u64,
     count: u64,
 ) -> Result<(), AllocError> {
     typed.segment.number = SegmentNumber::Number(number);
     typed.segment.total = if number == count { Some(count) } else { None };
-    let place = Place {
-        start: number.saturating_add(1).saturating_mul(1000),
-        len: 1,
-        wanted: Wanted::Unchecked,
-        truncated: false,
-    };
-    parts.add(typed, place)
+    parts.add(typed, number.saturating_add(1).saturating_mul(1000), 1)
 }
 
 /// Adds the segments of such a series but the first, the last one first.
-fn add_numbers<'a>(
-    parts: &mut Parts<Heap<'a>>,
-    typed: &mut Typed<Heap<'a>>,
+fn add_numbers(
+    parts: &mut Parts<Heap<'_>>,
+    typed: &mut Typed<'_>,
     count: u64,
 ) -> Result<(), AllocError> {
     for number in (2..=count).rev() {
@@ -287,14 +289,17 @@ fn add_numbers<'a>(
 }
 
 /// The same with a head.
-fn add_numbered<'a>(
-    parts: &mut Parts<Heap<'a>>,
-    willing: Heap<'a>,
+fn add_numbered(
+    parts: &mut Parts<Heap<'_>>,
+    willing: Heap<'_>,
     head: &Head,
     count: u64,
 ) -> Result<(), AllocError> {
-    let mut typed = head.typed(willing)?;
-    add_numbers(parts, &mut typed, count)
+    let fields = head.fields(willing)?;
+    match type_head(&fields) {
+        Ok(mut typed) => add_numbers(parts, &mut typed, count),
+        Err(_) => Err(AllocError),
+    }
 }
 
 /// How many places at the front begin so, and each a thousand bytes behind the one before.
