@@ -178,7 +178,7 @@ def bad_edits(top: str, paths: list[str]) -> Iterator[str]:
 
 def numbers_of_papers(top: str, paths: list[str]) -> Iterator[str]:
     for path in paths:
-        if path.endswith((".edit", "/stdin", "/stdout", ".warc", ".lock")) or path.startswith("tools/lint"):
+        if path.endswith((".edit", "/stdin", "/stdout", ".script", ".warc", ".lock")) or path.startswith("tools/lint"):
             continue
         for number, line in enumerate(lines_of(top, path), 1):
             found = PAPER.search(line)

@@ -18,7 +18,7 @@ LINK = re.compile(r"\[([^\]]+)\]\(\.\./([^)]+)\)")
 # What each claim rests on, with the files that its links lead to.
 CARRIERS = {
     "Contract": r"crates/\w+/src/\w+\.rt",
-    "Case": r"crates/suites_\w+/stdin",
+    "Case": r"crates/suites_\w+/(?:stdin|data/\w+\.script)",
     "Planted bug": r"crates/\w+/must-fail/\w+\.edit",
 }
 
@@ -30,7 +30,7 @@ def missing_in(text: str, path: str) -> str | None:
     name = " ".join(text.strip("`").split())
     if path.endswith(".rt") and not re.search(rf"\bfn {re.escape(name.split('::')[-1])}\b", read(path)):
         return f"{path} has no function {name}"
-    if path.endswith("/stdin") and not re.search(rf"^== (?:[\w ]+: )?{re.escape(name)}$", read(path), re.MULTILINE):
+    if path.endswith(("/stdin", ".script")) and not re.search(rf"^== (?:[\w ]+: )?{re.escape(name)}$", read(path), re.MULTILINE):
         return f"{path} has no case {name}"
     return None
 

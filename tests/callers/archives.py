@@ -4,12 +4,12 @@
 Usage: archives.py FOLDER
 
 Every text that a case of a script gives and that begins as an archive becomes a file, and so do its changed and
-shortened forms. Most are damaged in some way. The first lines of each script say how it is written.
+shortened forms. Most are damaged in some way. crates/suites_script says how a script is written.
 """
 import os
 import re
 import sys
-from typing import Iterator, List, Tuple
+from typing import Dict, Iterator, List, Tuple
 
 TOP = os.path.dirname(os.path.dirname(os.path.dirname(os.path.abspath(__file__))))
 ESCAPE = re.compile(rb"\\(?:x(..)|(.))", re.DOTALL)
@@ -45,8 +45,8 @@ def cases(script: bytes) -> Iterator[Tuple[bytes, bytes]]:
     yield words, given
 
 
-def texts(script: bytes) -> Iterator[bytes]:
-    """The archives that a script speaks of."""
+def texts(script: bytes, named: Dict[bytes, bytes]) -> Iterator[bytes]:
+    """The archives that a script speaks of. Those that it gives with a name are kept for the scripts after it."""
     last, old = b"", b""
     for words, given in cases(script):
         word, _, rest = words.partition(b" ")
@@ -56,17 +56,28 @@ def texts(script: bytes) -> Iterator[bytes]:
             yield last.replace(old, given, 1)
         elif word == b"first" and rest.isdigit():
             yield last[: int(rest)]
+        elif word == b"again":
+            last = named[rest]
         else:
-            last = given if word == b"archive" else last
+            if word == b"archive":
+                last = named[rest] = given
             yield given
+
+
+def scripts() -> Iterator[str]:
+    """The paths of the scripts, in the order in which the suites read them."""
+    with open(f"{TOP}/crates/suites_archives/args", encoding="ascii") as args:
+        yield from (f"suites_archives/data/{name}" for name in args.read().split())
+    yield from ("suites_lookups/stdin", "suites_texts/stdin")
 
 
 def archives() -> List[bytes]:
     """All archives of all scripts, each once."""
     found = {b"": None}
-    for suite in ("suites_archives", "suites_lookups", "suites_texts"):
-        with open(f"{TOP}/crates/{suite}/stdin", "rb") as script:
-            found.update((text, None) for text in texts(script.read()) if text.startswith(b"WARC/"))
+    named: Dict[bytes, bytes] = {}
+    for path in scripts():
+        with open(f"{TOP}/crates/{path}", "rb") as script:
+            found.update((text, None) for text in texts(script.read(), named) if text.startswith(b"WARC/"))
     return list(found)
 
 

@@ -1,15 +1,20 @@
 //! The suite of archives: what the program does with archives in memory, and what calls of the library answer over
-//! them, by a script on standard input.
+//! them, by the scripts that the words of its command line name. `data/README` says what a script may say.
 #![tactic(auto)]
 
 mod by_reads;
 
 use std::alloc::{AllocError, Global};
+use std::env;
+use std::fs::File;
 use std::io::{self, Read, Write};
 use std::process::ExitCode;
 use suites_archives_moved::{Moves, keeps_answers};
 use suites_archives_program::Archives;
-use suites_script::{Case, Trial, try_script};
+use suites_script::{Case, Report, Trial};
+
+/// The word before the text that the names of cases hold which are tried.
+const ONLY: &str = "--only";
 
 #[derive(Drop)]
 struct Trials {
@@ -78,18 +83,60 @@ impl Trial for Trials {
     }
 }
 
+/// What the words of the command line ask for: the paths of scripts, and the text that the names of cases hold.
+#[derive(Drop)]
+struct Asked<'a> {
+    paths: Vec<&'a str>,
+    only: &'a str,
+}
+
+/// What the words of the command line ask for, of which the first is the program's name.
+fn asked_by(alloc: Global, words: &[String]) -> Result<Asked<'_>, AllocError> {
+    let mut asked = Asked {
+        paths: Vec::new(alloc),
+        only: "",
+    };
+    let mut is_only = false;
+    for word in words.iter().skip(1) {
+        if is_only {
+            asked.only = word.as_str();
+            is_only = false;
+        } else if word.as_str() == ONLY {
+            is_only = true;
+        } else {
+            asked.paths.push(word.as_str())?;
+        }
+    }
+    Ok(asked)
+}
+
+/// The text of a file.
+fn text_at(rt: &HostRuntime, path: &str) -> io::Result<Vec<u8>> {
+    let mut text = Vec::new(rt.alloc());
+    File::open(rt, path)?.read_to_end(&mut text)?;
+    Ok(text)
+}
+
+/// Adds what was counted of all archives, and what is tried with each.
+fn add_counts(alloc: Global, trials: &Trials, report: &mut Report) -> Result<(), AllocError> {
+    report.add_line(&trials.archives.openings(alloc)?)?;
+    report.add_line(&trials.archives.damages(alloc)?)?;
+    report.add_line(&trials.moves.counts(alloc)?)
+}
+
 fn main(rt: HostRuntime) -> io::Result<ExitCode> {
     let alloc = rt.alloc();
-    let mut script = Vec::new(alloc);
-    rt.reader().read_to_end(&mut script)?;
+    let words: Vec<String> = env::args(&rt)?.collect(alloc)?;
+    let asked = asked_by(alloc, &words)?;
     let mut trials = Trials {
         archives: Archives::new(alloc),
         moves: Moves::new(),
     };
-    let mut report = try_script(alloc, &script, &mut trials)?;
-    report.add_line(&trials.archives.openings(alloc)?)?;
-    report.add_line(&trials.archives.damages(alloc)?)?;
-    report.add_line(&trials.moves.counts(alloc)?)?;
+    let mut report = Report::new(alloc, asked.only)?;
+    for path in &asked.paths {
+        report.try_script(alloc, &text_at(&rt, path)?, &mut trials)?;
+    }
+    add_counts(alloc, &trials, &mut report)?;
     let status = report.status();
     rt.stdout().write_all(&report.into_text(alloc)?)?;
     Ok(status)

@@ -37,11 +37,20 @@ impl Openings {
     }
 }
 
+/// An archive that was given with a name.
+#[derive(Drop)]
+struct NamedArchive {
+    name: Vec<u8>,
+    bytes: Vec<u8>,
+}
+
 /// The archive of a script.
 #[derive(Drop)]
 pub struct Archives {
     /// The one that was given last.
     given: Vec<u8>,
+    /// Those that were given with a name.
+    named: Vec<NamedArchive>,
     /// It, or what was made of it last.
     bytes: Vec<u8>,
     /// The text in it that is to be replaced.
@@ -58,6 +67,7 @@ impl Archives {
     pub fn new(alloc: Global) -> Archives {
         Archives {
             given: Vec::new(alloc),
+            named: Vec::new(alloc),
             bytes: Vec::new(alloc),
             old: Vec::new(alloc),
             given_count: 0,
@@ -81,7 +91,8 @@ impl Archives {
         answer: &mut Vec<u8>,
     ) -> Result<bool, AllocError> {
         match case.text(0) {
-            "archive" => self.give(alloc, case.given(), answer)?,
+            "archive" => self.give(alloc, case.word(1), case.given(), answer)?,
+            "again" => self.give_again(alloc, case.word(1), answer)?,
             "replace" => self.forget(alloc, case.given(), answer)?,
             "by" => self.replace(alloc, case.given(), answer)?,
             "first" => self.cut(alloc, case.number(1), answer)?,
@@ -108,17 +119,53 @@ impl Archives {
         Ok(())
     }
 
+    /// Takes an archive, and keeps it under its name if it has one.
     fn give(
         &mut self,
         alloc: Global,
+        name: &[u8],
         bytes: &[u8],
         answer: &mut Vec<u8>,
     ) -> Result<(), AllocError> {
-        self.given = bytes.to_vec(alloc)?;
-        self.bytes = bytes.to_vec(alloc)?;
+        self.take(alloc, bytes)?;
+        self.keep(alloc, name, bytes)?;
         self.given_count = self.given_count.saturating_add(1);
         self.damages.damage_both(alloc, bytes, answer)?;
         tell_otherwise(alloc, bytes, bytes, &mut self.openings, answer)
+    }
+
+    /// Takes an archive as it is.
+    fn take(&mut self, alloc: Global, bytes: &[u8]) -> Result<(), AllocError> {
+        self.given = bytes.to_vec(alloc)?;
+        self.bytes = bytes.to_vec(alloc)?;
+        Ok(())
+    }
+
+    /// Keeps an archive under its name, if it has one.
+    fn keep(&mut self, alloc: Global, name: &[u8], bytes: &[u8]) -> Result<(), AllocError> {
+        if name.is_empty() {
+            return Ok(());
+        }
+        let kept = NamedArchive {
+            name: name.to_vec(alloc)?,
+            bytes: bytes.to_vec(alloc)?,
+        };
+        self.named.push(kept)?;
+        Ok(())
+    }
+
+    /// Takes the archive that was given with a name.
+    fn give_again(
+        &mut self,
+        alloc: Global,
+        name: &[u8],
+        answer: &mut Vec<u8>,
+    ) -> Result<(), AllocError> {
+        let found = match self.named.iter().find(|it| it.name.as_slice() == name) {
+            Some(kept) => kept.bytes.to_vec(alloc)?,
+            None => return answer.extend_from_slice(b"no archive has this name\n"),
+        };
+        self.take(alloc, &found)
     }
 
     /// Takes an archive that was made of the one that was given.

@@ -1,6 +1,7 @@
 //! What comes of a script.
 
 use crate::cases::Case;
+use memchr::memmem;
 use std::alloc::{AllocError, Global};
 use std::process::ExitCode;
 
@@ -19,26 +20,82 @@ pub trait Trial {
 #[derive(Drop)]
 pub struct Report {
     told: Vec<u8>,
-    /// How many cases stand under the last name.
+    /// How many cases are under the last name.
     named: usize,
     cases: usize,
     /// How many lines of words want no answer: they give, make or name what cases are about.
     steps: usize,
     failed: usize,
+    /// What the name of a case holds that is tried.
+    only: Vec<u8>,
 }
 
 impl Report {
-    fn new(alloc: Global) -> Report {
-        Report {
+    /// No cases so far. Of those to come, the ones are tried whose name holds a text.
+    pub fn new(alloc: Global, only: &str) -> Result<Report, AllocError> {
+        Ok(Report {
             told: Vec::new(alloc),
             named: 0,
             cases: 0,
             steps: 0,
             failed: 0,
-        }
+            only: only.as_bytes().to_vec(alloc)?,
+        })
     }
 
-    /// Tells how many cases stood under a name, and begins another.
+    /// Whether a case under a name is tried. A step is, whatever its name: later cases need what it gives.
+    fn tries(&self, name: &[u8], case: &Case<'_>) -> bool {
+        case.wanted().is_empty() || memmem::find(name, &self.only).is_some()
+    }
+
+    /// Tries the cases of a script, and adds what comes of them.
+    pub fn try_script<T: Trial>(
+        &mut self,
+        alloc: Global,
+        script: &[u8],
+        trial: &mut T,
+    ) -> Result<(), AllocError> {
+        let mut name = b"".as_slice();
+        let mut case = Case::new(alloc, b"");
+        for line in script.split(|byte| *byte == b'\n') {
+            match Line::of(line) {
+                Line::Nothing => {}
+                Line::Part(mark, text) => case.add(mark, text)?,
+                Line::Words(words) => {
+                    self.try_case(alloc, name, &case, trial)?;
+                    case = Case::new(alloc, words);
+                }
+                Line::Name(next) => {
+                    self.try_case(alloc, name, &case, trial)?;
+                    case = Case::new(alloc, b"");
+                    self.end(alloc, name)?;
+                    name = next;
+                }
+            }
+        }
+        self.try_case(alloc, name, &case, trial)?;
+        self.end(alloc, name)
+    }
+
+    /// Tries a case, and counts what comes of it.
+    fn try_case<T: Trial>(
+        &mut self,
+        alloc: Global,
+        name: &[u8],
+        case: &Case<'_>,
+        trial: &mut T,
+    ) -> Result<(), AllocError> {
+        if !self.tries(name, case) {
+            return Ok(());
+        }
+        let mut answer = Vec::new(alloc);
+        if !case.line().is_empty() {
+            trial.answer(alloc, case, &mut answer)?;
+        }
+        self.count(case, &answer)
+    }
+
+    /// Reports how many cases are under a name, and begins another.
     fn end(&mut self, alloc: Global, name: &[u8]) -> Result<(), AllocError> {
         if self.named > 0 {
             let count = format!(in alloc; ": {}\n", self.named)?;
@@ -133,20 +190,6 @@ impl<'a> Line<'a> {
     }
 }
 
-/// Tries a case, and counts what comes of it.
-fn try_case<T: Trial>(
-    alloc: Global,
-    trial: &mut T,
-    case: &Case<'_>,
-    report: &mut Report,
-) -> Result<(), AllocError> {
-    let mut answer = Vec::new(alloc);
-    if !case.line().is_empty() {
-        trial.answer(alloc, case, &mut answer)?;
-    }
-    report.count(case, &answer)
-}
-
 /// The report of a script: a line for each name, with the number of its cases; what was wanted and answered of each
 /// case that failed, or what is wrong with it; and how many cases and steps there were, and how many failed.
 pub fn try_script<T: Trial>(
@@ -154,26 +197,7 @@ pub fn try_script<T: Trial>(
     script: &[u8],
     trial: &mut T,
 ) -> Result<Report, AllocError> {
-    let mut report = Report::new(alloc);
-    let mut name = b"".as_slice();
-    let mut case = Case::new(alloc, b"");
-    for line in script.split(|byte| *byte == b'\n') {
-        match Line::of(line) {
-            Line::Nothing => {}
-            Line::Part(mark, text) => case.add(mark, text)?,
-            Line::Words(words) => {
-                try_case(alloc, trial, &case, &mut report)?;
-                case = Case::new(alloc, words);
-            }
-            Line::Name(next) => {
-                try_case(alloc, trial, &case, &mut report)?;
-                case = Case::new(alloc, b"");
-                report.end(alloc, name)?;
-                name = next;
-            }
-        }
-    }
-    try_case(alloc, trial, &case, &mut report)?;
-    report.end(alloc, name)?;
+    let mut report = Report::new(alloc, "")?;
+    report.try_script(alloc, script, trial)?;
     Ok(report)
 }
