@@ -74,8 +74,9 @@ fn reason_parts(reason: Option<Reason>) -> (&'static str, &'static str, Option<u
     }
 }
 
-/// Adds a line of ten columns to the output: the instant is in two parts, and the reason in three.
-fn put_texts<'a, W: Sink>(
+/// The texts of a line of ten columns: the instant is in two parts, and the reason in three.
+#[derive(Clone, Copy)]
+struct LineTexts<'a> {
     chosen: &'a [u8],
     date: &'a [u8],
     front: &'a [u8],
@@ -89,63 +90,90 @@ fn put_texts<'a, W: Sink>(
     gap: &'a [u8],
     number: &'a [u8],
     target: &'a [u8],
+}
+
+/// Adds the line of these texts to the output.
+fn put_texts<W: Sink>(
+    texts: &LineTexts<'_>,
     buffer: &mut OutBuffer,
     out: &mut W,
 ) -> Result<(), SendFault>
-    ensures { Puts (W.seen out.old) (W.seen out.new) buffer.old buffer.new result (columns_of chosen.now date.now
-        (front.now ++ rest.now) kind.now given.now status.now media_type.now size.now
-        (name.now ++ gap.now ++ number.now) target.now) }
+    ensures { Puts (W.seen out.old) (W.seen out.new) buffer.old buffer.new result (columns_of texts.now.chosen.now
+        texts.now.date.now (texts.now.front.now ++ texts.now.rest.now) texts.now.kind.now texts.now.given.now
+        texts.now.status.now texts.now.media_type.now texts.now.size.now
+        (texts.now.name.now ++ texts.now.gap.now ++ texts.now.number.now) texts.now.target.now) }
 {
     let pieces = [
-        chosen, b"\t", date, b"\t", front, rest, b"\t", kind, b"\t", given, b"\t", status, b"\t",
-        media_type, b"\t", size, b"\t", name, gap, number, b"\t", target, b"\n",
+        texts.chosen,
+        b"\t",
+        texts.date,
+        b"\t",
+        texts.front,
+        texts.rest,
+        b"\t",
+        texts.kind,
+        b"\t",
+        texts.given,
+        b"\t",
+        texts.status,
+        b"\t",
+        texts.media_type,
+        b"\t",
+        texts.size,
+        b"\t",
+        texts.name,
+        texts.gap,
+        texts.number,
+        b"\t",
+        texts.target,
+        b"\n",
     ];
     put_all(&pieces, buffer, out)
+}
+
+/// What is said of a capture beside its row: its position, that of its origin, what is stored there, and the reason
+/// why it gives no body.
+#[derive(Clone, Copy)]
+struct Shown<'a> {
+    chosen: u64,
+    given: Option<u64>,
+    status: Option<u64>,
+    media_type: &'a [u8],
+    size: Option<u64>,
+    reason: Option<Reason>,
 }
 
 /// Adds the line of a capture to the output.
 fn put_shown<W: Sink>(
     row: &Row<'_>,
-    chosen: u64,
-    given: Option<u64>,
-    status: Option<u64>,
-    media_type: &[u8],
-    size: Option<u64>,
-    reason: Option<Reason>,
+    shown: &Shown<'_>,
     buffer: &mut OutBuffer,
     out: &mut W,
 ) -> Result<(), SendFault>
     ensures { Puts (W.seen out.old) (W.seen out.new) buffer.old buffer.new result
-        (columns_line row.now chosen given status media_type.now size reason) }
+        (columns_line row.now shown.now.chosen shown.now.given shown.now.status shown.now.media_type.now
+        shown.now.size shown.now.reason) }
 {
     let (mut first, mut second) = (Buffer::new(), Buffer::new());
     let (mut third, mut fourth, mut fifth) = (Buffer::new(), Buffer::new(), Buffer::new());
     let front = date_front(row.date);
-    let rest = date_rest(front.len());
-    let (name, gap, number) = reason_parts(reason);
-    let given = number_shown(given, &mut second);
-    let status = number_shown(status, &mut third);
-    let media_type = shown_as(media_type);
-    let size = number_shown(size, &mut fourth);
-    let number = digits_shown(number, &mut fifth);
-    let target = shown_as(row.target);
-    put_texts(
-        first.format(chosen).as_bytes(),
-        row.date,
+    let (name, gap, number) = reason_parts(shown.reason);
+    let texts = LineTexts {
+        chosen: first.format(shown.chosen).as_bytes(),
+        date: row.date,
         front,
-        rest,
-        row.kind,
-        given,
-        status,
-        media_type,
-        size,
-        name.as_bytes(),
-        gap.as_bytes(),
-        number,
-        target,
-        buffer,
-        out,
-    )
+        rest: date_rest(front.len()),
+        kind: row.kind,
+        given: number_shown(shown.given, &mut second),
+        status: number_shown(shown.status, &mut third),
+        media_type: shown_as(shown.media_type),
+        size: number_shown(shown.size, &mut fourth),
+        name: name.as_bytes(),
+        gap: gap.as_bytes(),
+        number: digits_shown(number, &mut fifth),
+        target: shown_as(row.target),
+    };
+    put_texts(&texts, buffer, out)
 }
 
 /// A position as a number of a line.
@@ -180,19 +208,20 @@ fn put_stored<W: Sink, A: Allocator>(
     ensures { Puts (W.seen out.old) (W.seen out.new) buffer.old buffer.new result
         (line_by row.now chosen given (Ok (stored_seen stored.now))) }
 {
-    let status = status_number(stored.status);
-    let media_type = &stored.media_type;
-    if stored.coded {
-        let reason = Some(Reason::Coded);
-        put_shown(
-            row, chosen, given, status, media_type, None, reason, buffer, out,
-        )
+    let (size, reason) = if stored.coded {
+        (None, Some(Reason::Coded))
     } else {
-        let size = Some(stored.length);
-        put_shown(
-            row, chosen, given, status, media_type, size, None, buffer, out,
-        )
-    }
+        (Some(stored.length), None)
+    };
+    let shown = Shown {
+        chosen,
+        given,
+        status: status_number(stored.status),
+        media_type: &stored.media_type,
+        size,
+        reason,
+    };
+    put_shown(row, &shown, buffer, out)
 }
 
 /// Adds the line of a capture of which nothing is stored.
@@ -207,17 +236,15 @@ fn put_reason<W: Sink>(
     ensures { Puts (W.seen out.old) (W.seen out.new) buffer.old buffer.new result
         (columns_line row.now chosen given None [] None (Some reason)) }
 {
-    put_shown(
-        row,
+    let shown = Shown {
         chosen,
         given,
-        None,
-        b"",
-        None,
-        Some(reason),
-        buffer,
-        out,
-    )
+        status: None,
+        media_type: b"",
+        size: None,
+        reason: Some(reason),
+    };
+    put_shown(row, &shown, buffer, out)
 }
 
 /// Adds the line of a capture to the output, by its row.
