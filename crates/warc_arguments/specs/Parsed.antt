@@ -15,3 +15,8 @@ pub record IsParsed (words : List Text) (parsed : Result Request CommandFault) :
   pub accepted : IfOk parsed (λ _. fault_of warc_app words ≡ [])
   pub taken : IfErr parsed (λ e. takes warc_app words ≡ true → e ≡ Memory)
   pub told : IfErr parsed (IsToldBy (fault_of warc_app words))
+
+-- a command line that was read: its words, and what they name
+pub record ReadLine : Type 0 where
+  pub words : List Text
+  pub parsed : Result Request CommandFault

@@ -3,11 +3,13 @@
 #![tactic(auto)]
 
 mod digits;
+mod line;
 mod lookup;
 mod numbers;
 mod words;
 
 pub use digits::{UriFault, bytes_of};
+pub use line::CommandLine;
 pub use lookup::explanation_of;
 pub use numbers::EXPLANATIONS;
 pub use words::{Command, CommandFault, Draft, Request, parse};

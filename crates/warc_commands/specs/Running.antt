@@ -1,5 +1,5 @@
 -- How a run of the program ends, by its words and by what the system gives it.
-use Rattle.std.specs.Prelude.{◌≡◌, ℕ, ◌+◌, ◌<◌, ◌≤◌, ◌&&◌, ◌||◌, unwrap_or, Bool, true, false, List, [], map, length, nat_le, take, Option, Some, None, Result, Ok, Err, MatchOption, MatchResult, Vec, String, codes, string_bytes, ◌⊎◌, if◌then◌else◌}
+use Rattle.std.specs.Prelude.{◌≡◌, ℕ, ◌+◌, ◌<◌, ◌≤◌, ◌&&◌, ◌||◌, unwrap_or, Bool, true, false, List, [], length, nat_le, take, Option, Some, None, Result, Ok, Err, MatchOption, MatchResult, codes, ◌⊎◌, if◌then◌else◌}
 use Rattle.std.specs.Str.{bytes_eq}
 use Rattle.std.specs.IoError.{error_kind}
 use Rattle.std.specs.declared.io.Error.{Error}
@@ -9,7 +9,7 @@ use Rattle.warc_frame.specs.FaultText.{out_fault_text}
 use Rattle.warc_frame.specs.Seen.{IfHeld, Seen, SeenSource}
 use Rattle.warc_frame.specs.declared.fault.OutFault.TheVariants.{Memory}
 use Rattle.warc_arguments.specs.Command.{list_word, opens_nothing, path_word, reads_once}
-use Rattle.warc_arguments.specs.Parsed.{IsParsed}
+use Rattle.warc_arguments.specs.Parsed.{IsParsed, ReadLine}
 use Rattle.warc_commands.specs.Devices.{devices}
 use Rattle.warc_commands.specs.Ends.{Ends, IsStatusOf, writes_front}
 use Rattle.warc_commands.specs.Program.{FaultEnds, IsNotRead, Tells, told_line}
@@ -255,7 +255,7 @@ CommandEnds true gives left command old new status = IsStopped two_inputs old ne
 CommandEnds false gives left command old new status =
     PlaceEnds (command_place command) gives left command old new status
 
--- how a run ends whose words are texts
+-- how a run ends, by its words
 pub record WordsEnd (gives : Offer → Type 0) (left : Option SeenSource) (words : List (List ℕ)) (old new : Outputs)
     (status : ℕ) : Type 0 where
   pub parsed : Result Request CommandFault
@@ -266,8 +266,7 @@ pub record WordsEnd (gives : Offer → Type 0) (left : Option SeenSource) (words
 
 -- How a run ends, by what the system gives and by what is seen of the source that it gives back: a failed read is
 -- reported only where that source has failed.
-abbrev pub RunEnds : {A B : Type 0} → (Offer → Type 0) → Option SeenSource → Result (Vec (String A) B) Error → Outputs
-    → Outputs → ℕ → Type 0
-RunEnds gives left (Ok words) old new status = WordsEnd gives left (map string_bytes words.items) old new status
+abbrev pub RunEnds : (Offer → Type 0) → Option SeenSource → Result ReadLine Error → Outputs → Outputs → ℕ → Type 0
+RunEnds gives left (Ok line) old new status = WordsEnd gives left line.words old new status
 RunEnds gives left (Err error) old new status =
     IsStopped (stop_text (codes "the arguments aren't text") (error_kind error)) old new status

@@ -1,6 +1,6 @@
 //! A run of the program: its words, what the system gives it, and how it ends.
 ghost use Rattle.std.specs.Option.{option_map};
-ghost use Rattle.std.specs.Prelude.{◌≡◌, ◌≤◌, [], IfErr, IfOk, Some, length, map, nat_le, string_bytes};
+ghost use Rattle.std.specs.Prelude.{◌≡◌, ◌≤◌, [], IfErr, IfOk, Some, length, nat_le};
 ghost use Rattle.std.specs.Result.{result_map_both};
 ghost use Rattle.std.specs.IoError.{error_kind};
 ghost use Rattle.warc_commands.specs.Program.{Tells, told_line};
@@ -13,7 +13,7 @@ use crate::making::read_front;
 use crate::program::{FAILED, line_of, perform, refuse, tell, tell_cut};
 use std::alloc::Global;
 use std::io::{self, ErrorKind};
-use warc_arguments::{Command, parse};
+use warc_arguments::{Command, CommandLine};
 use warc_frame::{MemSource, OutFault, Sink, Source};
 
 /// The most bytes of standard input that are kept in memory.
@@ -71,9 +71,9 @@ enum Place {
     Nowhere,
 }
 
-/// Does what words say, of which the first is the program's name: all of `main` but opening. The answer is the exit
-/// status, and what was read: a failed read is reported only if a read of that source failed. Words that aren't text
-/// and a file that doesn't open are reported on `err`, with status 3. The path `-` is standard input: at any offset if
+/// Does what a command line says: all of `main` but opening. The answer is the exit status, and what was read: a failed
+/// read is reported only if a read of that source failed. Words that aren't text, for which there is an error in place
+/// of the line, and a file that doesn't open are reported on `err`, with status 3. The path `-` is standard input: at any offset if
 /// it is a file, as it comes if the command can ask for each offset once, in order, and else read into memory, at most
 /// 2^30 bytes of it. The path `/dev/stdin` is always read into memory. A command that reads nothing opens nothing. A
 /// list that a command reads beside its archive is read into memory, at most 2^30 bytes of it, after the archive was
@@ -81,7 +81,7 @@ enum Place {
 pub fn run<Y, W, E>(
     alloc: Global,
     system: &Y,
-    words: &io::Result<Vec<String>>,
+    line: &io::Result<CommandLine<'_>>,
     out: &mut W,
     err: &mut E,
 ) -> (u8, RunSource<Y::File, Y::Stream>)
@@ -89,11 +89,11 @@ where
     Y: System,
     W: Sink,
     E: Sink,
-    ensures { RunEnds (Y.gives system.now) (run_left Y.File.seen Y.Stream.seen result.1) words.now
+    ensures { RunEnds (Y.gives system.now) (run_left Y.File.seen Y.Stream.seen result.1) line.now
         (outputs (W.seen out.old) (E.seen err.old)) (outputs (W.seen out.new) (E.seen err.new)) result.0 }
 {
-    match words {
-        Ok(words) => run_words(alloc, system, words.as_slice(), out, err),
+    match line {
+        Ok(line) => run_line(alloc, system, line, out, err),
         Err(error) => (
             stop(error, "the arguments aren't text", err),
             RunSource::Nothing,
@@ -101,11 +101,11 @@ where
     }
 }
 
-/// Does what words that are texts say.
-fn run_words<Y, W, E>(
+/// Does what the words of a command line say.
+fn run_line<Y, W, E>(
     alloc: Global,
     system: &Y,
-    words: &[String],
+    line: &CommandLine<'_>,
     out: &mut W,
     err: &mut E,
 ) -> (u8, RunSource<Y::File, Y::Stream>)
@@ -113,13 +113,12 @@ where
     Y: System,
     W: Sink,
     E: Sink,
-    ensures { WordsEnd (Y.gives system.now) (run_left Y.File.seen Y.Stream.seen result.1)
-        (map string_bytes words.now)
+    ensures { WordsEnd (Y.gives system.now) (run_left Y.File.seen Y.Stream.seen result.1) line.now.words
         (outputs (W.seen out.old) (E.seen err.old)) (outputs (W.seen out.new) (E.seen err.new)) result.0 }
 {
-    match parse(alloc, words) {
+    match line.parsed() {
         Ok(request) => run_command(alloc, system, &request.command, out, err),
-        Err(fault) => (refuse(&fault, out, err), RunSource::Nothing),
+        Err(fault) => (refuse(fault, out, err), RunSource::Nothing),
     }
 }
 

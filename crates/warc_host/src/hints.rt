@@ -1,12 +1,9 @@
 //! The words of the command line, and the lines for people that follow a run.
-ghost use Rattle.std.specs.Prelude.{◌≡◌, map, string_bytes, IfErr, IfOk, IfSome, None, Some};
-ghost use Rattle.warc_arguments.specs.Command.{asked_by};
-ghost use Rattle.warc_arguments.specs.CommandLine.{asked_of};
 
 use crate::files::Failure;
 use crate::shown::is_escaped;
 use std::{env, fmt, io};
-use warc_arguments::{Command, Request, parse};
+use warc_arguments::{Command, Request};
 
 /// The exit status where the archive was refused, and where a run failed.
 const REFUSED: u8 = 2;
@@ -16,22 +13,6 @@ const FAILED: u8 = 3;
 /// The words of the command line, the program's name being the first.
 pub fn words(rt: &HostRuntime) -> io::Result<Vec<String>> {
     Ok(env::args(rt)?.collect(rt.alloc())?)
-}
-
-/// What the words ask for, if they name a command.
-pub fn request<'a>(rt: &HostRuntime, words: &'a io::Result<Vec<String>>) -> Option<Request<'a>>
-    ensures asked { IfOk words.now (λ given. IfSome result (λ request.
-        Some (asked_by request) ≡ asked_of (map string_bytes given.items))) }
-    ensures none { IfErr words.now (λ _. result ≡ None) }
-{
-    let Ok(words) = words else {
-        return None;
-    };
-    match parse(rt.alloc(), words.as_slice()) {
-        Ok(request) => return Some(request),
-        Err(_) => {}
-    }
-    None
 }
 
 /// How a run ended: its status, the compression that its input looks like, and the system's last error.

@@ -8,6 +8,6 @@ mod progress;
 mod shown;
 
 pub use files::{Failure, Host, HostFile, HostStream, Noted};
-pub use hints::{Ended, hint, request, words};
+pub use hints::{Ended, hint, words};
 pub use progress::{ErasingSink, Progress};
 pub use shown::ShownSink;

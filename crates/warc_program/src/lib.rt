@@ -7,18 +7,39 @@ mod files;
 use answers::hint_answer;
 use files::Files;
 use std::cell::Cell;
-use std::io::IsTerminal;
+use std::io::{self, IsTerminal};
 use std::process::ExitCode;
+use warc_arguments::{CommandLine, Request};
 use warc_commands::run;
-use warc_host::{Ended, ErasingSink, Host, Progress, ShownSink, hint, request, words};
+use warc_host::{Ended, ErasingSink, Host, Progress, ShownSink, hint, words};
 
 /// The exit status where a write failed.
 const FAILED: u8 = 3;
 
+/// What the words of the command line name, or why they aren't text.
+fn read_line<'a>(
+    rt: &HostRuntime,
+    words: &'a io::Result<Vec<String>>,
+) -> io::Result<CommandLine<'a>> {
+    match words {
+        Ok(words) => Ok(CommandLine::read(rt.alloc(), words.as_slice())),
+        Err(error) => Err(io::Error::from(error.kind())),
+    }
+}
+
+/// What a command line asks for, if it names a command.
+fn request_of<'l, 'a>(line: &'l io::Result<CommandLine<'a>>) -> Option<&'l Request<'a>> {
+    match line {
+        Ok(line) => line.parsed().as_ref().ok(),
+        Err(_) => None,
+    }
+}
+
 /// Runs the program over the words, the files and the outputs of the system.
 pub fn run_program(rt: &HostRuntime) -> ExitCode {
     let words = words(rt);
-    let request = request(rt, &words);
+    let line = read_line(rt, &words);
+    let request = request_of(&line);
     let progress = Progress::new(rt, request.is_some_and(|it| it.quiet));
     let reason = Cell::new(None);
     let is_text = !request.is_some_and(|it| it.command.gives_bytes());
@@ -33,11 +54,11 @@ pub fn run_program(rt: &HostRuntime) -> ExitCode {
             list: request.and_then(|it| it.command.list_path()),
         },
     };
-    let (status, _) = run(rt.alloc(), &files, &words, &mut out, &mut err);
+    let (status, _) = run(rt.alloc(), &files, &line, &mut out, &mut err);
     let status = if out.end() { status } else { FAILED };
     err.sink.end();
     progress.erase();
-    if let (Ok(words), Some(request)) = (&words, &request)
+    if let (Ok(line), Some(request)) = (&line, request)
         && (is_terminal || request.hints)
     {
         let ended = Ended {
@@ -45,7 +66,7 @@ pub fn run_program(rt: &HostRuntime) -> ExitCode {
             packing: progress.packing(),
             reason: reason.get(),
         };
-        let _ = hint(rt, words.as_slice(), request, ended);
+        let _ = hint(rt, line.words(), request, ended);
         let _ = hint_answer(&files.host, request, err.report.as_slice());
         progress.erase();
     }
