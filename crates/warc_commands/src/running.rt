@@ -4,7 +4,7 @@ ghost use Rattle.std.specs.Prelude.{◌≡◌, ◌≤◌, [], IfErr, IfOk, Some,
 ghost use Rattle.std.specs.Result.{result_map_both};
 ghost use Rattle.std.specs.IoError.{error_kind};
 ghost use Rattle.warc_commands.specs.Program.{Tells, told_line};
-ghost use Rattle.warc_commands.specs.Running.{Offer, CommandEnds, IsListAt, IsListCut, IsListOf, IsRunInMemory, IsRunOver, LacksList, MemoryEnds, RunsOver, PipeEnds, PlaceEnds, ReadsFile, ReadsInput, ReadsInto, ReadsMemory, RunEnds, WordsEnd};
+ghost use Rattle.warc_commands.specs.Running.{Offer, CommandEnds, IsListAt, IsListCut, IsListOf, IsRunInMemory, IsRunOver, LacksList, MemoryEnds, RunsOver, PipeEnds, ReadsFile, ReadsInput, ReadsInto, ReadsMemory, RunEnds};
 ghost use Rattle.warc_commands.specs.Running.{command_place, is_input, max_input, names_input_twice, opened, outputs, place_at, redirected, run_left, stop_text, streamed};
 ghost use Rattle.warc_arguments.specs.Command.{list_word, reads_once};
 ghost use Rattle.warc_frame.specs.Seen.{IfHeld, Seen};
@@ -93,32 +93,14 @@ where
         (outputs (W.seen out.old) (E.seen err.old)) (outputs (W.seen out.new) (E.seen err.new)) result.0 }
 {
     match line {
-        Ok(line) => run_line(alloc, system, line, out, err),
+        Ok(line) => match line.parsed() {
+            Ok(request) => run_command(alloc, system, &request.command, out, err),
+            Err(fault) => (refuse(fault, out, err), RunSource::Nothing),
+        },
         Err(error) => (
             stop(error, "the arguments aren't text", err),
             RunSource::Nothing,
         ),
-    }
-}
-
-/// Does what the words of a command line say.
-fn run_line<Y, W, E>(
-    alloc: Global,
-    system: &Y,
-    line: &CommandLine<'_>,
-    out: &mut W,
-    err: &mut E,
-) -> (u8, RunSource<Y::File, Y::Stream>)
-where
-    Y: System,
-    W: Sink,
-    E: Sink,
-    ensures { WordsEnd (Y.gives system.now) (run_left Y.File.seen Y.Stream.seen result.1) line.now.words
-        (outputs (W.seen out.old) (E.seen err.old)) (outputs (W.seen out.new) (E.seen err.new)) result.0 }
-{
-    match line.parsed() {
-        Ok(request) => run_command(alloc, system, &request.command, out, err),
-        Err(fault) => (refuse(fault, out, err), RunSource::Nothing),
     }
 }
 
@@ -141,7 +123,15 @@ where
     if names_input_twice(command) {
         return (tell_stop(TWO_INPUTS, err), RunSource::Nothing);
     }
-    run_at_place(alloc, system, command, out, err)
+    match place_of(command) {
+        Place::File => run_file(alloc, system, command, out, err),
+        Place::Memory => run_memory(alloc, system, command, READ_FAILED, out, err),
+        Place::Input => run_input(alloc, system, command, out, err),
+        Place::Nowhere => (
+            run_in_memory(alloc, command, &[], Vec::new(alloc), out, err),
+            RunSource::Nothing,
+        ),
+    }
 }
 
 /// Whether a command names standard input for its archive and for its list.
@@ -161,33 +151,6 @@ fn is_input(path: &str) -> bool
     path == "-" || path == "/dev/stdin"
 }
 
-/// Does what a command says, over the bytes at its path, which isn't the path of its list.
-fn run_at_place<Y, W, E>(
-    alloc: Global,
-    system: &Y,
-    command: &Command<'_>,
-    out: &mut W,
-    err: &mut E,
-) -> (u8, RunSource<Y::File, Y::Stream>)
-where
-    Y: System,
-    W: Sink,
-    E: Sink,
-    ensures { PlaceEnds (command_place command.now) (Y.gives system.now)
-        (run_left Y.File.seen Y.Stream.seen result.1) command.now
-        (outputs (W.seen out.old) (E.seen err.old)) (outputs (W.seen out.new) (E.seen err.new)) result.0 }
-{
-    match place_of(command) {
-        Place::File => run_file(alloc, system, command, out, err),
-        Place::Memory => run_memory(alloc, system, command, READ_FAILED, out, err),
-        Place::Input => run_input(alloc, system, command, out, err),
-        Place::Nowhere => (
-            run_over_nothing(alloc, command, out, err),
-            RunSource::Nothing,
-        ),
-    }
-}
-
 /// Where the bytes of a command are.
 fn place_of(command: &Command<'_>) -> Place
     ensures { result ≡ command_place command.now }
@@ -197,19 +160,6 @@ fn place_of(command: &Command<'_>) -> Place
     } else {
         place_at(command.path())
     }
-}
-
-/// Does what a command that reads nothing says.
-fn run_over_nothing<W: Sink, E: Sink>(
-    alloc: Global,
-    command: &Command<'_>,
-    out: &mut W,
-    err: &mut E,
-) -> u8
-    ensures { IsRunInMemory command.now [] [] (outputs (W.seen out.old) (E.seen err.old)) (outputs
-        (W.seen out.new) (E.seen err.new)) result }
-{
-    run_in_memory(alloc, command, &[], Vec::new(alloc), out, err)
 }
 
 /// Where the bytes at a path are.

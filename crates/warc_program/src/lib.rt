@@ -28,9 +28,12 @@ fn read_line<'a>(
 }
 
 /// What a command line asks for, if it names a command.
-fn request_of<'l, 'a>(line: &'l io::Result<CommandLine<'a>>) -> Option<&'l Request<'a>> {
-    match line {
-        Ok(line) => line.parsed().as_ref().ok(),
+fn request_of<'a>(line: &io::Result<CommandLine<'a>>) -> Option<Request<'a>> {
+    let Ok(line) = line else {
+        return None;
+    };
+    match line.parsed() {
+        Ok(request) => Some(*request),
         Err(_) => None,
     }
 }
@@ -58,7 +61,7 @@ pub fn run_program(rt: &HostRuntime) -> ExitCode {
     let status = if out.end() { status } else { FAILED };
     err.sink.end();
     progress.erase();
-    if let (Ok(line), Some(request)) = (&line, request)
+    if let (Ok(line), Some(request)) = (&line, &request)
         && (is_terminal || request.hints)
     {
         let ended = Ended {
