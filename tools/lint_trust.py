@@ -30,7 +30,8 @@ def missing_in(text: str, path: str) -> str | None:
     name = " ".join(text.strip("`").split())
     if path.endswith(".rt") and not re.search(rf"\bfn {re.escape(name.split('::')[-1])}\b", read(path)):
         return f"{path} has no function {name}"
-    if path.endswith(("/stdin", ".script")) and not re.search(rf"^== (?:[\w ]+: )?{re.escape(name)}$", read(path), re.MULTILINE):
+    case = rf"^== (?:[\w ]+: )?{re.escape(name)}$"
+    if path.endswith(("/stdin", ".script")) and not re.search(case, read(path), re.MULTILINE):
         return f"{path} has no case {name}"
     return None
 

@@ -73,11 +73,11 @@ enum Place {
 
 /// Does what a command line says: all of `main` but opening. The answer is the exit status, and what was read: a failed
 /// read is reported only if a read of that source failed. Words that aren't text, for which there is an error in place
-/// of the line, and a file that doesn't open are reported on `err`, with status 3. The path `-` is standard input: at any offset if
-/// it is a file, as it comes if the command can ask for each offset once, in order, and else read into memory, at most
-/// 2^30 bytes of it. The path `/dev/stdin` is always read into memory. A command that reads nothing opens nothing. A
-/// list that a command reads beside its archive is read into memory, at most 2^30 bytes of it, after the archive was
-/// opened; it can't be standard input if the archive is.
+/// of the line, and a file that doesn't open are reported on `err`, with status 3. The path `-` is standard input: at
+/// any offset if it is a file, as it comes if the command can ask for each offset once, in order, and else read into
+/// memory, at most 2^30 bytes of it. The path `/dev/stdin` is always read into memory. A command that reads nothing
+/// opens nothing. A list that a command reads beside its archive is read into memory, at most 2^30 bytes of it, after
+/// the archive was opened; it can't be standard input if the archive is.
 pub fn run<Y, W, E>(
     alloc: Global,
     system: &Y,
