@@ -7,7 +7,7 @@ use warc_record::type_head;
 /// The length of the good record that a text begins with. Its head is judged before its block.
 fn read_good(alloc: Global, text: &[u8]) -> Result<usize, Fault> {
     let head = read_head(alloc, text)?;
-    if let Err(kind) = type_head(alloc, &head.fields) {
+    if let Err(kind) = type_head(&head.fields) {
         return Err(Fault { kind, offset: 0 });
     }
     let (_, len) = read_one(alloc, text)?;

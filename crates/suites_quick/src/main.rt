@@ -8,7 +8,7 @@ use std::process::ExitCode;
 use suites_script::{Case, Trial, try_script};
 use warc_frame::{Head, read_head};
 use warc_quick::{QuickHead, QuickRecord, faultless_head, judged_record, quick_head};
-use warc_record::{HeadTexts, Typed, bare, findings, id_key, judge_head, type_head};
+use warc_record::{HeadTexts, IdKey, Typed, bare, findings, id_key, judge_head, type_head};
 use warc_value::Wanted;
 
 /// The text that cases speak of which give none.
@@ -174,16 +174,24 @@ fn tell_judged(alloc: Global, answer: &mut Vec<u8>, text: &[u8]) -> Result<(), A
     tell_nothing_wrong(answer, record.head.wanted())
 }
 
+/// Whether a key is that of an id's bare text.
+fn is_key_of_bare(key: &IdKey<'_>, id: &[u8]) -> bool {
+    match id_key(bare(id)) {
+        Some(other) => *key == other,
+        None => false,
+    }
+}
+
 /// Adds how many bytes the key of an id has, if it is the key of the id's bare text, too.
 fn tell_key(alloc: Global, answer: &mut Vec<u8>, id: &[u8]) -> Result<(), AllocError> {
-    match (id_key(id), id_key(bare(id))) {
-        (Some(key), Some(same)) if key == same => {
-            let told = format!(in alloc; "a key of {} bytes\n", key.kept())?;
-            answer.extend_from_slice(told.as_bytes())
-        }
-        (None, None) => answer.extend_from_slice(b"no id\n"),
-        _ => answer.extend_from_slice(b"read in two ways\n"),
+    let Some(key) = id_key(id) else {
+        return answer.extend_from_slice(b"no id\n");
+    };
+    if !is_key_of_bare(&key, id) {
+        return answer.extend_from_slice(b"read in two ways\n");
     }
+    let told = format!(in alloc; "a key of {} bytes\n", key.kept())?;
+    answer.extend_from_slice(told.as_bytes())
 }
 
 /// The text that a case gives or else the one that was kept, changed by the words of the case if it has some.

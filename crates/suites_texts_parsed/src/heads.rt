@@ -134,6 +134,7 @@ fn is_refused_of_area<A: Allocator + Copy>(ample: A, heap: A, area: &[u8]) -> Op
 }
 
 /// The findings of a record whose head has this area.
+#[derive(Clone, Copy)]
 struct MakingFindings<'a>(&'a [u8]);
 
 impl Attempt for MakingFindings<'_> {

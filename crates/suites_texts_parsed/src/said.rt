@@ -20,11 +20,7 @@ pub(crate) fn tell_optional(
 }
 
 /// The same of the bytes of a key, if there is one.
-fn tell_key(
-    answer: &mut Vec<u8>,
-    begin: &str,
-    key: Option<&IdKey<'_>>,
-) -> Result<(), AllocError> {
+fn tell_key(answer: &mut Vec<u8>, begin: &str, key: Option<&IdKey<'_>>) -> Result<(), AllocError> {
     match key {
         Some(key) => tell_bytes(answer, begin, key.bytes()),
         None => tell_bytes(answer, begin, b"none"),
