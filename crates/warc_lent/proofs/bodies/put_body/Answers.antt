@@ -13,7 +13,7 @@ returns-in-Ok-clause-puts g c = λ bytes held is. record {
 pub returns-in-Err-clause-puts : goal.returns-in-Err-clause-puts
 returns-in-Err-clause-puts g c = λ bytes held is.
     let ps = is.listed.are.records in
-    let kept = kept_on ps _ _ _ _ c.in-Err.ensures.unchanged.1.0 c.in-Err.ensures.unchanged.1.1 is.kept in
+    let kept = kept_on ps _ _ _ _ c.in-Err.ensures.unchanged.1 c.in-Err.ensures.unchanged.2 is.kept in
     record {
       fault = c.in-Err.fault;
       is = c.in-Err.ensures.locates.located bytes held is.listed is.kept;

@@ -20,7 +20,7 @@ pub returns-in-Err-clause-puts : goal.returns-in-Err-clause-puts
 returns-in-Err-clause-puts g c = λ bytes held is.
     let at : instant_of c.args.date.now ≡ Some c.in-Some.moment = sym c.read_date.ensures ∙ c.in-Some.is in
     let ps = is.listed.are.records in
-    let kept = kept_on ps _ _ _ _ c.in-Err.ensures.unchanged.1.0 c.in-Err.ensures.unchanged.1.1 is.kept in
+    let kept = kept_on ps _ _ _ _ c.in-Err.ensures.unchanged.1 c.in-Err.ensures.unchanged.2 is.kept in
     subst (λ o. PutsReplay bytes (contents ps) c.args.uri.now o (Err c.from.result) c.args.answer.now c.put_path.new.answer c.args.spans.now)
     (sym at) (record {
       fault = c.in-Err.fault;

@@ -1,4 +1,4 @@
-use Rattle.std.proofs.Common.{◌∙◌, ap, refl, subst, sym, Some}
+use Rattle.std.proofs.Common.{ap, refl, Some}
 use Rattle.warc_lent.proofs.FrontLemmas.{front_refused}
 use Rattle.warc_lent.proofs.fronts.good_front.Goals as goal
 
