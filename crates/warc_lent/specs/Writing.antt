@@ -2,16 +2,18 @@
 use Rattle.std.specs.Prelude.{◌≡◌, ◌⊎◌, ◌↔◌, ◌<◌, ℕ, Bool, true, false, List, length, All, Contains, Result, Ok, Err}
 use Rattle.std.specs.List.{flat_map}
 use Rattle.std.specs.Io.KnownBytes.{append_known}
+use Rattle.warc_frame.specs.Failing.{failed_with, is_read}
 use Rattle.warc_frame.specs.Record.{Record}
 use Rattle.warc_frame.specs.Seen.{Seen}
 use Rattle.warc_frame.specs.Send.{WentOut, sent_of}
 use Rattle.warc_frame.specs.Spelling.{canonical}
 use Rattle.warc_frame.specs.declared.fault.OutFault.{OutFault}
 use Rattle.warc_frame.specs.declared.fault.OutFault.TheVariants as outs
+use Rattle.warc_record.specs.Kinds.{kind_named}
 use Rattle.warc_reading.specs.Archive.{IsArchiveOf, contents}
 use Rattle.warc_reading.specs.Row.{Row}
 use Rattle.warc_segment.specs.Joined.{ReadRecord}
-use Rattle.warc_write.specs.Making.{Plan, made}
+use Rattle.warc_write.specs.Making.{Plan, made, planned}
 use Rattle.warc_write.specs.declared.making.MakeFault.{MakeFault}
 use Rattle.warc_write.specs.declared.making.MakeFault.TheVariants.{Memory as NoMemory}
 use Rattle.warc.specs.Closing.{AreWithNeeded, AreWithout}
@@ -27,12 +29,21 @@ problem_of_sent (outs.Read sent) = problems.Changed
 problem_of_sent (outs.Write sent) = problems.Write
 problem_of_sent (outs.Memory sent) = problems.Memory
 
--- a text went out, or a front of it, as long as `sent` says, for this problem
+-- a front of a text went out, as long as `sent` says, for this problem: a write or a growth of the memory failed, and
+-- no read. The sink has failed once more exactly by a failed write
+pub record IsCutOffFor (text : List ℕ) (before after : Seen) (problem : Problem) (sent : ℕ) : Type 0 where
+  pub fault : OutFault
+  pub unread : is_read fault ≡ false
+  pub problem_is : problem ≡ problem_of_sent fault
+  pub sent_is : sent ≡ sent_of fault
+  pub failed : after.faults ≡ failed_with fault before.faults
+  pub front : WentOut before.tells text after.tells sent
+
+-- a text went out, or a front of it
 abbrev pub WritesText : List ℕ → Seen → Seen → Result (Unit {0}) Problem → ℕ → ℕ → Type 0
-WritesText text before after (Ok u) was sent = (after.tells ≡ append_known before.tells text) × (sent ≡ was)
-WritesText text before after (Err problem) was sent =
-    (fault : OutFault) × (problem ≡ problem_of_sent fault) × (sent ≡ sent_of fault)
-    × WentOut before.tells text after.tells sent
+WritesText text before after (Ok u) was sent =
+    (after.tells ≡ append_known before.tells text) × (after.faults ≡ before.faults) × (sent ≡ was)
+WritesText text before after (Err problem) was sent = IsCutOffFor text before after problem sent
 
 -- nothing was written, and this is why
 abbrev pub WritesNone : (Problem → Type 0) → Seen → Seen → Result (Unit {0}) Problem → ℕ → ℕ → Type 0
@@ -56,6 +67,11 @@ abbrev pub MakesTo : Plan → Seen → Seen → Result (Unit {0}) Problem → �
 MakesTo plan before after answer was sent =
     WritesNone (IsUnmade plan) before after answer was sent
     ⊎ ((r : Record) × (made plan ≡ Ok r) × WritesText (canonical r) before after answer was sent)
+
+-- the record of these texts was written, or none is made
+abbrev pub MakesLent : List ℕ → List ℕ → List ℕ → List ℕ → List ℕ → List ℕ → Seen → Seen → Result (Unit {0}) Problem
+    → ℕ → ℕ → Type 0
+MakesLent kind uri date uuid content_type block = MakesTo (planned (kind_named kind) uri date uuid content_type block)
 
 -- the positions that are named, which are some of so many, in their order, each once
 pub record AreNamedPositions (count : ℕ) (named positions : List ℕ) : Type 0 where

@@ -7,11 +7,9 @@ ghost use Rattle.warc.specs.Selecting.{ArePositions};
 ghost use Rattle.warc_reading.specs.Archive.{IsArchiveOf};
 ghost use Rattle.warc_reading.specs.Indexed.{IsIndexed};
 ghost use Rattle.warc_lent.specs.Texts.{IsRefusedFor};
-ghost use Rattle.warc_record.specs.Kinds.{kind_named};
-ghost use Rattle.warc_write.specs.Making.{planned};
 ghost use Rattle.warc_frame.specs.Send.{sent_of};
 ghost use Rattle.warc_frame.specs.Spelling.{canonical};
-ghost use Rattle.warc_lent.specs.Writing.{AreChosen, AreClosedChoice, AreNamedPositions, MakesTo, NamesNoRecord, SelectsClosed, SelectsLent, WritesLent, WritesText, problem_of_sent};
+ghost use Rattle.warc_lent.specs.Writing.{AreChosen, AreClosedChoice, AreNamedPositions, MakesLent, NamesNoRecord, SelectsClosed, SelectsLent, WritesLent, WritesText, problem_of_sent};
 
 use crate::problem::Problem;
 use std::alloc::{AllocError, Allocator};
@@ -254,7 +252,7 @@ pub fn make_lent<A: Allocator + Copy, W: Sink>(
     out: &mut W,
     sent: &mut u64,
 ) -> Result<(), Problem>
-    ensures { MakesTo (planned (kind_named kind.now) uri.now date.now uuid.now content_type.now block.now)
+    ensures { MakesLent kind.now uri.now date.now uuid.now content_type.now block.now
         (W.seen out.old) (W.seen out.new) result sent.old sent.new }
 {
     match make(

@@ -50,6 +50,6 @@ returns g c =
     let closed = closed_of_named c.args.except c.count.result _ _ _ _ _ c.deref.ensures.value c.in_ok-named.ensures.named
     (c.in_ok-closed.ensures.closed indexed) in
     let choice = closed_choice_of c.args.except _ source rows c.in_ok-closed.closed.items indexed.listed below closed in
-    part_closed _ _ source _ _ choice _ _ _ _ _ _ _ _ _ c.in_ok-archive.ensures.source c.deref-2.ensures.value
+    part_closed _ _ source _ _ choice _ _ _ _ _ _ _ _ _ refl refl c.in_ok-archive.ensures.source c.deref-2.ensures.value
     c.in_ok-closed.ensures.rows (ap Some c.in_ok-closed.ensures.bytes) c.in-Err.ensures.selects
     c.cut_off.ensures.problem c.cut_off.ensures.sent

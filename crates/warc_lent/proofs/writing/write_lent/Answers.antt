@@ -14,5 +14,5 @@ returns-in-Ok g c =
 
 pub returns : goal.returns
 returns g c =
-    part_written _ _ _ _ _ _ _ _ _ _ _ _ c.in_ok-listing.ensures.opened (ap Some c.in_ok-listing.ensures.source) c.in-Err.ensures.writes
+    part_written _ _ _ _ _ _ _ _ _ _ _ _ refl refl c.in_ok-listing.ensures.opened (ap Some c.in_ok-listing.ensures.source) c.in-Err.ensures.writes
     c.cut_off.ensures.problem c.cut_off.ensures.sent
