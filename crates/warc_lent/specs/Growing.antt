@@ -1,7 +1,8 @@
 -- When bytes may be those that an archive has become. This project's own notion.
-use Rattle.std.specs.Prelude.{◌≡◌, ◌⊎◌, ℕ, ◌-◌, Bool, true, false, not, ◌&&◌, nat_lt, min, List, [], length, slice_get, slice_range, Option, Some, None}
+use Rattle.std.specs.Prelude.{◌≡◌, ◌≢◌, ◌⊎◌, ℕ, ◌-◌, Bool, true, false, not, ◌&&◌, nat_lt, min, List, [], length, slice_get, slice_range, Option, Some, None}
 use Rattle.std.specs.Str.{bytes_eq}
 use Rattle.warc_frame.specs.declared.fault.Fault.{Fault}
+use Rattle.warc_frame.specs.declared.fault.FaultKind.TheVariants.{Read}
 use Rattle.warc_reading.specs.Row.{Row}
 use Rattle.warc_lent.specs.declared.problem.Problem.{Problem}
 use Rattle.warc_lent.specs.declared.problem.Problem.TheVariants as problems
@@ -25,8 +26,8 @@ begins_alike rows old new =
     not (nat_lt (length new) (length old))
     && bytes_eq (part (last_head rows).0 (last_head rows).1 old) (part (last_head rows).0 (last_head rows).1 new)
 
--- why an archive doesn't grow: the bytes are others, or they are refused
+-- why an archive doesn't grow: the bytes are others, or they are refused, and not since a read failed
 abbrev pub IsUngrown : List Row → List ℕ → List ℕ → Problem → Type 0
 IsUngrown rows old new problem =
     ((problem ≡ problems.Changed) × (begins_alike rows old new ≡ false))
-    ⊎ ((fault : Fault) × (problem ≡ problems.Fault fault) × (begins_alike rows old new ≡ true))
+    ⊎ ((fault : Fault) × (problem ≡ problems.Fault fault) × (fault.kind ≢ Read) × (begins_alike rows old new ≡ true))

@@ -1,7 +1,8 @@
 //! Archives over bytes that have become more.
-ghost use Rattle.std.specs.Prelude.{◌≡◌, ◌++◌, ℕ, List, true, false, IfErr, OnErr, OnOk, Err};
+ghost use Rattle.std.specs.Prelude.{◌≡◌, ◌⊎◌, ◌++◌, ℕ, List, true, false, IfErr, OnErr, OnOk, Err};
 ghost use Rattle.warc_reading.specs.Indexed.{IsIndexed};
 ghost use Rattle.warc_lent.specs.Growing.{IsUngrown, begins_alike, last_head, part};
+ghost use Rattle.warc_lent.specs.Texts.{IsRefusedFor};
 
 use crate::problem::Problem;
 use std::alloc::Allocator;
@@ -49,7 +50,8 @@ pub fn begins_alike<S: Source, A: Allocator>(
 
 /// Reads on in bytes that begin with those of an archive, where it stopped, and has these from then on. Bytes that are
 /// fewer than the old ones, or that have other bytes where the head of the last record was, are `Changed`. What the old
-/// bytes hold before that head isn't compared. A refusal leaves the archive as it was.
+/// bytes hold before that head isn't compared. Old bytes with more after them are refused for the first fault of the
+/// whole, or since memory ran out. A refusal leaves the archive as it was.
 pub fn grow_lent<'a, A: Allocator + Copy>(
     archive: &mut Archive<SliceSource<'a>, A>,
     old: &[u8],
@@ -57,6 +59,8 @@ pub fn grow_lent<'a, A: Allocator + Copy>(
 ) -> Result<(), Problem>
     ensures changed { begins_alike archive.old.listing.rows old.now new.now ≡ false → result ≡ Err Problem.Changed }
     ensures refused { IfErr result (IsUngrown archive.old.listing.rows old.now new.now) }
+    ensures whole { (more : List ℕ) → new.now ≡ old.now ++ more → IsIndexed old.now archive.old →
+        IfErr result (λ problem. (problem ≡ Problem.Changed) ⊎ IsRefusedFor new.now problem) }
     ensures grown { (more : List ℕ) → new.now ≡ old.now ++ more → IsIndexed old.now archive.old →
         OnOk result (IsIndexed new.now archive.new) }
     ensures same { OnErr result (archive.new.listing ≡ archive.old.listing) }
