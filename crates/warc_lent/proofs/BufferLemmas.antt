@@ -2,7 +2,7 @@
 use Rattle.std.proofs.Common.{◌≡◌, ℕ, ◌+◌, ◌-◌, ◌<◌, ◌≤◌, List, [], ◌∷◌, ◌++◌, length, take, drop, set, map, ◌^◌, sym, subst, ap, ◌∙◌, inl, inr, arith, Some}
 use Prim.Native.Nat.{min, suc}
 use Rattle.std.proofs.lemmas.Bool.{cases_lt}
-use Rattle.std.proofs.lemmas.List.{append-nil, append_assoc, drop_all, drop-drop, take_all, take_min, take-append-le, take_more_set, set_past, length-append, length-drop, length-map, length-set, length-take-le, length_push, map_more, nil_from_length}
+use Rattle.std.proofs.lemmas.List.{append-nil, append_assoc, drop_all, drop-drop, drop-set-lt, take_all, take_min, take-append-le, take_more_set, set_past, length-append, length-drop, length-map, length-set, length-take-le, length_push, map_more, nil_from_length}
 use Rattle.std.proofs.lemmas.Option.{get_or_from_slice_get, slice_get_within}
 use Rattle.std.proofs.Math.Seq.{drop-append-add}
 use Rattle.std.specs.List.{slice_get}
@@ -142,3 +142,9 @@ pub drop_further : {X : Type 0} (m n : ℕ) (xs ys : List X) → m ≤ n → dro
 drop_further m n xs ys least same =
     let far : m + (n - m) ≡ n = omega (arith, least) in
     ap (λ k. drop k xs) (sym far) ∙ sym (drop-drop (n - m) m xs) ∙ ap (drop (n - m)) same ∙ drop-drop (n - m) m ys ∙ ap (λ k. drop k ys) far
+
+-- one more element leaves what follows it
+pub rest_next : {X : Type 0} (old buffer : List X) (i : ℕ) (x : X) → drop i buffer ≡ drop i old
+    → drop (i + 1) (set buffer i x) ≡ drop (i + 1) old
+rest_next old buffer i x same =
+    drop-set-lt (i + 1) buffer i x (omega arith) ∙ drop_further i (i + 1) buffer old (omega arith) same

@@ -1,12 +1,12 @@
 //! Bodies: what is said of them, and where they lie.
-ghost use Rattle.std.specs.Prelude.{◌≡◌, length, map, set, unwrap_or, OnErr};
+ghost use Rattle.std.specs.Prelude.{◌≡◌, length, map, set, unwrap_or, IfOk, OnErr};
 ghost use Rattle.warc_value.specs.Dates.{instant_of};
 ghost use Rattle.warc_frame.specs.Effects.{FailsBy, Preserves};
 ghost use Rattle.warc_frame.specs.Seen.{IfHeld};
 ghost use Rattle.warc_reading.specs.Archive.{contents};
 ghost use Rattle.warc_reading.specs.Indexed.{IsIndexed, IsUnchanged};
 ghost use Rattle.warc.specs.Replaying.{IsIndexedBy};
-ghost use Rattle.warc_lent.specs.Buffers.{HoldsFront};
+ghost use Rattle.warc_lent.specs.Buffers.{HoldsFront, KeepsAfter};
 ghost use Rattle.warc_lent.specs.Problems.{problem_result};
 ghost use Rattle.warc_lent.specs.Bodies.{IsBodyPut, PutsAt, PutsReplay, answer_numbers, path_numbers, path_numbers_at, span_numbers};
 
@@ -87,9 +87,10 @@ fn put_span(span: Span, index: usize, out: &mut [SpanNumbers])
     }
 }
 
-/// Puts the spans of a body, as many as there is room for.
+/// Puts the spans of a body, as many as there is room for. What follows in the buffer stays.
 fn put_spans<A: Allocator>(located: &Located<A>, out: &mut [SpanNumbers])
     ensures front { HoldsFront (map span_numbers located.now.spans) out.new }
+    ensures rest { KeepsAfter (length located.now.spans) out.old out.new }
     ensures room { length out.new ≡ length out.old }
 {
     'putting: for index in 0..located.count() {
@@ -100,13 +101,15 @@ fn put_spans<A: Allocator>(located: &Located<A>, out: &mut [SpanNumbers])
     }
 }
 
-/// Puts a body: what is said of it, and its spans, as many as there is room for. The answer is the number of spans.
+/// Puts a body: what is said of it, and its spans, as many as there is room for. What follows in the buffer stays. The
+/// answer is the number of spans.
 fn put_located<A: Allocator>(
     located: &Located<A>,
     answer: &mut AnswerNumbers,
     spans: &mut [SpanNumbers],
 ) -> usize
     ensures put { IsBodyPut located.now result answer.new spans.new }
+    ensures rest { KeepsAfter result spans.old spans.new }
     ensures room { length spans.new ≡ length spans.old }
 {
     *answer = answer_numbers(located.answer());
@@ -136,9 +139,9 @@ fn put_path_at(fault: BodyFault, path: Result<Path, Unfound>, answer: &mut Answe
 }
 
 /// Puts the body that was captured of a URI as of a date: what is said of it, and the spans of the source whose bytes,
-/// one after another, it is, as many as there is room for. The answer is the number of spans. Where there is no body,
-/// the positions of the path to it are put, if there is a path. If the source holds the archive's bytes, it is
-/// `Changed` exactly where a read of them fails.
+/// one after another, it is, as many as there is room for. What follows in the buffer stays. The answer is the number
+/// of spans. Where there is no body, the positions of the path to it are put, if there is a path. If the source holds
+/// the archive's bytes, it is `Changed` exactly where a read of them fails.
 pub fn put_replay<S: Source, A: Allocator + Copy>(
     archive: &mut Archive<S, A>,
     uri: &[u8],
@@ -149,6 +152,7 @@ pub fn put_replay<S: Source, A: Allocator + Copy>(
     ensures puts { IfHeld (S.seen archive.old.listing.source).holds (λ bytes. (is : IsIndexed bytes archive.old) →
         PutsReplay bytes (contents is.listed.are.records) uri.now (instant_of date.now) result answer.old answer.new
         spans.new) }
+    ensures rest { IfOk result (λ number. KeepsAfter number spans.old spans.new) }
     ensures same { OnErr result (spans.new ≡ spans.old) }
     ensures room { length spans.new ≡ length spans.old }
     ensures unchanged { IsUnchanged archive.old archive.new }
@@ -177,6 +181,7 @@ pub fn put_body<S: Source, A: Allocator + Copy>(
 ) -> Result<usize, Problem>
     ensures puts { IfHeld (S.seen archive.old.listing.source).holds (λ bytes. (is : IsIndexed bytes archive.old) →
         PutsAt bytes (contents is.listed.are.records) position result answer.old answer.new spans.new) }
+    ensures rest { IfOk result (λ number. KeepsAfter number spans.old spans.new) }
     ensures same { OnErr result (spans.new ≡ spans.old) }
     ensures room { length spans.new ≡ length spans.old }
     ensures unchanged { IsUnchanged archive.old archive.new }
