@@ -1,6 +1,7 @@
 -- What C is answered: a number, and no problem, or 0 and the problem's numbers. This project's own notion.
 use Rattle.std.specs.Prelude.{◌≡◌, ℕ, Bool, true, false, List, Option, Some, None, Result, Ok, Err}
 use Rattle.warc_payload.specs.Head.{front_of}
+use Rattle.warc_frame.specs.Seen.{Seen}
 use Rattle.warc_frame.specs.declared.fault.Fault.{Fault}
 use Rattle.warc_reading.specs.Archive.{IsArchiveOf}
 use Rattle.warc_reading.specs.Row.{Row}
@@ -15,6 +16,7 @@ use Rattle.warc_lent.specs.declared.heads.HttpNumbers.{HttpNumbers}
 use Rattle.warc_lent.specs.declared.pieces.PieceNumbers.{PieceNumbers}
 use Rattle.warc_lent.specs.declared.problem.Numbers.{Numbers}
 use Rattle.warc_lent.specs.declared.problem.Problem.{Problem}
+use Rattle.warc_lent.specs.declared.problem.Problem.TheVariants as problems
 
 abbrev pub IsAnswered : Result ℕ Problem → ℕ → Numbers → Numbers → Type 0
 IsAnswered (Ok number) answer old new = (answer ≡ number) × (new ≡ old)
@@ -43,6 +45,23 @@ IsFlagged (Err problem) answer old new = (answer ≡ false) × (new ≡ problem_
 abbrev pub IsVerdictReported : Result ℕ Problem → ℕ → Numbers → Numbers → Type 0
 IsVerdictReported (Ok verdict) answer old new = (answer ≡ verdict) × (new ≡ old)
 IsVerdictReported (Err problem) answer old new = (answer ≡ 2) × (new ≡ problem_numbers problem)
+
+-- a call on a handle answers a result so, or that no archive is open
+pub record AnswersBy {X Y : Type 0} (Is : Result X Problem → Y → Numbers → Numbers → Type 0) (is_open : Bool)
+    (answer : Y) (before after : Numbers) : Type 0 where
+  pub result : Result X Problem
+  pub answered : Is result answer before after
+  pub closed : is_open ≡ false → result ≡ Err problems.NotOpen
+
+-- what was written so to a sink that reports no bytes, and whether it is done
+pub record AnswersWritten (Writes : Seen → Seen → Result (Unit {0}) Problem → ℕ → ℕ → Type 0) (answer : Bool)
+    (before after : Numbers) : Type 0 where
+  pub old : Seen
+  pub new : Seen
+  pub sent : ℕ
+  pub written : Result (Unit {0}) Problem
+  pub writes : Writes old new written 0 sent
+  pub flagged : IsFlagged written answer before after
 
 -- a fault is reported, if there is one
 abbrev pub IsFaultReported : Option Fault → Numbers → Numbers → Type 0

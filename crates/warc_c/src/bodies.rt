@@ -1,11 +1,16 @@
 //! Where bodies lie, and what is said of them.
+ghost use Rattle.std.specs.Prelude.{◌≡◌};
+ghost use Rattle.warc_lent.specs.Buffers.{KeepsAfter};
+ghost use Rattle.warc_c.specs.Answered.{AnswersBy, IsAnswered};
+
 use crate::problems::{number_or_report, report};
 use std::alloc::Global;
 use warc_handle::WarcArchive;
 use warc_lent::{AnswerNumbers, Numbers, Problem, SpanNumbers, put_body, put_replay};
 
 /// The body for a URI as of a date: what is said of it, and its spans, as many as there is room for. The answer is how
-/// many there are.
+/// many there are. What follows in the buffer stays.
+#[tactic(auto, using(crate::proofs::RestLemmas::rest_stays, crate::proofs::ClosedLemmas::no_number))]
 #[unsafe(no_mangle)]
 pub extern "C" fn warc_rt_replay(
     alloc: Global,
@@ -15,7 +20,11 @@ pub extern "C" fn warc_rt_replay(
     answer: &mut AnswerNumbers,
     spans: &mut [SpanNumbers],
     problem: &mut Numbers,
-) -> usize {
+) -> usize
+    ensures answers { AnswersBy IsAnswered handle.old.is_open result problem.old problem.new }
+    ensures rest { KeepsAfter result spans.old spans.new }
+    ensures stays { handle.new.is_open ≡ handle.old.is_open }
+{
     let Some(mut archive) = handle.take(alloc) else {
         report(Problem::NotOpen, problem);
         return 0;
@@ -26,6 +35,7 @@ pub extern "C" fn warc_rt_replay(
 }
 
 /// The body that the capture at a position gives, in the same way.
+#[tactic(auto, using(crate::proofs::RestLemmas::rest_stays, crate::proofs::ClosedLemmas::no_number))]
 #[unsafe(no_mangle)]
 pub extern "C" fn warc_rt_body(
     alloc: Global,
@@ -34,7 +44,11 @@ pub extern "C" fn warc_rt_body(
     answer: &mut AnswerNumbers,
     spans: &mut [SpanNumbers],
     problem: &mut Numbers,
-) -> usize {
+) -> usize
+    ensures answers { AnswersBy IsAnswered handle.old.is_open result problem.old problem.new }
+    ensures rest { KeepsAfter result spans.old spans.new }
+    ensures stays { handle.new.is_open ≡ handle.old.is_open }
+{
     let Some(mut archive) = handle.take(alloc) else {
         report(Problem::NotOpen, problem);
         return 0;

@@ -3,7 +3,7 @@ ghost use Rattle.std.specs.Prelude.{◌≡◌, false, box_value, IfErr, IfOk};
 ghost use Rattle.std.specs.Bool.{OnFalse, OnTrue};
 ghost use Rattle.warc_reading.specs.Indexed.{IsIndexed};
 ghost use Rattle.warc_lent.specs.Texts.{IsRefusedFor};
-ghost use Rattle.warc_c.specs.Answered.{AnswersFront, IsArchive, IsRefusedBy};
+ghost use Rattle.warc_c.specs.Answered.{AnswersBy, AnswersFront, IsArchive, IsFlagged, IsRefusedBy};
 
 use crate::problems::{done_or_report, report, report_fault};
 use std::alloc::Global;
@@ -65,6 +65,7 @@ pub extern "C" fn warc_rt_front(alloc: Global, bytes: &[u8], problem: &mut Numbe
 
 /// Reads on in bytes that begin with the old ones, over which the archive was opened. A refusal leaves the archive as
 /// it was, over the old bytes.
+#[tactic(auto, using(crate::proofs::ClosedLemmas::not_done))]
 #[unsafe(no_mangle)]
 pub extern "C" fn warc_rt_grow(
     alloc: Global,
@@ -72,7 +73,10 @@ pub extern "C" fn warc_rt_grow(
     old: &[u8],
     bytes: &'static [u8],
     problem: &mut Numbers,
-) -> bool {
+) -> bool
+    ensures answers { AnswersBy IsFlagged handle.old.is_open result problem.old problem.new }
+    ensures stays { handle.new.is_open ≡ handle.old.is_open }
+{
     let Some(mut archive) = handle.take(alloc) else {
         return done_or_report(Err(Problem::NotOpen), problem);
     };

@@ -1,5 +1,6 @@
 //! Problems, as C sees them.
 ghost use Rattle.std.specs.Prelude.{◌≡◌};
+ghost use Rattle.warc_lent.specs.Buffers.{KeepsAfter};
 ghost use Rattle.warc_lent.specs.Problems.{problem_numbers};
 ghost use Rattle.warc_lent.specs.Texts.{IsProblemPut};
 ghost use Rattle.warc_c.specs.Answered.{IsAnswered, IsFlagged, IsFaultReported, IsVerdictReported};
@@ -79,7 +80,8 @@ pub extern "C" fn warc_rt_abi_version() -> u32
 /// has these numbers.
 #[unsafe(no_mangle)]
 pub extern "C" fn warc_rt_problem_text(alloc: Global, problem: &Numbers, out: &mut [u8]) -> usize
-    ensures { IsProblemPut problem.now result out.old out.new }
+    ensures put { IsProblemPut problem.now result out.old out.new }
+    ensures rest { KeepsAfter result out.old out.new }
 {
     put_problem(alloc, *problem, out)
 }

@@ -1,4 +1,8 @@
 //! What is kept of records, and which records there are.
+ghost use Rattle.std.specs.Prelude.{◌≡◌, false};
+ghost use Rattle.warc_lent.specs.Buffers.{KeepsAfter};
+ghost use Rattle.warc_c.specs.Answered.{AnswersBy, IsAnswered, IsVerdictReported};
+
 use crate::problems::{number_or_report, report, verdict_or_report};
 use std::alloc::Global;
 use warc_handle::WarcArchive;
@@ -9,7 +13,10 @@ use warc_lent::{
 
 /// How many records there are; 0 where no archive is open.
 #[unsafe(no_mangle)]
-pub extern "C" fn warc_rt_count(alloc: Global, handle: &mut WarcArchive) -> usize {
+pub extern "C" fn warc_rt_count(alloc: Global, handle: &mut WarcArchive) -> usize
+    ensures closed { handle.old.is_open ≡ false → result ≡ 0 }
+    ensures stays { handle.new.is_open ≡ handle.old.is_open }
+{
     let Some(archive) = handle.take(alloc) else {
         return 0;
     };
@@ -20,6 +27,7 @@ pub extern "C" fn warc_rt_count(alloc: Global, handle: &mut WarcArchive) -> usiz
 
 /// What is kept of the record at a position, and its texts, as much as there is room for. The answer is the length of
 /// the texts.
+#[tactic(auto, using(crate::proofs::ClosedLemmas::no_number))]
 #[unsafe(no_mangle)]
 pub extern "C" fn warc_rt_row(
     alloc: Global,
@@ -28,7 +36,10 @@ pub extern "C" fn warc_rt_row(
     row: &mut RowNumbers,
     texts: &mut [u8],
     problem: &mut Numbers,
-) -> usize {
+) -> usize
+    ensures answers { AnswersBy IsAnswered handle.old.is_open result problem.old problem.new }
+    ensures stays { handle.new.is_open ≡ handle.old.is_open }
+{
     let Some(archive) = handle.take(alloc) else {
         report(Problem::NotOpen, problem);
         return 0;
@@ -40,13 +51,17 @@ pub extern "C" fn warc_rt_row(
 
 /// How the block of the record at a position compares with its digest, if that is SHA-1 in base32: 0 good, 1 bad, 2
 /// unchecked, or 2 and a problem.
+#[tactic(auto, using(crate::proofs::ClosedLemmas::no_verdict))]
 #[unsafe(no_mangle)]
 pub extern "C" fn warc_rt_verdict(
     alloc: Global,
     handle: &mut WarcArchive,
     position: usize,
     problem: &mut Numbers,
-) -> u32 {
+) -> u32
+    ensures answers { AnswersBy IsVerdictReported handle.old.is_open result problem.old problem.new }
+    ensures stays { handle.new.is_open ≡ handle.old.is_open }
+{
     let Some(mut archive) = handle.take(alloc) else {
         return verdict_or_report(Err(Problem::NotOpen), problem);
     };
@@ -57,13 +72,17 @@ pub extern "C" fn warc_rt_verdict(
 
 /// How the block of the record at a position compares with the digest that its head states: 0 good, 1 bad, 2 unchecked,
 /// or 2 and a problem.
+#[tactic(auto, using(crate::proofs::ClosedLemmas::no_verdict))]
 #[unsafe(no_mangle)]
 pub extern "C" fn warc_rt_stated_verdict(
     alloc: Global,
     handle: &mut WarcArchive,
     position: usize,
     problem: &mut Numbers,
-) -> u32 {
+) -> u32
+    ensures answers { AnswersBy IsVerdictReported handle.old.is_open result problem.old problem.new }
+    ensures stays { handle.new.is_open ≡ handle.old.is_open }
+{
     let Some(mut archive) = handle.take(alloc) else {
         return verdict_or_report(Err(Problem::NotOpen), problem);
     };
@@ -74,13 +93,17 @@ pub extern "C" fn warc_rt_stated_verdict(
 
 /// How the payload of the record at a position compares with the digest that its head states: 0 good, 1 bad, from 3 on
 /// unchecked, by the reason, and 2 if no digest is stated, or 2 and a problem.
+#[tactic(auto, using(crate::proofs::ClosedLemmas::no_verdict))]
 #[unsafe(no_mangle)]
 pub extern "C" fn warc_rt_payload_verdict(
     alloc: Global,
     handle: &mut WarcArchive,
     position: usize,
     problem: &mut Numbers,
-) -> u32 {
+) -> u32
+    ensures answers { AnswersBy IsVerdictReported handle.old.is_open result problem.old problem.new }
+    ensures stays { handle.new.is_open ≡ handle.old.is_open }
+{
     let Some(mut archive) = handle.take(alloc) else {
         return verdict_or_report(Err(Problem::NotOpen), problem);
     };
@@ -90,7 +113,8 @@ pub extern "C" fn warc_rt_payload_verdict(
 }
 
 /// Puts the positions of the captures of a URI, by instant and then by position, as many as there is room for. The
-/// answer is how many there are.
+/// answer is how many there are. What follows in the buffer stays.
+#[tactic(auto, using(crate::proofs::RestLemmas::rest_stays, crate::proofs::ClosedLemmas::no_number))]
 #[unsafe(no_mangle)]
 pub extern "C" fn warc_rt_captures(
     alloc: Global,
@@ -98,7 +122,11 @@ pub extern "C" fn warc_rt_captures(
     uri: &[u8],
     positions: &mut [usize],
     problem: &mut Numbers,
-) -> usize {
+) -> usize
+    ensures answers { AnswersBy IsAnswered handle.old.is_open result problem.old problem.new }
+    ensures rest { KeepsAfter result positions.old positions.new }
+    ensures stays { handle.new.is_open ≡ handle.old.is_open }
+{
     let Some(archive) = handle.take(alloc) else {
         report(Problem::NotOpen, problem);
         return 0;

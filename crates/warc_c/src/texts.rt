@@ -1,5 +1,6 @@
 //! Texts that C asks for whole: listings, findings, and how blocks compare with their digests.
-ghost use Rattle.warc_c.specs.Answered.{AnswersFixity};
+ghost use Rattle.std.specs.Prelude.{◌≡◌};
+ghost use Rattle.warc_c.specs.Answered.{AnswersBy, AnswersFixity, IsAnswered};
 
 use crate::problems::{number_or_report, report};
 use std::alloc::Global;
@@ -7,13 +8,17 @@ use warc_handle::WarcArchive;
 use warc_lent::{Numbers, Problem, put_check, put_fixity, put_list};
 
 /// The lines that `warc list` writes.
+#[tactic(auto, using(crate::proofs::ClosedLemmas::no_number))]
 #[unsafe(no_mangle)]
 pub extern "C" fn warc_rt_list(
     alloc: Global,
     handle: &mut WarcArchive,
     out: &mut [u8],
     problem: &mut Numbers,
-) -> usize {
+) -> usize
+    ensures answers { AnswersBy IsAnswered handle.old.is_open result problem.old problem.new }
+    ensures stays { handle.new.is_open ≡ handle.old.is_open }
+{
     let Some(archive) = handle.take(alloc) else {
         report(Problem::NotOpen, problem);
         return 0;
@@ -24,13 +29,17 @@ pub extern "C" fn warc_rt_list(
 }
 
 /// The lines that `warc check` writes.
+#[tactic(auto, using(crate::proofs::ClosedLemmas::no_number))]
 #[unsafe(no_mangle)]
 pub extern "C" fn warc_rt_check(
     alloc: Global,
     handle: &mut WarcArchive,
     out: &mut [u8],
     problem: &mut Numbers,
-) -> usize {
+) -> usize
+    ensures answers { AnswersBy IsAnswered handle.old.is_open result problem.old problem.new }
+    ensures stays { handle.new.is_open ≡ handle.old.is_open }
+{
     let Some(mut archive) = handle.take(alloc) else {
         report(Problem::NotOpen, problem);
         return 0;

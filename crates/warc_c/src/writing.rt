@@ -1,5 +1,8 @@
 //! Archives and records written into buffers of C's: each call fills one with the next part of the output.
 ghost use Rattle.std.specs.Prelude.{◌≡◌, ◌≤◌, IfOk, None, length};
+ghost use Rattle.warc.specs.Forms.{split_text, text_as};
+ghost use Rattle.warc_lent.specs.Writing.{MakesLent, SelectsAs, WritesLent};
+ghost use Rattle.warc_c.specs.Answered.{AnswersWritten, IsFlagged};
 
 use crate::problems::done_or_report;
 use std::alloc::Global;
@@ -69,7 +72,9 @@ fn end_part(
     part: &Window<'_>,
     filled: &mut u64,
     problem: &mut Numbers,
-) -> bool {
+) -> bool
+    ensures { IsFlagged written result problem.old problem.new }
+{
     *filled = part.filled as u64;
     done_or_report(written, problem)
 }
@@ -83,7 +88,9 @@ pub extern "C" fn warc_rt_rewrite(
     buffer: &mut [u8],
     filled: &mut u64,
     problem: &mut Numbers,
-) -> bool {
+) -> bool
+    ensures { AnswersWritten (WritesLent (text_as Form.Canonical) bytes.now) result problem.old problem.new }
+{
     let mut part = Window::new(start, buffer);
     let written = write_lent(alloc, bytes, Form::Canonical, &mut part, &mut 0);
     end_part(written, &part, filled, problem)
@@ -98,7 +105,9 @@ pub extern "C" fn warc_rt_convert(
     buffer: &mut [u8],
     filled: &mut u64,
     problem: &mut Numbers,
-) -> bool {
+) -> bool
+    ensures { AnswersWritten (WritesLent (text_as Form.Converted) bytes.now) result problem.old problem.new }
+{
     let mut part = Window::new(start, buffer);
     let written = write_lent(alloc, bytes, Form::Converted, &mut part, &mut 0);
     end_part(written, &part, filled, problem)
@@ -114,10 +123,32 @@ pub extern "C" fn warc_rt_split(
     buffer: &mut [u8],
     filled: &mut u64,
     problem: &mut Numbers,
-) -> bool {
+) -> bool
+    ensures { AnswersWritten (WritesLent (split_text size) bytes.now) result problem.old problem.new }
+{
     let mut part = Window::new(start, buffer);
     let written = split_lent(alloc, bytes, size, &mut part, &mut 0);
     end_part(written, &part, filled, problem)
+}
+
+/// Writes the records at positions of these bytes, or all others, closed if that is asked for.
+fn select_as<W: Sink>(
+    alloc: Global,
+    bytes: &[u8],
+    positions: &[usize],
+    except: bool,
+    closed: bool,
+    out: &mut W,
+    sent: &mut u64,
+) -> Result<(), Problem>
+    ensures { SelectsAs closed except positions.now bytes.now (W.seen out.old) (W.seen out.new) result sent.old
+        sent.new }
+{
+    if closed {
+        select_closed_lent(alloc, bytes, positions, except, out, sent)
+    } else {
+        select_lent(alloc, bytes, positions, except, out, sent)
+    }
 }
 
 /// Puts the part that begins at an offset of the records at positions of these bytes, or of all others, as they are;
@@ -133,13 +164,11 @@ pub extern "C" fn warc_rt_select(
     buffer: &mut [u8],
     filled: &mut u64,
     problem: &mut Numbers,
-) -> bool {
+) -> bool
+    ensures { AnswersWritten (SelectsAs closed except positions.now bytes.now) result problem.old problem.new }
+{
     let mut part = Window::new(start, buffer);
-    let written = if closed {
-        select_closed_lent(alloc, bytes, positions, except, &mut part, &mut 0)
-    } else {
-        select_lent(alloc, bytes, positions, except, &mut part, &mut 0)
-    };
+    let written = select_as(alloc, bytes, positions, except, closed, &mut part, &mut 0);
     end_part(written, &part, filled, problem)
 }
 
@@ -157,7 +186,10 @@ pub extern "C" fn warc_rt_make(
     buffer: &mut [u8],
     filled: &mut u64,
     problem: &mut Numbers,
-) -> bool {
+) -> bool
+    ensures { AnswersWritten (MakesLent kind.now uri.now date.now uuid.now content_type.now block.now)
+        result problem.old problem.new }
+{
     let mut part = Window::new(start, buffer);
     let written = make_lent(
         alloc,

@@ -128,3 +128,8 @@ SelectsClosed except named bytes before after answer was sent =
     WritesNone (IsUnselected named bytes) before after answer was sent
     ⊎ ((choice : ClosedChoice except named bytes)
     × WritesText (selected_text choice.rows choice.positions bytes) before after answer was sent)
+
+-- chosen records were written, or a closed choice of them
+abbrev pub SelectsAs : Bool → Bool → List ℕ → List ℕ → Seen → Seen → Result (Unit {0}) Problem → ℕ → ℕ → Type 0
+SelectsAs true = SelectsClosed
+SelectsAs false = SelectsLent

@@ -1,0 +1,2 @@
+mod ClosedLemmas
+mod RestLemmas
