@@ -1,2 +1,3 @@
 pub mod PutLemmas
+mod ReplyLemmas
 mod Values

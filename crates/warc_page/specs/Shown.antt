@@ -1,12 +1,14 @@
 -- What a call puts into the page's buffers, and how it ends: in state 0, in state 1 where there is no result and a text
 -- says why, or in state 2 where memory doesn't suffice. This project's own notion.
-use Rattle.std.specs.Prelude.{◌≡◌, ◌⊎◌, ℕ, List, length, map, Option, Some, None, Result, Ok, Err, ⊤}
+use Rattle.std.specs.Prelude.{◌≡◌, ◌⊎◌, ℕ, Bool, true, false, List, length, map, Option, Some, None, Result, Ok, Err, ⊤}
 use Rattle.std.specs.List.{flat_map}
 use Rattle.warc_value.specs.Dates.{Instant}
 use Rattle.warc_fixity.specs.Judged.{stated_verdict}
 use Rattle.warc_frame.specs.Count.{capped}
 use Rattle.warc_frame.specs.Reading.{Head, any_fields, head_of}
 use Rattle.warc_frame.specs.declared.fault.Fault.{Fault}
+use Rattle.warc_frame.specs.declared.fault.FaultKind.{FaultKind}
+use Rattle.warc_frame.specs.declared.fault.FaultKind.TheVariants.{Memory as NoMemory}
 use Rattle.warc_index.specs.Captures.{Indexed, chosen_of}
 use Rattle.warc_index.specs.declared.unfound.Unfound.{Unfound}
 use Rattle.warc_reading.specs.Archive.{IsArchiveOf}
@@ -23,6 +25,16 @@ use Rattle.warc_lent.specs.declared.problem.Problem.TheVariants as problems
 use Rattle.warc_lent.specs.declared.rows.RowNumbers.{RowNumbers}
 use Rattle.warc_page.specs.declared.shapes.PageFront.{PageFront}
 use Rattle.warc_page.specs.declared.shapes.PageOutcome.{PageOutcome}
+
+abbrev pub lacks_memory : FaultKind → Bool
+lacks_memory NoMemory = true
+lacks_memory kind = false
+
+-- the problem says that memory ran out
+abbrev pub wants_memory : Problem → Bool
+wants_memory (problems.Fault fault) = lacks_memory fault.kind
+wants_memory problems.Memory = true
+wants_memory problem = false
 
 -- there is no result, for the problem whose text is put, or memory doesn't suffice
 abbrev pub EndsBy : Problem → ℕ → ℕ → List ℕ → Type 0
@@ -76,6 +88,10 @@ pub record Replies (Puts : Result ℕ Problem → Type 0) (outcome : PageOutcome
   pub answered : Result ℕ Problem
   pub puts : Puts answered
   pub ends : EndsWith answered outcome text
+
+-- a number is answered, or some problem
+abbrev pub IsReply : PageOutcome → List ℕ → Type 0
+IsReply outcome text = (answered : Result ℕ Problem) × EndsWith answered outcome text
 
 -- the position of the capture that is chosen is put, if one is
 abbrev pub IsChosenPut : Result ℕ Unfound → AnswerNumbers → AnswerNumbers → Type 0

@@ -1,6 +1,6 @@
 //! How a call ends.
 ghost use Rattle.std.specs.Prelude.{◌≡◌, length};
-ghost use Rattle.warc_page.specs.Shown.{EndsBy, EndsWith};
+ghost use Rattle.warc_page.specs.Shown.{EndsBy, EndsWith, wants_memory};
 
 use crate::shapes::{DONE, MEMORY, PageOutcome, REFUSED};
 use std::alloc::Allocator;
@@ -18,7 +18,9 @@ pub(crate) fn ended(state: u64, length: usize) -> PageOutcome
 }
 
 /// Returns whether memory ran out.
-fn wants_memory(problem: Problem) -> bool {
+fn wants_memory(problem: Problem) -> bool
+    ensures { result ≡ wants_memory problem }
+{
     match problem {
         Problem::Fault(fault) => matches!(fault.kind, FaultKind::Memory),
         Problem::Memory => true,
