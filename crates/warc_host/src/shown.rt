@@ -1,5 +1,6 @@
 //! What a terminal shows of bytes that an archive or a path may hold.
-ghost use Rattle.std.specs.Prelude.{None};
+ghost use Rattle.std.specs.Prelude.{◌≡◌, None, true};
+ghost use Rattle.warc_host.specs.Escaped.{is_escaped};
 
 use arrayvec::{ArrayString, ArrayVec};
 use std::fmt::Write as WriteText;
@@ -17,7 +18,9 @@ const CHARACTER: usize = 4;
 
 /// Whether a character isn't shown as it is: a control character but tab and line feed, a separator of lines, or one
 /// that changes the direction of text (Unicode's Bidi_Control).
-pub fn is_escaped(c: char) -> bool {
+pub fn is_escaped(c: char) -> bool
+    ensures { result ≡ is_escaped c }
+{
     match c {
         '\t' | '\n' => false,
         '\u{61c}' | '\u{200e}' | '\u{200f}' | '\u{2028}'..='\u{202e}' | '\u{2066}'..='\u{2069}' =>
@@ -136,7 +139,9 @@ pub struct ShownSink<W> {
 
 impl<W: Write> ShownSink<W> {
     /// A sink over this writer, which hasn't failed.
-    pub fn new(writer: W, is_terminal: bool) -> ShownSink<W> {
+    pub fn new(writer: W, is_terminal: bool) -> ShownSink<W>
+        ensures { result.faults ≡ 0 }
+    {
         ShownSink {
             sink: OutSink::new(writer),
             text: if is_terminal { Some(Text::new()) } else { None },
@@ -145,7 +150,10 @@ impl<W: Write> ShownSink<W> {
     }
 
     /// Shows what waits for a further byte. False if that failed.
-    pub fn end(&mut self) -> bool {
+    pub fn end(&mut self) -> bool
+        ensures none { self.old.text ≡ None → result ≡ true }
+        ensures faults { self.new.faults ≡ self.old.faults }
+    {
         match &mut self.text {
             Some(text) => {
                 text.end();
