@@ -8,17 +8,13 @@ use Rattle.warc_reading.specs.Row.{Row}
 use Rattle.warc.specs.Front.{refused_by}
 use Rattle.warc_lent.proofs.TextLemmas.{refused_for}
 use Rattle.warc_page.specs.Shown.{StopsFor}
-use Rattle.std.proofs.lemmas.List.{append-nil, take_more}
+use Rattle.std.proofs.lemmas.List.{append-nil}
 use Rattle.std.proofs.lemmas.List.Concat.{flat_map-append}
-use Rattle.std.proofs.lemmas.Option.{get_or_from_slice_get, slice_get_within}
-use Rattle.std.specs.List.{flat_map, slice_get}
+use Rattle.std.specs.List.{flat_map}
 
 -- the texts of one more element
-pub texts_next : {X A : Type 0} (f : X → List A) (xs : List X) (i : ℕ) (x : X) → slice_get xs i ≡ Some x
-    → flat_map f (take i xs) ++ f x ≡ flat_map f (take (i + 1) xs)
-texts_next f xs i x is =
-    let more = ap (flat_map f) (take_more xs i x (slice_get_within xs i x is)) ∙ flat_map-append f (take i xs) (get_or xs i x ∷ []) in
-    sym (more ∙ ap (λ l. flat_map f (take i xs) ++ l) (append-nil (f (get_or xs i x)) ∙ ap f (get_or_from_slice_get xs i x x is)))
+pub texts_next : {X A : Type 0} (f : X → List A) (xs : List X) (x : X) → flat_map f xs ++ f x ≡ flat_map f (xs ++ x ∷ [])
+texts_next f xs x = sym (flat_map-append f xs (x ∷ []) ∙ ap (λ l. flat_map f xs ++ l) (append-nil (f x)))
 
 -- the fault after a front, of bytes that a source without failures holds
 pub stops_for : (bytes : List ℕ) (old new : SeenSource) (stop : Option Fault) (rows : List Row) → old.holds ≡ Some bytes → new.faults ≡ 0 → old.faults ≡ 0 → Opens IsArchiveOf old new (refused_by stop rows)

@@ -41,10 +41,7 @@ fn put_texts<S: Source, A: Allocator>(listing: &Listing<S, A>, texts: &mut [u8])
     ensures whole { result ≡ capped (length (flat_map row_texts listing.now.rows)) }
 {
     let mut taken = 0;
-    'putting: for position in 0..listing.count() {
-        let Some(row) = listing.row(position) else {
-            unreachable!()
-        };
+    'putting: for row in listing.rows() {
         taken = put_row_texts(&row, taken, texts);
     }
     taken

@@ -1,5 +1,5 @@
-use Rattle.std.proofs.Common.{◌≡◌, length, take, sym, subst, ap, ◌∙◌, Some}
-use Rattle.std.specs.List.{flat_map, slice_get}
+use Rattle.std.proofs.Common.{length, subst, ap, ◌∙◌}
+use Rattle.std.specs.List.{flat_map}
 use Rattle.warc_frame.specs.Count.{capped}
 use Rattle.warc_lent.specs.Buffers.{HoldsFront}
 use Rattle.warc_lent.specs.Rows.{row_texts}
@@ -8,11 +8,8 @@ use Rattle.warc_page.proofs.front.put_texts.Goals as goal
 
 pub putting-preserved : goal.putting-preserved
 putting-preserved g c =
-    let i = c.putting.position in
-    let all = c.args.listing.now.rows in
-    let at : slice_get all i ≡ Some c.in-Some.row = sym c.row.ensures ∙ c.in-Some.is in
-    let before = flat_map row_texts (take i all) in
-    let next = texts_next row_texts all i c.in-Some.row at in
+    let before = flat_map row_texts c.putting.yielded in
+    let next = texts_next row_texts c.putting.yielded c.in-Some.row in
     record {
       front =
           subst (λ l. HoldsFront l c.put_row_texts-taken.new.out) next
