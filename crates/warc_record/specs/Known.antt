@@ -1,9 +1,7 @@
 -- The places of the fields of a head: a state of the code.
 use Rattle.std.specs.Prelude.{◌≡◌, ℕ, Bool, ◌<◌, nat_lt, true, false, List, length, get_or, slice_get, Option, Some, None, option_and_then, option_map, ⊤}
 use Rattle.warc_field.specs.Area.{Pair, count_of, first_value}
-use Rattle.warc_frame.specs.Names.{warc_type, warc_record_id, warc_date, warc_target_uri, warc_block_digest, warc_truncated}
 use Rattle.warc_record.specs.declared.known.Spot.{Spot}
-use Rattle.warc_record.specs.declared.known.Places.{Places}
 use Rattle.warc_record.specs.declared.known.Spot.TheVariants.{Absent, Once, Repeated}
 use Rattle.warc_frame.specs.declared.field_name.FieldName.{FieldName}
 use Rattle.warc_frame.specs.FieldNames.{name_place, name_text}
@@ -13,10 +11,6 @@ abbrev pub spot_place : Spot → Option ℕ
 spot_place Absent = None
 spot_place (Once place) = Some place
 spot_place (Repeated place) = Some place
-
--- the value of the field at a place
-abbrev pub value_at : List Pair → ℕ → Option (List ℕ)
-value_at fields place = option_map (λ (field : Pair). field.1) (slice_get fields place)
 
 -- its value, and whether there is another
 abbrev pub spot_value : Spot → List Pair → Option (List ℕ)
@@ -48,12 +42,3 @@ abbrev pub next_spot : Spot → ℕ → Spot
 next_spot Absent place = Once place
 next_spot (Once first) place = Repeated first
 next_spot (Repeated first) place = Repeated first
-
--- the places of the first fields of the names by which a good head is read again: past the end for an absent one
-pub record ArePlaces (fields : List Pair) (places : Places) : Type 0 where
-  pub kind : value_at fields places.kind ≡ first_value warc_type fields
-  pub date : value_at fields places.date ≡ first_value warc_date fields
-  pub id : value_at fields places.id ≡ first_value warc_record_id fields
-  pub target : value_at fields places.target ≡ first_value warc_target_uri fields
-  pub digest : value_at fields places.digest ≡ first_value warc_block_digest fields
-  pub truncated : value_at fields places.truncated ≡ first_value warc_truncated fields

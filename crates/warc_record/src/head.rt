@@ -8,12 +8,11 @@ ghost use Rattle.warc_frame.specs.Names.{warc_type, warc_record_id, warc_date, w
 ghost use Rattle.warc_frame.specs.Names.{warc_refers_to_date};
 ghost use Rattle.warc_record.specs.Ids.{is_id};
 ghost use Rattle.warc_record.specs.Readings.{bare_present, both, present_bare, instant_in, unless_empty, reference_of, segment_reading, digest_wanted, reading_of, target_of};
-ghost use Rattle.warc_record.specs.Known.{ArePlaces, value_at};
 ghost use Rattle.warc_record.specs.Heads.{count_fault, type_fault, id_fault, head_fault};
 ghost use Rattle.warc_record.specs.Seen.{pair_said, reference_said, segment_said, said};
 
 use crate::ids::{IdKey, bare, id_key, is_bare_id};
-use crate::known::{ByName, Places};
+use crate::known::{ByName, Spots};
 use crate::readings::{
     SegmentNumber, bare_in, is_known_profile, key_in, number_in, present, segment_number, text_in,
 };
@@ -166,7 +165,14 @@ fn read_segment<'a, A: Allocator>(fields: &ByName<'a, A>) -> Segment<'a>
 pub fn wanted<A: Allocator>(fields: &Fields<A>) -> Wanted
     ensures { result ≡ digest_wanted fields.now }
 {
-    match present(&ByName::new(fields), FieldName::BlockDigest) {
+    wanted_in(&ByName::new(fields))
+}
+
+/// The same, from fields by their names.
+fn wanted_in<A: Allocator>(fields: &ByName<'_, A>) -> Wanted
+    ensures { result ≡ digest_wanted fields.now }
+{
+    match present(fields, FieldName::BlockDigest) {
         Some(value) => Wanted::of(value.bytes()),
         None => Wanted::Unchecked,
     }
@@ -225,7 +231,8 @@ fn id_text<'a, A: Allocator>(fields: &ByName<'a, A>) -> Result<&'a Value<A>, Fau
 /// The bare text of the target, empty if it is absent.
 #[tactic(auto, using(crate::proofs::TypedLemmas::bare_or_empty))]
 fn target_in<'a, A: Allocator>(fields: &ByName<'a, A>) -> &'a [u8]
-    ensures { unless_empty result.now ≡ target_of fields.now }
+    ensures text { result.now ≡ unwrap_or (target_of fields.now) [] }
+    ensures present { unless_empty result.now ≡ target_of fields.now }
 {
     match bare_in(fields, FieldName::TargetUri) {
         Some(target) => target,
@@ -277,7 +284,15 @@ pub fn type_head<A: Allocator>(fields: &Fields<A>) -> Result<Typed<'_>, FaultKin
         (λ typed. (head_fault fields.now ≡ None) × (said typed ≡ reading_of fields.now))
         (λ fault. head_fault fields.now ≡ Some fault) }
 {
-    let fields = &ByName::new(fields);
+    type_fields(&ByName::new(fields))
+}
+
+/// The same, from fields by their names.
+fn type_fields<'a, A: Allocator>(fields: &ByName<'a, A>) -> Result<Typed<'a>, FaultKind>
+    ensures { MatchResult result
+        (λ typed. (head_fault fields.now ≡ None) × (said typed ≡ reading_of fields.now))
+        (λ fault. head_fault fields.now ≡ Some fault) }
+{
     let type_text = type_text(fields)?.bytes();
     let id_text = id_text(fields)?.bytes();
     let date_text = only(fields, FieldName::Date, Mandatory::Date)?.bytes();
@@ -287,17 +302,15 @@ pub fn type_head<A: Allocator>(fields: &Fields<A>) -> Result<Typed<'_>, FaultKin
     }
 }
 
-/// The places in a good head, or the first refusal of its type, its id and its date.
-fn judge<A: Allocator>(fields: &ByName<'_, A>) -> Result<Places, FaultKind>
-    ensures { MatchResult result
-        (λ places. (head_fault fields.now ≡ None) × ArePlaces fields.now places)
-        (λ fault. head_fault fields.now ≡ Some fault) }
+/// The first refusal of a head's type, its id and its date, if there is one.
+fn judge<A: Allocator>(fields: &ByName<'_, A>) -> Result<(), FaultKind>
+    ensures { MatchResult result (λ _. head_fault fields.now ≡ None) (λ fault. head_fault fields.now ≡ Some fault) }
 {
     type_text(fields)?;
     id_text(fields)?;
     let date_text = only(fields, FieldName::Date, Mandatory::Date)?;
     match read_date(date_text.bytes()) {
-        Some(_) => Ok(fields.places()),
+        Some(_) => Ok(()),
         None => Err(FaultKind::Date),
     }
 }
@@ -308,59 +321,29 @@ pub fn judge_head<A: Allocator>(fields: Fields<A>) -> Result<GoodHead<A>, FaultK
         (λ head. (head_fault fields ≡ None) × (head ≡ fields))
         (λ fault. head_fault fields ≡ Some fault) }
 {
-    let places = judge(&ByName::new(&fields))?;
-    Ok(GoodHead { fields, places })
+    let named = ByName::new(&fields);
+    judge(&named)?;
+    let spots = named.spots();
+    Ok(GoodHead { fields, spots })
 }
 
-/// The value of the field at a place, if there is one and it isn't empty.
-fn present_at<A: Allocator>(fields: &Fields<A>, place: usize) -> Option<&Value<A>>
-    ensures { option_copied result ≡ option_and_then unless_empty (value_at fields.now place) }
-{
-    let (_, value) = fields.get(place)?;
-    if value.bytes().is_empty() {
-        None
-    } else {
-        Some(value)
-    }
-}
-
-/// The value of the field at a place, empty if there is none.
-fn value_or_empty<A: Allocator>(fields: &Fields<A>, place: usize) -> &[u8]
-    ensures { result.now ≡ unwrap_or (value_at fields.now place) [] }
-{
-    match fields.get(place) {
-        Some((_, value)) => value.bytes(),
-        None => b"",
-    }
-}
-
-/// The bare text of the field at a place, empty if there is none.
-fn bare_or_empty<A: Allocator>(fields: &Fields<A>, place: usize) -> &[u8]
-    ensures { result.now ≡ unwrap_or (bare_present (value_at fields.now place)) [] }
-{
-    match present_at(fields, place) {
-        Some(value) => bare(value.bytes()),
-        None => b"",
-    }
-}
-
-/// A good head: its fields, and the places of those that it is read by again. Contracts see the list of its fields.
+/// A good head: its fields, and where the names of the standard are among them. Contracts see the list of its fields.
 #[derive(Drop)]
 pub struct GoodHead<A: Allocator = Global> {
     fields: Fields<A>,
-    places: Places,
+    spots: Spots,
 }
 
 impl<A: Allocator> Model for GoodHead<A> {
     ghost use Rattle.std.specs.Prelude.{◌≡◌, List, ℕ, None};
     ghost use Rattle.warc_record.specs.Heads.{head_fault};
-    ghost use Rattle.warc_record.specs.Known.{ArePlaces};
+    ghost use Rattle.warc_record.specs.Known.{AreSpots};
 
     ghost Value = { List (List ℕ × List ℕ) };
 
     ghost view = { λ h. h.fields };
 
-    ghost invariant = { λ h. record { good : head_fault h.fields ≡ None; places : ArePlaces h.fields h.places } };
+    ghost invariant = { λ h. record { good : head_fault h.fields ≡ None; spots : AreSpots h.fields h.spots } };
 }
 
 impl<A: Allocator> GoodHead<A> {
@@ -379,11 +362,19 @@ impl<A: Allocator> GoodHead<A> {
         self.fields
     }
 
+    /// Its fields by their names.
+    fn by_name(&self) -> ByName<'_, A>
+        ensures fields { result ≡ self.now }
+        ensures good { head_fault self.now ≡ None }
+    {
+        ByName::with(&self.fields, self.spots)
+    }
+
     /// What it says.
     pub fn typed(&self) -> Typed<'_>
         ensures { said result ≡ reading_of self.now }
     {
-        match type_head(&self.fields) {
+        match type_fields(&self.by_name()) {
             Ok(typed) => typed,
             // A good head has no fault.
             Err(_) => unreachable!(),
@@ -394,10 +385,7 @@ impl<A: Allocator> GoodHead<A> {
     pub fn wanted(&self) -> Wanted
         ensures { result ≡ digest_wanted self.now }
     {
-        match present_at(&self.fields, self.places.digest) {
-            Some(value) => Wanted::of(value.bytes()),
-            None => Wanted::Unchecked,
-        }
+        wanted_in(&self.by_name())
     }
 
     /// What of it is listed: the values of its type, date and id as they are written, and its target without brackets.
@@ -408,13 +396,13 @@ impl<A: Allocator> GoodHead<A> {
         ensures target { result.target.now ≡ unwrap_or (reading_of self.now).target [] }
         ensures truncated { result.is_truncated ≡ (reading_of self.now).truncated }
     {
-        let (fields, places) = (&self.fields, self.places);
+        let fields = &self.by_name();
         HeadTexts {
-            kind: value_or_empty(fields, places.kind),
-            date: value_or_empty(fields, places.date),
-            id: value_or_empty(fields, places.id),
-            target: bare_or_empty(fields, places.target),
-            is_truncated: present_at(fields, places.truncated).is_some(),
+            kind: text_in(fields, FieldName::Type),
+            date: text_in(fields, FieldName::Date),
+            id: text_in(fields, FieldName::RecordId),
+            target: target_in(fields),
+            is_truncated: present(fields, FieldName::Truncated).is_some(),
         }
     }
 }

@@ -195,14 +195,22 @@ fn uuid_id_key(text: &[u8]) -> Option<[u8; 17]>
 }
 
 /// The key of the id that a text holds, or `None` if it holds none.
+#[inline(always)]
 pub fn id_key(text: &[u8]) -> Option<IdKey<'_>>
     ensures { result ≡ id_key text.now }
 {
-    if let Some(key) = uuid_id_key(text) {
-        return Some(IdKey {
+    match uuid_id_key(text) {
+        Some(key) => Some(IdKey {
             form: Form::Uuid(key),
-        });
+        }),
+        None => searched_id_key(text),
     }
+}
+
+/// The same, by a search for brackets, spaces and tabs.
+fn searched_id_key(text: &[u8]) -> Option<IdKey<'_>>
+    ensures { result ≡ id_key text.now }
+{
     let bare = bare(text);
     if !is_bare_id(bare) {
         return None;

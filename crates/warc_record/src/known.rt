@@ -4,7 +4,7 @@ ghost use Rattle.std.specs.Option.{option_copied};
 ghost use Rattle.warc_field.specs.Area.{Pair, count_of, first_value};
 ghost use Rattle.warc_field.specs.Text.{same};
 ghost use Rattle.warc_frame.specs.FieldNames.{name_count, name_text};
-ghost use Rattle.warc_record.specs.Known.{next_spot, spot_place, value_at, ArePlaces, AreSpots};
+ghost use Rattle.warc_record.specs.Known.{next_spot, spot_place, AreSpots};
 
 use std::alloc::Allocator;
 use std::marker::Model;
@@ -27,7 +27,7 @@ fn known_as<A: Allocator>(name: &Name<A>) -> Option<FieldName>
 
 /// The places of the fields of a name.
 #[derive(Clone, Copy)]
-enum Spot {
+pub(crate) enum Spot {
     Absent,
     /// At this place alone.
     Once(usize),
@@ -57,23 +57,14 @@ impl Spot {
     }
 }
 
-/// The places of the fields that a good head is read by again, the first of each name. An absent one's place is past
-/// the end.
-#[derive(Clone, Copy)]
-pub(crate) struct Places {
-    pub(crate) kind: usize,
-    pub(crate) date: usize,
-    pub(crate) id: usize,
-    pub(crate) target: usize,
-    pub(crate) digest: usize,
-    pub(crate) truncated: usize,
-}
+/// The spot of each name, at its place.
+pub(crate) type Spots = [Spot; NAME_COUNT];
 
 /// A head's fields, found by the names that it is read by. Contracts see the list of fields.
 #[derive(Drop)]
 pub(crate) struct ByName<'a, A: Allocator> {
     fields: &'a Fields<A>,
-    spots: [Spot; NAME_COUNT],
+    spots: Spots,
 }
 
 impl<'a, A: Allocator> Model for ByName<'a, A> {
@@ -102,7 +93,7 @@ fn add<A: Allocator>(name: &Name<A>, place: usize, spots: &mut [Spot])
 }
 
 /// The spots of these fields.
-fn spots_of<A: Allocator>(fields: &Fields<A>) -> [Spot; NAME_COUNT]
+fn spots_of<A: Allocator>(fields: &Fields<A>) -> Spots
     ensures { AreSpots fields.now result }
 {
     are_field_names();
@@ -125,6 +116,14 @@ impl<'a, A: Allocator> ByName<'a, A> {
         }
     }
 
+    /// The fields whose spots these are.
+    pub(crate) fn with(fields: &'a Fields<A>, spots: Spots) -> ByName<'a, A>
+        requires { AreSpots fields.now spots }
+        ensures { result ≡ fields.now }
+    {
+        ByName { fields, spots }
+    }
+
     /// The names and values, in order.
     pub(crate) fn as_slice(&self) -> &'a [(Name<A>, Value<A>)]
         ensures { result.now ≡ self.now }
@@ -132,28 +131,11 @@ impl<'a, A: Allocator> ByName<'a, A> {
         self.fields.as_slice()
     }
 
-    /// The place of the first field of this name, or the number of fields if there is none.
-    fn place(&self, name: FieldName) -> usize
-        ensures { value_at self.now result ≡ first_value (name_text name) self.now }
+    /// The spots of these fields.
+    pub(crate) fn spots(&self) -> Spots
+        ensures { AreSpots self.now result }
     {
-        match self.spots[name.place()].first() {
-            Some(place) => place,
-            None => self.fields.len(),
-        }
-    }
-
-    /// The places of the fields that a good head is read by again.
-    pub(crate) fn places(&self) -> Places
-        ensures { ArePlaces self.now result }
-    {
-        Places {
-            kind: self.place(FieldName::Type),
-            date: self.place(FieldName::Date),
-            id: self.place(FieldName::RecordId),
-            target: self.place(FieldName::TargetUri),
-            digest: self.place(FieldName::BlockDigest),
-            truncated: self.place(FieldName::Truncated),
-        }
+        self.spots
     }
 
     /// The value of the first field of this name.

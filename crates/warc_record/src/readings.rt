@@ -1,5 +1,6 @@
-ghost use Rattle.std.specs.Prelude.{◌≡◌, Some};
+ghost use Rattle.std.specs.Prelude.{◌≡◌, [], Some, unwrap_or};
 ghost use Rattle.std.specs.Option.{option_copied};
+ghost use Rattle.warc_field.specs.Area.{first_value};
 ghost use Rattle.warc_frame.specs.FieldNames.{name_text};
 ghost use Rattle.warc_record.specs.Readings.{present_value, present_bare, unless_empty, key_in, kind_of, number_in, is_known_profile, segment_number};
 
@@ -41,7 +42,8 @@ pub(crate) fn present<'a, A: Allocator>(
 /// The first field's value, empty if it is absent.
 #[tactic(auto, using(crate::proofs::TypedLemmas::present_or_empty))]
 pub(crate) fn text_in<'a, A: Allocator>(fields: &ByName<'a, A>, name: FieldName) -> &'a [u8]
-    ensures { unless_empty result.now ≡ present_value (name_text name) fields.now }
+    ensures text { result.now ≡ unwrap_or (first_value (name_text name) fields.now) [] }
+    ensures present { unless_empty result.now ≡ present_value (name_text name) fields.now }
 {
     match fields.first(name) {
         Some(value) => value.bytes(),
