@@ -13,7 +13,7 @@ import glob
 import os
 import re
 from collections.abc import Iterator
-from typing import Dict, Set, Tuple
+from typing import Dict, Tuple
 
 from shared import TOP, crates, read
 
@@ -135,12 +135,14 @@ def listed(page: str) -> set[tuple[str, str]]:
 
 
 def wrong_specs(page: str) -> Iterator[str]:
-    """Files of specs/ that the page lacks, or that nobody has to believe."""
+    """Files of specs/ that the page lacks, that aren't there, or that nobody has to believe."""
     on_page, wanted = listed(page), believed(TOP)
     for crate, file in sorted(wanted - on_page):
         yield f"lacks specs/{file}.antt of {crate}, which public contracts rest on"
     for crate, file in sorted(on_page - wanted):
-        yield f"lists specs/{file}.antt of {crate}, which no public contract rests on"
+        is_there = os.path.exists(f"{TOP}/crates/{crate}/specs/{file}.antt")
+        why = "on which no public contract rests" if is_there else "which isn't there"
+        yield f"lists specs/{file}.antt of {crate}, {why}"
 
 
 def wrong_files(page: str) -> Iterator[str]:

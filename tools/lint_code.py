@@ -99,6 +99,7 @@ SERVER = tuple(f"tests/stress/{name}.py" for name in ("serve", "serve_trial", "m
 CHECKS = [
     Check("types of tools/", (*TYPES, *scripts("tools"))),
     Check("layout of tools/", (*LAYOUT, "tools")),
+    Check("names that tools/ and bench/ import and don't use", ("pyflakes3", "tools", "bench")),
     Check("types of bench/", ("mypy", "--strict", *scripts("bench"), "tests/page/browser.py")),
     Check("layout of bench/", (*LAYOUT, "bench")),
     Check("shell scripts", ("shellcheck", *SHELL)),

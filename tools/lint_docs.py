@@ -6,7 +6,7 @@
 - The table of crates in docs/ARCHITECTURE.md names the libraries that crates.txt names.
 - A call or a law that docs/PROMISES.md names after a crate is in this crate.
 - docs/TRUST.md is as tools/lint_trust.py says, and docs/ARCHITECTURE.md as tools/lint_architecture.py says.
-- Each file that has the word of a row of CONTRIBUTING.md's table of changes is in that row.
+- Each file that has the word of a row of CONTRIBUTING.md's table of changes is in that row (tools/lint_changes.py).
 - docs/PROGRAM.md has a section, and README.md a row, for each command of the program and for no other.
 - A link or a path that a page names is there.
 - README.md has at most 9 KB.
@@ -40,6 +40,8 @@ VERSIONS = [
     ("rust/Cargo.toml", "version"),
 ]
 MOST = 9 * 1024
+# Modules that check something by themselves, each by its function `wrong`.
+CHECKS = (lint_architecture, lint_changes, lint_trust, make_numbers, make_statuses)
 # A crate, a colon, and the names of its calls and laws: "`warc`: `open` and `grow` of `Archive`, law `no_faults`".
 CALLS = re.compile(
     r"`(warc\w*|suites_\w+)`: ((?:laws? )?`[\w:]+`(?:(?:, | and | of |, and | or )(?:laws? )?`[\w:]+`(?!:))*)"
@@ -133,15 +135,10 @@ def versions_elsewhere() -> Iterator[str]:
 
 def main() -> None:
     found = [*code_elsewhere("README.md"), *code_elsewhere("docs/LIBRARY.md")]
-    found += [
-        *crates_elsewhere(),
-        *calls_elsewhere(),
-        *commands_elsewhere(),
-        *make_numbers.wrong(),
-        *make_statuses.wrong(),
-        *lint_trust.wrong(),
-    ]
+    found += [*crates_elsewhere(), *calls_elsewhere(), *commands_elsewhere()]
     found += [*cases_elsewhere(), *versions_elsewhere()]
+    for check in CHECKS:
+        found += check.wrong()
     for pattern in PAGES:
         for path in sorted(glob.glob(f"{TOP}/{pattern}")):
             found += missing_paths(os.path.relpath(path, TOP))

@@ -9,7 +9,6 @@ is sent in chunks. Records get new dates and ids each time, so the archive is ke
 from __future__ import annotations
 
 import http.server
-import os
 import struct
 import subprocess
 import sys
