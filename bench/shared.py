@@ -23,7 +23,8 @@ REQUESTS = 1 << 24
 def lines_of(path: str) -> dict[str, list[str]]:
     """The libraries that each crate of such a file uses, by its name."""
     with open(path, encoding="utf-8") as text:
-        rows = [line.partition(":") for line in text if line.strip() and not line.startswith("#")]
+        lines = [line.partition("#")[0].strip() for line in text]
+    rows = [line.partition(":") for line in lines if line]
     return {name.strip(): uses.split() for name, _, uses in rows}
 
 

@@ -1,5 +1,6 @@
-"""What docs/ARCHITECTURE.md must list: the files of specs/ that public contracts rest on, the files of the crates and
-of the page that it describes, and in its picture each crate above those that it uses.
+"""What docs/ARCHITECTURE.md must list: the crates, in the groups and the order of crates.txt; the files of specs/ that
+public contracts rest on; the files of the crates and of the page that it describes; and in its picture each crate above
+those that it uses. In crates.txt a crate follows a comment, and comes after those that it uses.
 
 A word of specs/ counts if the contract of a public function cites it, or if the definition of a word that counts uses
 it. Public are functions with `pub`, those of a public trait, and those that implement a trait. What a file imports
@@ -15,7 +16,7 @@ import re
 from collections.abc import Iterator
 from typing import Dict, Tuple
 
-from shared import TOP, crates, read
+from shared import TOP, crates, groups, read
 
 PAGE = "docs/ARCHITECTURE.md"
 TITLE = "## What a reader must believe, in reading order\n"
@@ -23,6 +24,7 @@ TITLE = "## What a reader must believe, in reading order\n"
 BESIDE = ("suites_", "example_", "program_", "warc_vectors")
 FUNCTION = re.compile(r'^\s*(pub )?(?:const |unsafe )*(?:extern "C" )?fn \w+')
 USE = re.compile(r"^\s*(?:ghost )?use Rattle\.(\w+)\.specs\.(\w+)\.\{([^}]*)\}", re.MULTILINE)
+GROUP = re.compile(r"^### (.*)\n\n\| Crate \| Owns \|\n\|---\|---\|\n((?:\| .*\n)*)", re.MULTILINE)
 INSIDE = re.compile(r"^## Inside `(\w+)`\n((?:(?!## ).*\n)*)", re.MULTILINE)
 Word = Tuple[str, str, str]
 Names = Dict[str, Tuple[str, str]]
@@ -145,6 +147,31 @@ def wrong_specs(page: str) -> Iterator[str]:
         yield f"lists specs/{file}.antt of {crate}, {why}"
 
 
+def wrong_groups(page: str) -> Iterator[str]:
+    """Groups of crates.txt that the page has otherwise, or doesn't have, and groups of the page alone."""
+    on_page = {title: re.findall(r"^\| `(\w+)` \|", rows, re.MULTILINE) for title, rows in GROUP.findall(page)}
+    wanted = groups()
+    for title in {**wanted, **on_page}:
+        here, there = on_page.get(title, []), wanted.get(title, [])
+        if here != there:
+            yield f"has {', '.join(here) or 'nothing'} in the group '{title}', and crates.txt {', '.join(there)}"
+    if list(on_page) != list(wanted):
+        yield f"has the groups {', '.join(on_page)}, and crates.txt {', '.join(wanted)}"
+
+
+def wrong_lines() -> Iterator[str]:
+    """Crates of crates.txt without a comment, and those that come before one that they use."""
+    lines, uses = read("crates.txt").splitlines(), crates()
+    names = list(uses)
+    for name in names:
+        number = next(at for at, line in enumerate(lines) if re.match(rf"{name}[ :]", line))
+        if not lines[number - 1].startswith("# "):
+            yield f"crates.txt:{number + 1}: no comment above {name}"
+        for low in uses[name]:
+            if low in uses and names.index(low) > names.index(name):
+                yield f"crates.txt:{number + 1}: {name} comes before {low}, which it uses"
+
+
 def wrong_files(page: str) -> Iterator[str]:
     """Files of a crate with a table of its own, or of the page, that the page lacks; and files that aren't there."""
     tables = [(f"crates/{crate}/src", "rt", part) for crate, part in re.findall(INSIDE, page)]
@@ -171,7 +198,8 @@ def wrong_picture(page: str) -> Iterator[str]:
 
 
 def wrong() -> Iterator[str]:
-    """What is wrong with the page, as lines of the lint."""
+    """What is wrong with the page and with crates.txt, as lines of the lint."""
     page = read(PAGE)
-    for fault in (*wrong_specs(page), *wrong_files(page), *wrong_picture(page)):
+    for fault in (*wrong_groups(page), *wrong_specs(page), *wrong_files(page), *wrong_picture(page)):
         yield f"{PAGE}: {fault}"
+    yield from wrong_lines()

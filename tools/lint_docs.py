@@ -3,7 +3,6 @@
 
 - A block of code in README.md or docs/LIBRARY.md is part of a file of crates/example_*, of c/ or of python/ or
   rust/examples, word for word.
-- The table of crates in docs/ARCHITECTURE.md names the libraries that crates.txt names.
 - A call or a law that docs/PROMISES.md names after a crate is in this crate.
 - docs/TRUST.md is as tools/lint_trust.py says, and docs/ARCHITECTURE.md as tools/lint_architecture.py says.
 - Each file that has the word of a row of CONTRIBUTING.md's table of changes is in that row (tools/lint_changes.py).
@@ -30,7 +29,7 @@ import lint_trust
 import make_calling
 import make_numbers
 import make_statuses
-from shared import TOP, crates, read, version
+from shared import TOP, read, version
 
 PAGES = ["README.md", "CONTRIBUTING.md", "CHANGELOG.md", "docs/*.md", "*/README.md"]
 EXAMPLES = ["crates/example_*/src/*.rt", "c/*.c", "python/*.py", "rust/examples/*.rs"]
@@ -55,16 +54,6 @@ def code_elsewhere(page: str) -> Iterator[str]:
     for block in re.findall(r"^```(?:rust|c|python)\n(.*?)^```$", read(page), re.MULTILINE | re.DOTALL):
         if not any(block in text for text in sources):
             yield f"{page}: no example has this code: {block.splitlines()[0]} .."
-
-
-def crates_elsewhere() -> Iterator[str]:
-    """Rows of the table of crates that crates.txt doesn't have."""
-    rows = re.findall(r"^\| `(\w+)` \| (.*?) \| .* \|$", read("docs/ARCHITECTURE.md"), re.MULTILINE)
-    uses = crates()
-    named = {name: re.findall(r"`(\w+)`", words) for name, words in reversed(rows) if name in uses}
-    for name in uses:
-        if named.get(name) != uses[name]:
-            yield f"docs/ARCHITECTURE.md: {name} uses {' '.join(uses[name])}"
 
 
 def items_of(crate: str) -> set[str]:
@@ -135,8 +124,7 @@ def versions_elsewhere() -> Iterator[str]:
 
 def main() -> None:
     found = [*code_elsewhere("README.md"), *code_elsewhere("docs/LIBRARY.md")]
-    found += [*crates_elsewhere(), *calls_elsewhere(), *commands_elsewhere()]
-    found += [*cases_elsewhere(), *versions_elsewhere()]
+    found += [*calls_elsewhere(), *commands_elsewhere(), *cases_elsewhere(), *versions_elsewhere()]
     for check in CHECKS:
         found += check.wrong()
     for pattern in PAGES:

@@ -35,10 +35,27 @@ def version() -> str:
         return matched(re.search(r'^const VERSION: &str = "(.*)";$', text.read(), re.MULTILINE))[1]
 
 
+def without_comment(line: str) -> str:
+    """A line of crates.txt without its comment, as the toolchain reads it; empty if it names no crate."""
+    return line.partition("#")[0].strip()
+
+
 def rows() -> dict[str, tuple[str, list[str]]]:
     """What a line of crates.txt says before its colon, by the crate's name, and which libraries the crate uses."""
-    lines = [line.partition(":") for line in read("crates.txt").splitlines() if line and not line.startswith("#")]
+    lines = [line.partition(":") for line in map(without_comment, read("crates.txt").splitlines()) if line]
     return {front.split()[0]: (front, uses.split()) for front, _, uses in lines}
+
+
+def groups() -> dict[str, list[str]]:
+    """The crates of each group of crates.txt, in order, by the group's title; those before the first by no title."""
+    found: dict[str, list[str]] = {}
+    title = ""
+    for line in read("crates.txt").splitlines():
+        if line.startswith("## "):
+            title = line[3:]
+        if without_comment(line):
+            found.setdefault(title, []).append(re.split(r"[ :]", line, maxsplit=1)[0])
+    return found
 
 
 def crates() -> dict[str, list[str]]:
