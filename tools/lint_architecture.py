@@ -172,16 +172,23 @@ def wrong_lines() -> Iterator[str]:
                 yield f"crates.txt:{number + 1}: {name} comes before {low}, which it uses"
 
 
+def files_of(folder: str, ending: str) -> set[str]:
+    """The files with an ending in a folder and those below it, but for a crate's root file and those that declare the
+    modules of a folder beside them."""
+    top = f"{TOP}/{folder}"
+    paths = glob.glob(f"{top}/**/*.{ending}", recursive=True)
+    return {os.path.relpath(it, top) for it in paths if not os.path.isdir(os.path.splitext(it)[0])} - {"lib.rt"}
+
+
 def wrong_files(page: str) -> Iterator[str]:
     """Files of a crate with a table of its own, or of the page, that the page lacks; and files that aren't there."""
     tables = [(f"crates/{crate}/src", "rt", part) for crate, part in re.findall(INSIDE, page)]
     tables.append(("page", "js", page.partition("## The reading room\n")[2].partition("\n## ")[0]))
     for folder, ending, part in tables:
         cells = " ".join(re.findall(r"^\| (.*?) \|", part, re.MULTILINE))
-        named = {os.path.basename(it) for it in re.findall(rf"`([\w/]+\.{ending})`", cells)}
-        there = {os.path.basename(it) for it in glob.glob(f"{TOP}/{folder}/*.{ending}")} - {"lib.rt"}
-        for name in sorted(there ^ named):
-            yield f"{'lacks' if name in there else 'has'} the file {folder}/{name}"
+        named = {re.sub(f"^{folder}/", "", it) for it in re.findall(rf"`([\w/]+\.{ending})`", cells)}
+        for name in sorted(files_of(folder, ending) ^ named):
+            yield f"{'has' if name in named else 'lacks'} the file {folder}/{name}"
 
 
 def wrong_picture(page: str) -> Iterator[str]:

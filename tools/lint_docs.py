@@ -58,7 +58,8 @@ def code_elsewhere(page: str) -> Iterator[str]:
 
 def items_of(crate: str) -> set[str]:
     """The names of the functions, types and modules of a crate."""
-    source = "".join(read(os.path.relpath(path, TOP)) for path in glob.glob(f"{TOP}/crates/{crate}/src/*.rt"))
+    paths = glob.glob(f"{TOP}/crates/{crate}/src/**/*.rt", recursive=True)
+    source = "".join(read(os.path.relpath(path, TOP)) for path in paths)
     return set(re.findall(r"\b(?:fn|struct|enum|trait|type|const|mod) (\w+)", source))
 
 
