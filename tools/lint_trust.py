@@ -17,7 +17,7 @@ WORDS = 30
 LINK = re.compile(r"\[([^\]]+)\]\(\.\./([^)]+)\)")
 # What each claim rests on, with the files that its links lead to.
 CARRIERS = {
-    "Contract": r"crates/\w+/src/\w+\.rt",
+    "Contract": r"crates/\w+/src/[\w/]+\.rt",
     "Case": r"crates/suites_\w+/(?:stdin|data/\w+\.script)",
     "Planted bug": r"crates/\w+/must-fail/\w+\.edit",
 }
