@@ -103,9 +103,14 @@ impl<'a> Finding<'a> {
 
 /// What is looked for in the field table: N1, N2 or N3.
 #[derive(Clone, Copy)]
-enum TableCheck {
+pub enum TableCheck {
+    /// A field that a rule requires is absent.
     Lacks,
+
+    /// A field that a rule forbids isn't absent.
     HasForbidden,
+
+    /// A field that may not be repeated is repeated.
     Repeats,
 }
 

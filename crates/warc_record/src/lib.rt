@@ -11,11 +11,11 @@ mod readings;
 mod table;
 mod types;
 
-pub use checks::{ArchiveFacts, Finding, all_findings, findings, stands_in_brackets};
+pub use checks::{ArchiveFacts, Finding, TableCheck, all_findings, findings, stands_in_brackets};
 pub use head::{
     GoodHead, HeadTexts, NamedPair, Reference, Segment, Typed, judge_head, type_head, wanted,
 };
 pub use ids::{IdKey, bare, id_key, is_bare_id, urn_uuid};
-pub use readings::SegmentNumber;
+pub use readings::{SegmentNumber, is_known_profile};
 pub use table::{FieldRule, field_rules, is_among};
 pub use types::Kind;

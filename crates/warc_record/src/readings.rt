@@ -97,7 +97,7 @@ pub(crate) fn segment_number<A: Allocator>(fields: &ByName<'_, A>) -> SegmentNum
 }
 
 /// Whether the value is one of the known profiles of revisits, in brackets or without.
-pub(crate) fn is_known_profile(value: &[u8]) -> bool
+pub fn is_known_profile(value: &[u8]) -> bool
     ensures { result ≡ is_known_profile value.now }
 {
     let profile = bare(value);

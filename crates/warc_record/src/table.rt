@@ -8,7 +8,7 @@ use warc_frame::FieldName;
 /// A row of the field table.
 pub struct FieldRule {
     /// The field that it is about.
-    pub(crate) field: FieldName,
+    pub field: FieldName,
 
     /// The kinds of record that must have the field.
     pub required: &'static [Kind],
