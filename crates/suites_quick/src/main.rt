@@ -7,8 +7,12 @@ use std::io::{self, Read, Write};
 use std::process::ExitCode;
 use suites_script::{Case, Trial, try_script};
 use warc_frame::{Head, read_head};
-use warc_quick::{QuickHead, QuickRecord, faultless_head, judged_record, quick_head};
-use warc_record::{HeadTexts, IdKey, Typed, bare, findings, id_key, judge_head, type_head};
+use warc_quick::{
+    PlainFinding, PlainFindings, QuickHead, QuickRecord, judged_record, judged_text, quick_head,
+};
+use warc_record::{
+    Finding, HeadTexts, IdKey, Typed, bare, findings, id_key, judge_head, type_head,
+};
 use warc_value::Wanted;
 
 /// The text that cases speak of which give none.
@@ -112,9 +116,26 @@ fn tell_alone(alloc: Global, answer: &mut Vec<u8>, text: &[u8]) -> Result<(), Al
     Ok(())
 }
 
-/// Whether the reading that keeps the fields finds nothing, and the same digest.
-fn has_no_finding(alloc: Global, head: Head<Global>, wanted: Wanted) -> Result<bool, AllocError> {
-    if !findings(alloc, &head.fields, head.block_len)?.is_empty() {
+/// Whether these findings are the same, in their order.
+fn are_same(all: &[Finding<'_>], found: &[PlainFinding]) -> bool {
+    all.len() == found.len()
+        && all
+            .iter()
+            .zip(found)
+            .all(|(one, plain)| *one == plain.finding())
+}
+
+/// Whether the reading that keeps the fields finds the same, and the same digest.
+fn is_confirmed_found(
+    alloc: Global,
+    head: Head<Global>,
+    wanted: Wanted,
+    found: &PlainFindings,
+) -> Result<bool, AllocError> {
+    if !are_same(
+        &findings(alloc, &head.fields, head.block_len)?,
+        found.as_slice(),
+    ) {
         return Ok(false);
     }
     match judge_head(head.fields) {
@@ -123,33 +144,61 @@ fn has_no_finding(alloc: Global, head: Head<Global>, wanted: Wanted) -> Result<b
     }
 }
 
-/// Adds that nothing is wrong with a record that asks for this digest.
-fn tell_nothing_wrong(answer: &mut Vec<u8>, wanted: Wanted) -> Result<(), AllocError> {
+/// Adds the line of a finding: its number, and the field that it is about.
+fn tell_finding(
+    alloc: Global,
+    answer: &mut Vec<u8>,
+    finding: Finding<'_>,
+) -> Result<(), AllocError> {
+    let number = format!(in alloc; "N{}", finding.number())?;
+    answer.extend_from_slice(number.as_bytes())?;
+    if let Some(name) = finding.field() {
+        answer.push(b' ')?;
+        answer.extend_from_slice(name)?;
+    }
+    answer.push(b'\n')?;
+    Ok(())
+}
+
+/// Adds what is found of a record that asks for this digest.
+fn tell_findings(
+    alloc: Global,
+    answer: &mut Vec<u8>,
+    wanted: Wanted,
+    found: &PlainFindings,
+) -> Result<(), AllocError> {
+    for finding in found.as_slice() {
+        tell_finding(alloc, answer, finding.finding())?;
+    }
+    if !found.as_slice().is_empty() {
+        return Ok(());
+    }
     match wanted {
         Wanted::Sha1(_) => answer.extend_from_slice(b"faultless, with a digest\n"),
         Wanted::Unchecked => answer.extend_from_slice(b"faultless\n"),
     }
 }
 
-/// Adds whether it is found in place that nothing is wrong with the record whose head a text begins with.
-fn tell_faultless(alloc: Global, answer: &mut Vec<u8>, text: &[u8]) -> Result<(), AllocError> {
+/// Adds what is found in place of the record whose head a text begins with.
+fn tell_found(alloc: Global, answer: &mut Vec<u8>, text: &[u8]) -> Result<(), AllocError> {
     let Ok(head) = read_head(alloc, text) else {
         return answer.extend_from_slice(b"no head\n");
     };
-    let Some(wanted) = faultless_head(&text[..head.len], head.block_len) else {
+    let Some((wanted, found)) = judged_text(&text[..head.len], head.block_len) else {
         return answer.extend_from_slice(b"not known in place\n");
     };
-    if !has_no_finding(alloc, head, wanted)? {
+    if !is_confirmed_found(alloc, head, wanted, &found)? {
         return answer.extend_from_slice(b"read in two ways\n");
     }
-    tell_nothing_wrong(answer, wanted)
+    tell_findings(alloc, answer, wanted, &found)
 }
 
-/// Whether the reading that keeps the fields finds a head and a block of the same lengths, and nothing else wrong.
-fn is_confirmed_faultless(
+/// Whether the reading that keeps the fields reads a head and a block of the same lengths, and finds the same.
+fn is_confirmed_record(
     alloc: Global,
     text: &[u8],
     record: &QuickRecord<'_>,
+    found: &PlainFindings,
 ) -> Result<bool, AllocError> {
     let Ok(head) = read_head(alloc, text) else {
         return Ok(false);
@@ -157,21 +206,21 @@ fn is_confirmed_faultless(
     if record.head_text.len() != head.len || record.block.len() as u64 != head.block_len {
         return Ok(false);
     }
-    has_no_finding(alloc, head, record.head.wanted())
+    is_confirmed_found(alloc, head, record.head.wanted(), found)
 }
 
-/// Adds whether it is known of the record that a text begins with that nothing is wrong with it, if it is read so.
+/// Adds what is known of the findings of the record that a text begins with, if it is read in place.
 fn tell_judged(alloc: Global, answer: &mut Vec<u8>, text: &[u8]) -> Result<(), AllocError> {
     let Some(record) = judged_record(text) else {
         return answer.extend_from_slice(b"not read in place\n");
     };
-    if !record.head.is_faultless {
+    let Some(found) = record.head.findings else {
         return answer.extend_from_slice(b"not known in place\n");
-    }
-    if !is_confirmed_faultless(alloc, text, &record)? {
+    };
+    if !is_confirmed_record(alloc, text, &record, &found)? {
         return answer.extend_from_slice(b"read in two ways\n");
     }
-    tell_nothing_wrong(answer, record.head.wanted())
+    tell_findings(alloc, answer, record.head.wanted(), &found)
 }
 
 /// Whether a key is that of an id's bare text.
@@ -220,7 +269,7 @@ impl Trial for Trials {
             }
             "quick" => tell_head(alloc, answer, &text_of(alloc, case, &self.text)?),
             "alone" => tell_alone(alloc, answer, &text_of(alloc, case, &self.text)?),
-            "faultless" => tell_faultless(alloc, answer, &text_of(alloc, case, &self.text)?),
+            "found" => tell_found(alloc, answer, &text_of(alloc, case, &self.text)?),
             "judged" => tell_judged(alloc, answer, &text_of(alloc, case, &self.text)?),
             "key" => tell_key(alloc, answer, case.word(1)),
             _ => answer.extend_from_slice(b"no such case\n"),

@@ -1,5 +1,5 @@
 -- N4 and N6 among the findings that a record alone shows.
-use Rattle.std.proofs.Common.{◌≡◌, ℕ, ◌+◌, Bool, true, false, ◌&&◌, List, [], ◌∷◌, ◌++◌, length, map, if◌then◌else◌, append_assoc, length-append, refl, ap, ◌∙◌, arith}
+use Rattle.std.proofs.Common.{◌≡◌, ℕ, ◌+◌, Bool, true, false, ◌&&◌, List, [], ◌∷◌, ◌++◌, length, map, if◌then◌else◌, append_assoc, length-append, refl, sym, ap, subst, ◌∙◌, arith}
 use Rattle.std.proofs.lemmas.List.{append-nil}
 use Rattle.std.proofs.lemmas.List.Elements.{filter-append}
 use Rattle.std.specs.List.{filter}
@@ -8,7 +8,8 @@ use Rattle.warc_record.specs.Kinds.{is_known}
 use Rattle.warc_record.specs.Readings.{Reading, kind_of, reading_of}
 use Rattle.warc_record.specs.Table.{Rule}
 use Rattle.warc_record.specs.Findings.{SeenFinding, Digest, SegmentNumber, IdUsed, NoContentType, Profile, NotUtf8, BareId, NoOrigin, Absent, Forbidden, Repeated, findings_by, findings_of, once}
-use Rattle.warc_checking.specs.OwnFindings.{IsWithoutDigest, all_of, is_higher, is_lower, shown_by, with_digest, with_used}
+use Rattle.warc_quick.specs.PlainFindings.{AreFindings}
+use Rattle.warc_checking.specs.OwnFindings.{IsWithoutDigest, all_of, is_higher, is_lower, shown_by, shown_plain, with_digest, with_used}
 
 all_told : {X : Type 0} (test : SeenFinding → Bool) (f : X → SeenFinding) (xs : List X) → ((x : X) → test (f x) ≡ true) → filter test (map f xs) ≡ map f xs
 all_told test f [] is = refl
@@ -160,3 +161,19 @@ all_shown fields size bad = digest_among_of fields size false bad
 -- without N4 it has none
 pub without_digest : (fields : List Pair) (size : ℕ) → IsWithoutDigest (findings_of fields size false false)
 without_digest fields size = digest_among_of fields size false false
+
+-- the findings that are known of a plain head are all that its record alone shows
+module _ (fields : List Pair) (size : ℕ) (found : List SeenFinding) (are : AreFindings fields size found) where
+  none_among : (before after : List SeenFinding) → before ++ once Digest false ++ once IdUsed false ++ after ≡ before ++ after
+  none_among before after = simp append-nil
+
+  found_alone : findings_of fields size false false ≡ found
+  found_alone = are.among false false ∙ none_among are.before are.after ∙ sym are.found_is
+
+  pub plain_without_digest : IsWithoutDigest found
+  plain_without_digest = subst IsWithoutDigest found_alone (without_digest fields size)
+
+  pub plain_shown : shown_plain found ≡ shown_by fields size false
+  plain_shown =
+      ap (λ k. record { others = found; known = k; bad = false }) (sym are.known)
+      ∙ ap (λ l. record { others = l; known = is_known (kind_of fields); bad = false }) (sym found_alone)

@@ -1,11 +1,17 @@
 -- What is found of records of which the last ones wait until their blocks are hashed.
-use Rattle.std.proofs.Common.{◌≡◌, ℕ, zero, suc, ◌+◌, ◌-◌, ◌<◌, ◌≤◌, Bool, true, false, Result, Ok, Err, IfOk, List, [], ◌∷◌, ◌++◌, length, map, take, drop, get_or, append_assoc, length-append, add-one, refl, sym, ap, ◌∙◌, arith}
+use Rattle.std.proofs.Common.{◌≡◌, ℕ, zero, suc, ◌+◌, ◌-◌, ◌<◌, ◌≤◌, Bool, true, false, Some, Result, Ok, Err, IfOk, List, [], ◌∷◌, ◌++◌, length, map, take, drop, get_or, append_assoc, length-append, add-one, refl, sym, ap, subst, ◌∙◌, arith}
+use Rattle.std.specs.Prelude.{IfSome}
 use Rattle.std.proofs.lemmas.List.{drop-append-le, length-drop, length-take-le, map-append, take-append-drop, take-append-le}
 use Rattle.warc_field.specs.Area.{Pair}
 use Rattle.warc_record.specs.Findings.{SeenFinding, findings_of}
-use Rattle.warc_checking.specs.Judging.{all_shown, each_found_by, found_by, settled}
-use Rattle.warc_checking.specs.OwnFindings.{Found, all_of, mark_at, shown_by, with_bad}
-use Rattle.warc_checking.proofs.AmongLemmas.{all_shown as shown_all}
+use Rattle.warc_frame.specs.Reading.{Head, any_fields, head_of}
+use Rattle.warc_quick.specs.PlainFindings.{AreFindings, all_plain}
+use Rattle.warc_quick.specs.Quick.{Says}
+use Rattle.warc_quick.specs.declared.head.QuickHead.{QuickHead}
+use Rattle.warc_quick.specs.declared.plain_findings.PlainFindings.{PlainFindings}
+use Rattle.warc_checking.specs.Judging.{IsOneMore, all_shown, each_found_by, found_by, settled}
+use Rattle.warc_checking.specs.OwnFindings.{Found, all_of, mark_at, shown_by, shown_plain, with_bad}
+use Rattle.warc_checking.proofs.AmongLemmas.{all_shown as shown_all, plain_shown}
 
 found_by_none : (fs : List Found) → each_found_by fs [] ≡ fs
 found_by_none [] = refl
@@ -94,6 +100,26 @@ settled_none found = marked_first found (length found - 0)
 pub shown_then : (fields : List Pair) (len : ℕ) (bad : Bool) → all_of (found_by (shown_by fields len false) bad) ≡ findings_of fields len bad false
 shown_then fields len true = shown_all fields len true
 shown_then fields len false = shown_all fields len false
+
+-- one more record was added, by the findings that are known of its plain head
+pub plain_more : (fields : List Pair) (len : ℕ) (found : List SeenFinding) (old new : List Found) → AreFindings fields len found
+    → new ≡ old ++ shown_plain found ∷ [] → IsOneMore fields len old new
+plain_more fields len found old new are is = record {
+  found = shown_by fields len false;
+  new_is = is ∙ ap (λ f. old ++ f ∷ []) (plain_shown fields len found are);
+  shows = shown_then fields len;
+}
+
+-- the findings that are known of a plain head are those of its record
+pub known_found : (fields : List Pair) (head : QuickHead) (known : PlainFindings) (len : ℕ) → Says fields head
+    → head.findings ≡ Some known → head.block_len ≡ len → AreFindings fields len (all_plain known)
+known_found fields head known len says is size =
+    let are = subst (λ m. IfSome m (λ listed. AreFindings fields head.block_len (all_plain listed))) is says.findings in
+    subst (λ n. AreFindings fields n (all_plain known)) size are
+
+-- the fields of the head that a text is
+pub same_fields : (text : List ℕ) (a b : Head) → head_of any_fields text ≡ Ok a → head_of any_fields text ≡ Ok b → a.fields ≡ b.fields
+same_fields text a b one other = let same : a ≡ b = cc in ap (λ (h : Head). h.fields) same
 
 -- the findings of one more record
 pub shown_one : (old new : List Found) (bads more : List Bool) (f : Found) (bad : Bool) (found : List SeenFinding)

@@ -136,9 +136,9 @@ shown_by fields block_len bad = record {
   bad = bad && is_known (kind_of fields);
 }
 
--- what a record shows with which nothing can be wrong but its digest, which isn't known to differ
-abbrev pub shown_faultless : Found
-shown_faultless = record { others = []; known = true; bad = false }
+-- what a record shows with these findings whose kind is one of the eight, and whose digest isn't known to differ
+abbrev pub shown_plain : List SeenFinding → Found
+shown_plain found = record { others = found; known = true; bad = false }
 
 -- the same, once its digest is known to differ
 abbrev pub with_bad : Found → Found

@@ -23,7 +23,7 @@ use std::alloc::{AllocError, Allocator};
 use std::marker::Model;
 use warc_field::Fields;
 use warc_frame::Source;
-use warc_quick::{QuickHead, QuickRecord, faultless_head};
+use warc_quick::{QuickHead, QuickRecord, judged_text};
 use warc_reading::{BlockDigest, Keep, RereadFault, Row, good_head_in, reread_text};
 use warc_record::GoodHead;
 use warc_value::{Verdict, Wanted};
@@ -90,7 +90,7 @@ fn add_good_head<A: Allocator + Copy>(
     }
 }
 
-/// The same. Of a faultless head no fields are kept.
+/// The same. If the head is plain and its findings are known, no fields are kept.
 fn add_head<A: Allocator + Copy>(
     alloc: A,
     text: &[u8],
@@ -104,10 +104,10 @@ fn add_head<A: Allocator + Copy>(
     ensures more { OnOk result ((found : Found) × (findings.new ≡ findings.old ++ found ∷ [])) }
     ensures err { OnErr result (findings.new ≡ findings.old) }
 {
-    let Some(wanted) = faultless_head(text, block_len) else {
+    let Some((wanted, found)) = judged_text(text, block_len) else {
         return add_good_head(alloc, text, block_len, findings);
     };
-    match findings.add_faultless() {
+    match findings.add_plain(&found) {
         Ok(()) => Ok(wanted),
         Err(_) => Err(RereadFault::Memory),
     }
@@ -119,13 +119,15 @@ fn add_plain_head<A: Allocator + Copy>(
     found: &QuickRecord<'_>,
     findings: &mut OwnFindings<A>,
 ) -> Result<(), AllocError>
+    requires { (p : Placed) × (start : ℕ) × IsNextPlain p found.now start }
     ensures ok { (p : Placed) (start : ℕ) → IsNextPlain p found.now start →
         OnOk result (IsOneMore p.content.fields (length p.content.block) findings.old findings.new) }
     ensures more { OnOk result ((one : Found) × (findings.new ≡ findings.old ++ one ∷ [])) }
     ensures err { OnErr result (findings.new ≡ findings.old) }
 {
-    if found.head.is_faultless {
-        return findings.add_faultless();
+    // A copy of them is lent, so that the record itself can stay in registers.
+    if let Some(known) = found.head.findings {
+        return findings.add_plain(&known);
     }
     // The head was read already, so only memory can fail.
     match add_good_head(alloc, found.head_text, found.head.block_len, findings) {
@@ -141,6 +143,7 @@ fn add_in_place<A: Allocator + Copy>(
     findings: &mut OwnFindings<A>,
     batch: &mut Batch<A>,
 ) -> Result<(), AllocError>
+    requires next { (p : Placed) × (start : ℕ) × IsNextPlain p found.now start }
     requires few { length batch.old < MAX_WAITING }
     requires last { length batch.old ≤ length findings.old }
     ensures last { length batch.new ≤ length findings.new }
@@ -300,6 +303,7 @@ impl<A: Allocator + Copy> Judging<A> {
 
     /// Adds the next record, which was read in place. If memory is refused, it isn't added.
     pub(crate) fn add_plain(&mut self, alloc: A, found: &QuickRecord<'_>) -> Result<(), AllocError>
+        requires { (p : Placed) × (start : ℕ) × IsNextPlain p found.now start }
         ensures ok { (p : Placed) (start : ℕ) → IsNextPlain p found.now start →
             OnOk result (self.new ≡ self.old ++ own_findings p.content ∷ []) }
         ensures err { OnErr result (self.new ≡ self.old) }

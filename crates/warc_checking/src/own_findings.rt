@@ -6,8 +6,9 @@ ghost use Rattle.warc_frame.specs.Effects.{Puts};
 ghost use Rattle.warc_record.specs.Findings.{SeenFinding, finding_seen, findings_of, once};
 ghost use Rattle.warc_record.specs.Kinds.{is_known};
 ghost use Rattle.warc_record.specs.Readings.{kind_of};
+ghost use Rattle.warc_quick.specs.PlainFindings.{all_plain, plain_seen};
 ghost use Rattle.warc_checking.specs.Lines.{record_lines};
-ghost use Rattle.warc_checking.specs.OwnFindings.{AreEnds, AreNamed, Found, IsNamed, IsPart, all_found, all_of, bad_at, each_with, found_at, found_by_part, finding_in, is_between, is_marked, findings_of_part, last_end, finding_by_number, mark_at, marked, shown_by, shown_faultless, state_by, with_both, with_used};
+ghost use Rattle.warc_checking.specs.OwnFindings.{AreEnds, AreNamed, Found, IsNamed, IsPart, IsWithoutDigest, all_found, all_of, bad_at, each_with, found_at, found_by_part, finding_in, is_between, is_marked, findings_of_part, last_end, finding_by_number, mark_at, marked, shown_by, shown_plain, state_by, with_both, with_used};
 
 use crate::lines::put_finding;
 use std::alloc::{AllocError, Allocator};
@@ -16,6 +17,7 @@ use warc_field::Fields;
 use warc_frame::laws::went_out_of_longer;
 use warc_frame::names::WARC_TYPE;
 use warc_frame::{OutBuffer, SendFault, Sink};
+use warc_quick::{PlainFinding, PlainFindings};
 use warc_record::{ArchiveFacts, Finding, Kind};
 
 /// The number of the finding that a digest differs: N4.
@@ -380,6 +382,20 @@ fn add_all<A: Allocator>(
     Ok(())
 }
 
+/// The same, of findings of a record whose head is plain.
+fn add_plain_findings<A: Allocator>(
+    found: &[PlainFinding],
+    findings: &mut FindingList<A>,
+) -> Result<(), AllocError>
+    ensures ok { OnOk result (findings.new ≡ findings.old ++ map plain_seen found.now) }
+    ensures more { (more : List SeenFinding) × (findings.new ≡ findings.old ++ more) }
+{
+    'adding: for one in found {
+        findings.push(&one.finding())?;
+    }
+    Ok(())
+}
+
 /// Adds the findings that a record alone shows but for N4, by the fields of its head and the length of its block. If
 /// memory is refused some of them are added.
 fn add_others<A: Allocator + Copy>(
@@ -461,20 +477,22 @@ fn add_part<A: Allocator + Copy>(
     Ok(())
 }
 
-/// Adds the part of the next record, which is empty. If memory is refused, none is added.
-fn add_empty_part<A: Allocator>(
+/// The same, by the findings of a plain head.
+fn add_plain_part<A: Allocator>(
     findings: &mut FindingList<A>,
     ends: &mut Vec<usize, A>,
+    found: &PlainFindings,
 ) -> Result<(), AllocError>
     requires { AreEnds (length findings.old) ends.old.items }
     ensures within { AreEnds (length findings.new) ends.new.items }
     ensures ok { OnOk result (found_by_part findings.new ends.new.items
-        ≡ found_by_part findings.old ends.old.items ++ [] ∷ []) }
+        ≡ found_by_part findings.old ends.old.items ++ all_plain found.now ∷ []) }
     ensures err { OnErr result (found_by_part findings.new ends.new.items
         ≡ found_by_part findings.old ends.old.items) }
 {
     forget_rest(findings, ends.as_slice());
     ends.reserve(1)?;
+    add_plain_findings(found.as_slice(), findings)?;
     ends.push_reserved(findings.len());
     Ok(())
 }
@@ -521,12 +539,12 @@ impl<A: Allocator + Copy> OtherFindings<A> {
 }
 
 impl<A: Allocator> OtherFindings<A> {
-    /// Adds that the next record has none. If memory is refused, nothing is added.
-    fn add_none(&mut self) -> Result<(), AllocError>
-        ensures ok { OnOk result (self.new ≡ self.old ++ [] ∷ []) }
+    /// Adds the findings of the next record, whose head is plain. If memory is refused, none is added.
+    fn add_plain(&mut self, found: &PlainFindings) -> Result<(), AllocError>
+        ensures ok { OnOk result (self.new ≡ self.old ++ all_plain found.now ∷ []) }
         ensures err { OnErr result (self.new ≡ self.old) }
     {
-        add_empty_part(&mut self.findings, &mut self.ends)
+        add_plain_part(&mut self.findings, &mut self.ends, found)
     }
 
     /// Forgets the findings of all but the first records, this many.
@@ -689,14 +707,15 @@ impl<A: Allocator> OwnFindings<A> {
         self.states.len()
     }
 
-    /// Adds the next record, with which nothing can be wrong but its digest, which isn't known to differ. If memory is
-    /// refused, none is added.
-    pub(crate) fn add_faultless(&mut self) -> Result<(), AllocError>
-        ensures ok { OnOk result (self.new ≡ self.old ++ shown_faultless ∷ []) }
+    /// Adds the findings of the next record, whose head is plain, and whose kind is one of the eight. Its digest isn't
+    /// known to differ. If memory is refused, none is added.
+    pub(crate) fn add_plain(&mut self, found: &PlainFindings) -> Result<(), AllocError>
+        requires { IsWithoutDigest (all_plain found.now) }
+        ensures ok { OnOk result (self.new ≡ self.old ++ shown_plain (all_plain found.now) ∷ []) }
         ensures err { OnErr result (self.new ≡ self.old) }
     {
         self.states.reserve(1)?;
-        self.others.add_none()?;
+        self.others.add_plain(found)?;
         self.states.push_reserved(DigestState::Unmarked);
         Ok(())
     }

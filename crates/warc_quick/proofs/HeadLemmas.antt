@@ -1,6 +1,6 @@
 -- What the fields of a head say, and that it is the head at the front of a text.
 use Rattle.std.proofs.Common.{◌≡◌, ℕ, ◌+◌, ◌-◌, ◌<◌, ◌≤◌, ◌==◌, true, not, List, [], ◌∷◌, ◌++◌, length, length-append, take, drop, replicate, append_assoc, Option, Some, None, Ok, is_some, refl, sym, ap, ◌∙◌, arith}
-use Rattle.std.specs.Prelude.{unwrap_or, option_and_then}
+use Rattle.std.specs.Prelude.{IfSome, unwrap_or, option_and_then}
 use Rattle.std.specs.Borrow.{Bor}
 use Rattle.std.specs.Option.{option_map_or}
 use Rattle.std.proofs.Math.Seq.{take-append_seam}
@@ -32,7 +32,7 @@ use Rattle.warc_quick.specs.declared.head.QuickHead.{QuickHead}
 use Rattle.warc_frame.specs.FieldNames.{name_text}
 use Rattle.warc_frame.specs.declared.field_name.FieldName.{FieldName}
 use Rattle.warc_frame.specs.declared.field_name.FieldName.TheVariants.{«Type», RecordId, Date, ContentLength}
-use Rattle.warc_quick.specs.Faultless.{AreFaultless}
+use Rattle.warc_quick.specs.PlainFindings.{AreFindings, all_plain}
 use Rattle.warc_quick.specs.Fronts.{BeginsWithFields, IsHeadWith, IsValueOf}
 use Rattle.warc_quick.specs.Quick.{AreAlone, Says, max_quick_head}
 use Rattle.warc_quick.proofs.ValueLemmas.{some_counts}
@@ -94,8 +94,9 @@ module _ (fields : List Pair) (found : QuickHead) (size : Bor (List ℕ)) (are :
       → found.digest.now ≡ unwrap_or (first_value warc_block_digest fields) []
       → found.texts.is_truncated ≡ not (length (unwrap_or (first_value warc_truncated fields) []) == 0)
       → found.payload_digest.now ≡ unwrap_or (first_value warc_payload_digest fields) []
-      → (found.is_alone ≡ true → AreAlone fields) → (found.is_faultless ≡ true → AreFaultless fields found.block_len) → Says fields found
-  says target digest mark payload alone faultless = record {
+      → (found.is_alone ≡ true → AreAlone fields)
+      → IfSome found.findings (λ listed. AreFindings fields found.block_len (all_plain listed)) → Says fields found
+  says target digest mark payload alone findings = record {
     values = are;
     good = (good_heads_have_no_fault fields).0 (record {
       type_is = record { value = found.texts.kind.now; stands = sym of_type.first; alone = of_type.alone refl; reads = token };
@@ -114,7 +115,7 @@ module _ (fields : List Pair) (found : QuickHead) (size : Bor (List ℕ)) (are :
     wanted = digest_is (first_value warc_block_digest fields) ∙ ap wanted_digest (sym digest);
     payload = sym (present_or_empty (first_value warc_payload_digest fields)) ∙ ap unless_empty (sym payload);
     alone = alone;
-    faultless = faultless;
+    findings = findings;
   }
 
 area_at : (version : Version) (area : List ℕ) → drop 10 (version_line version ++ area) ≡ area

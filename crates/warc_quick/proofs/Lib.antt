@@ -8,5 +8,5 @@ mod PlainLemmas
 mod TypedLemmas
 mod AsciiLemmas
 mod RuledLemmas
-mod FaultlessLemmas
+mod JudgedLemmas
 mod CanonicalLemmas

@@ -1,18 +1,22 @@
 -- The values of a plain head, held against the field table.
-use Rattle.std.proofs.Common.{◌≡◌, ℕ, ◌+◌, ◌<◌, ◌==◌, Bool, true, false, not, if◌then◌else◌, List, [], ◌∷◌, length, map, get_or, Option, Some, None, is_some, refl, sym, ap, ◌∙◌, subst, arith}
+use Rattle.std.proofs.Common.{◌≡◌, ℕ, suc, ◌+◌, ◌<◌, ◌≤◌, ◌==◌, nat_lt, Bool, true, false, not, ◌&&◌, cond, if◌then◌else◌, List, [], ◌∷◌, ◌++◌, length, map, filter, get_or, Option, Some, None, is_some, refl, sym, ap, ◌∙◌, subst, arith}
+use Rattle.std.specs.List.{All}
 use Rattle.std.specs.Prelude.{option_and_then}
 use Rattle.std.specs.Borrow.{Bor}
 use Rattle.std.specs.Str.{str_eq_ignore_ascii_case}
 use Rattle.std.proofs.Math.Dec.{eqb}
-use Rattle.std.proofs.lemmas.Bool.{agree_below_at, eq-eqb, eqb-true}
-use Rattle.std.proofs.lemmas.List.{get_or-map, length-map}
-use Rattle.warc_field.specs.Area.{Pair, first_value}
+use Rattle.std.proofs.lemmas.Bool.{agree_below_at, eq-eqb, eqb-true, le-ltb}
+use Rattle.std.proofs.lemmas.List.{append-nil, get_or-map, length-map}
+use Rattle.warc_field.specs.Area.{Pair, count_of, first_value}
 use Rattle.warc_frame.specs.Names.{warc_target_uri}
 use Rattle.warc_record.specs.declared.table.FieldRule.{FieldRule}
-use Rattle.warc_record.specs.Findings.{stands}
+use Rattle.warc_record.specs.declared.checks.TableCheck.TheVariants.{Lacks, HasForbidden, Repeats}
+use Rattle.warc_record.specs.declared.types.Kind.{Kind}
+use Rattle.warc_record.specs.Findings.{SeenFinding, by_table, stands}
+use Rattle.warc_record.specs.Kinds.{is_known}
 use Rattle.warc_record.specs.Ids.{bare_text}
 use Rattle.warc_record.specs.Readings.{bare_present, unless_empty}
-use Rattle.warc_record.specs.Table.{Rule, rule, rules, rule_seen}
+use Rattle.warc_record.specs.Table.{Rule, is_among, rule, rules, rule_seen}
 use Rattle.warc_field.specs.Text.{trimmed}
 use Rattle.warc_frame.specs.FieldNames.{name_place, name_text}
 use Rattle.warc_frame.specs.declared.field_name.FieldName.{FieldName}
@@ -26,7 +30,7 @@ use Rattle.warc_frame.specs.declared.field_name.FieldName.TheVariants.{Identifie
 use Rattle.warc_record.proofs.TypedLemmas.{some_bytes}
 use Rattle.warc_quick.specs.Fronts.{AreValues, IsValueOf}
 use Rattle.warc_quick.specs.Names.{may_repeat}
-use Rattle.warc_quick.specs.Ruled.{IsRuleOf}
+use Rattle.warc_quick.specs.Ruled.{IsKept, IsRuleOf}
 
 -- the only name that is the target's is at its place
 is_target : (name : FieldName) → str_eq_ignore_ascii_case (name_text name) warc_target_uri ≡ eqb (name_place name) 4
@@ -107,15 +111,15 @@ pub places_are : (k : ℕ) → k < 17 → name_place (ruled_name k) ≡ 4 + k
 places_are k inside =
     eqb-true _ _ (agree_below_at (λ k. eqb (name_place (ruled_name k)) (4 + k)) (λ k. true) 17 k refl inside)
 
-rule_is : (k : ℕ) → k < 17 → IsRuleOf (ruled_name k) (get_or rules k no_rule)
-rule_is k inside =
+rule_is : (k : ℕ) (d : Rule) → k < 17 → IsRuleOf (ruled_name k) (get_or rules k d)
+rule_is k d inside =
     let room : k < length rules = omega (arith, inside, rule_count) in
     record {
       name_is =
-          sym (get_or-map (λ (row : Rule). row.name) rules k no_rule [] room) ∙ ap (λ xs. get_or xs k []) names_are
+          sym (get_or-map (λ (row : Rule). row.name) rules k d [] room) ∙ ap (λ xs. get_or xs k []) names_are
           ∙ get_or-map name_text ruled_names k TargetUri [] inside;
       repeats_is =
-          sym (get_or-map (λ (row : Rule). row.repeats) rules k no_rule false room) ∙ ap (λ xs. get_or xs k false) repeats_are
+          sym (get_or-map (λ (row : Rule). row.repeats) rules k d false room) ∙ ap (λ xs. get_or xs k false) repeats_are
           ∙ get_or-map may_repeat ruled_names k TargetUri false inside;
     }
 
@@ -127,4 +131,63 @@ module _ (rows : List FieldRule) (are : map rule_seen rows ≡ rules) where
   pub row_is : (k : ℕ) (d : FieldRule) → k < 17 → IsRuleOf (ruled_name k) (rule_seen (get_or rows k d))
   row_is k d inside =
       subst (λ row. IsRuleOf (ruled_name k) row)
-      (ap (λ xs. get_or xs k no_rule) (sym are) ∙ get_or-map rule_seen rows k d no_rule (omega (arith, inside, row_count))) (rule_is k inside)
+      (ap (λ xs. get_or xs k no_rule) (sym are) ∙ get_or-map rule_seen rows k d no_rule (omega (arith, inside, row_count))) (rule_is k no_rule inside)
+
+-- a test that no item passes selects none
+pub none_selected : {X Y : Type 0} (P : X → Type 0) (told : X → Y) (test : X → Bool) → ((x : X) → P x → test x ≡ false) → (xs : List X) → All P xs
+    → map told (filter test xs) ≡ []
+none_selected P told test never [] all = refl
+none_selected P told test never (x ∷ xs) all =
+    ap (λ b. map told (cond b (x ∷ filter test xs) (filter test xs))) (never x (all 0 x (omega arith)))
+    ∙ none_selected P told test never xs (λ k d inside. all (suc k) d (omega (arith, inside)))
+
+and_none : (b : Bool) → (b && false) ≡ false
+and_none true = refl
+and_none false = refl
+
+-- the rules that a record keeps give no finding of any check
+module _ (kind : Kind) (fields : List Pair) where
+  not_lacking : (row : Rule) → IsKept kind fields row → (is_among kind row.required && not (stands row.name fields)) ≡ false
+  not_lacking row is = by (is_among kind row.required) (stands row.name fields) is.required
+    where
+      by : (asked there : Bool) → (asked ≡ true → there ≡ true) → (asked && not there) ≡ false
+      by true there has = ap not (has refl)
+      by false there has = refl
+
+  not_forbidden : (row : Rule) → IsKept kind fields row → (is_among kind row.forbidden && stands row.name fields) ≡ false
+  not_forbidden row is = by (is_among kind row.forbidden) (stands row.name fields) is.forbidden
+    where
+      by : (barred there : Bool) → (there ≡ true → barred ≡ false) → (barred && there) ≡ false
+      by barred true free = rw (free refl) refl
+      by barred false free = and_none barred
+
+  none_lacks : All (IsKept kind fields) rules → by_table Lacks kind fields ≡ []
+  none_lacks kept = none_selected (IsKept kind fields) _ _ not_lacking rules kept
+
+  none_forbidden : All (IsKept kind fields) rules → by_table HasForbidden kind fields ≡ []
+  none_forbidden kept = none_selected (IsKept kind fields) _ _ not_forbidden rules kept
+
+  -- so nothing is listed by the table
+  pub nothing_broken : All (IsKept kind fields) rules → (found : List SeenFinding)
+      → found ≡ found ++ by_table Lacks kind fields ++ by_table HasForbidden kind fields
+  nothing_broken kept found = rw (none_lacks kept, none_forbidden kept) (simp append-nil)
+
+  -- no field of a plain head repeats which may not
+  abbrev IsFew : Rule → Type 0
+  IsFew row = row.repeats ≡ false → count_of row.name fields ≤ 1
+
+  not_again : (row : Rule) → IsFew row → (is_known kind && not row.repeats && nat_lt 1 (count_of row.name fields)) ≡ false
+  not_again row is = by (is_known kind) row.repeats is
+    where
+      by : (known repeats : Bool) → (repeats ≡ false → count_of row.name fields ≤ 1)
+          → (known && not repeats && nat_lt 1 (count_of row.name fields)) ≡ false
+      by known true few = rw (and_none known) refl
+      by known false few = rw (le-ltb 1 (count_of row.name fields) (few refl)) (and_none _)
+
+  all_few : (values : List (Option (Bor (List ℕ)))) → AreValues fields values → All IsFew rules
+  all_few values are k d inside =
+      let of = rule_is k d (omega (arith, inside, rule_count)) in
+      λ single. subst (λ name. count_of name fields ≤ 1) (sym of.name_is) ((are.each (ruled_name k)).alone (sym of.repeats_is ∙ single))
+
+  pub none_repeats : (values : List (Option (Bor (List ℕ)))) → AreValues fields values → by_table Repeats kind fields ≡ []
+  none_repeats values are = none_selected IsFew _ _ not_again rules (all_few values are)

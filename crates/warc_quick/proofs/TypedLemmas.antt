@@ -49,7 +49,7 @@ module _ (fields : List Pair) (found : QuickHead) (says : Says fields found) whe
   kind_is : found.texts.kind.now ≡ read.type_text
   kind_is = stated _ _ _ read.type_is says.texts.kind
 
-  id_is : found.texts.id.now ≡ read.id_text
+  pub id_is : found.texts.id.now ≡ read.id_text
   id_is = stated _ _ _ read.id_text_is says.texts.id
 
   date_is : found.texts.date.now ≡ read.date_text

@@ -4,4 +4,4 @@ pub mod Places
 pub mod Fronts
 pub mod Ruled
 pub mod Canonical
-pub mod Faultless
+pub mod PlainFindings

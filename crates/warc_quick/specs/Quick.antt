@@ -1,6 +1,6 @@
 -- A head that is read in place: the good head at the front of a text, and what it says (ISO 28500:2017, 4 and 5). Which
 -- heads are read so is this project's own choice.
-use Rattle.std.specs.Prelude.{◌≡◌, ℕ, ◌+◌, ◌≤◌, true, List, [], length, take, None, Ok, unwrap_or}
+use Rattle.std.specs.Prelude.{◌≡◌, ℕ, ◌+◌, ◌≤◌, true, List, [], length, take, None, Ok, IfSome, unwrap_or}
 use Rattle.warc_field.specs.Area.{Pair, first_value}
 use Rattle.warc_field.specs.Text.{AreFields}
 use Rattle.warc_value.specs.Digests.{wanted_digest}
@@ -12,7 +12,7 @@ use Rattle.warc_frame.specs.Spelling.{Spells}
 use Rattle.warc_record.specs.Heads.{head_fault}
 use Rattle.warc_record.specs.Readings.{Reading, digest_wanted, no_segment, nothing_named, present_value, reading_of, reference_of, segment_reading, unless_empty}
 use Rattle.warc_record.specs.declared.head.HeadTexts.{HeadTexts}
-use Rattle.warc_quick.specs.Faultless.{AreFaultless}
+use Rattle.warc_quick.specs.PlainFindings.{AreFindings, all_plain}
 use Rattle.warc_quick.specs.declared.head.QuickHead.{QuickHead}
 use Rattle.warc_quick.specs.declared.plain.QuickRecord.{QuickRecord}
 
@@ -43,7 +43,7 @@ pub record Says (fields : List Pair) (found : QuickHead) : Type 0 where
   pub wanted : digest_wanted fields ≡ wanted_digest found.digest.now
   pub payload : present_value warc_payload_digest fields ≡ unless_empty found.payload_digest.now
   pub alone : found.is_alone ≡ true → AreAlone fields
-  pub faultless : found.is_faultless ≡ true → AreFaultless fields found.block_len
+  pub findings : IfSome found.findings (λ listed. AreFindings fields found.block_len (all_plain listed))
 
 -- the first bytes of a text are a whole, good head, which says this
 pub record IsQuickHead (text : List ℕ) (found : QuickHead) : Type 0 where

@@ -16,6 +16,7 @@ ghost use Rattle.warc_quick.specs.Quick.{Says, IsQuickHead, max_quick_head};
 
 use crate::dates::is_plain_date;
 use crate::lines::first_line;
+use crate::plain_findings::PlainFindings;
 use crate::runs::{LANES, holds_no_id_end};
 use crate::values::Values;
 use warc_field::{decimal, is_name};
@@ -49,9 +50,8 @@ pub struct QuickHead<'a> {
     /// Whether it is known that the head names no other record and says nothing of segments.
     pub is_alone: bool,
 
-    /// Whether it is known that all that can be found of its record is that the digest differs (N4) and that the id is
-    /// used (N6).
-    pub is_faultless: bool,
+    /// All findings of its record but N4 (its digest differs) and N6 (its id is used), if they are known.
+    pub findings: Option<PlainFindings>,
 }
 
 impl<'a> QuickHead<'a> {
@@ -216,7 +216,7 @@ fn good_head<'a>(len: usize, values: &Values<'a>) -> Option<QuickHead<'a>>
         digest: values.or_empty(FieldName::BlockDigest),
         payload_digest: values.or_empty(FieldName::PayloadDigest),
         is_alone: names_nothing(values) & has_no_segment(values),
-        is_faultless: false,
+        findings: None,
     })
 }
 

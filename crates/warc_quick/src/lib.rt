@@ -7,15 +7,18 @@
 
 mod canonical;
 mod dates;
-mod faultless;
 mod head;
+mod judging;
 mod lines;
 mod names;
 mod plain;
+mod plain_findings;
 mod runs;
+mod table;
 mod values;
 
 pub use canonical::is_canonical_head;
-pub use faultless::faultless_head;
 pub use head::{QuickHead, quick_head};
+pub use judging::judged_text;
 pub use plain::{QuickRecord, judged_record, quick_record};
+pub use plain_findings::{PlainFinding, PlainFindings};

@@ -4,8 +4,8 @@ ghost use Rattle.warc_frame.specs.Reading.{block_at};
 ghost use Rattle.warc_frame.specs.Record.{max_block};
 ghost use Rattle.warc_quick.specs.Quick.{IsQuickHead, IsQuickRecord};
 
-use crate::faultless::judged_head;
 use crate::head::{QuickHead, quick_head};
+use crate::judging::judged_head;
 
 /// What closes a record.
 const CLOSING: &[u8] = b"\r\n\r\n";
@@ -64,7 +64,7 @@ fn with_block<'a>(text: &'a [u8], head: QuickHead<'a>) -> Option<QuickRecord<'a>
 }
 
 /// The good record at the front of a text, if its head is plain and all of it is there. `None` says nothing of the
-/// text. Whether the head is faultless isn't looked at.
+/// text. Its findings aren't looked for.
 #[inline(always)]
 pub fn quick_record(text: &[u8]) -> Option<QuickRecord<'_>>
     ensures { IfSome result (IsQuickRecord text.now) }
@@ -72,7 +72,7 @@ pub fn quick_record(text: &[u8]) -> Option<QuickRecord<'_>>
     with_block(text, quick_head(text)?)
 }
 
-/// The same record, with a look whether its head is faultless.
+/// The same record, with its findings, if they are known.
 pub fn judged_record(text: &[u8]) -> Option<QuickRecord<'_>>
     ensures { IfSome result (IsQuickRecord text.now) }
 {

@@ -71,7 +71,7 @@ pub trait Keep<A: Allocator> {
     fn truncate(&mut self, count: usize)
         ensures { (records : List Placed) → keeps self.old records → keeps self.new (take count records) };
 
-    /// Whether it is asked of each plain head whether it is faultless. If not, `QuickHead::is_faultless` is false.
+    /// Whether plain heads are read with their findings. If not, `QuickHead::findings` is `None`.
     fn checks_heads() -> bool {
         false
     }

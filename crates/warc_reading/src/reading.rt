@@ -213,8 +213,8 @@ impl<A: Allocator + Copy, B: TakeBlock, L: Keep<A, Block = B> + Drop> Reading<A,
 }
 
 /// The record that a piece begins with, if it can be read in place: the decoder stands between records, the head is
-/// plain, and the record ends within the piece and within the limit of an archive. It may be asked too whether the head
-/// is faultless.
+/// plain, and the record ends within the piece and within the limit of an archive. It is read with its findings if
+/// heads are checked.
 #[inline(always)]
 fn plain_record<'a, A: Allocator + Copy>(
     decoder: &Decoder<A>,

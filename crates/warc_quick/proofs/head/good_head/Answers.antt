@@ -1,4 +1,4 @@
-use Rattle.std.proofs.Common.{◌==◌, length, not, true≢false, sym, ap, ◌∙◌}
+use Rattle.std.proofs.Common.{◌==◌, length, not, sym, ap, ◌∙◌}
 use Rattle.std.proofs.lemmas.Bool.{and_parts}
 use Rattle.warc_record.specs.Ids.{bare_text}
 use Rattle.warc_quick.proofs.HeadLemmas.{says}
@@ -17,4 +17,4 @@ returns-clause-says c = λ fields fit are.
     (λ alone.
     let both = and_parts _ _ alone in
     record { reference = c.names_nothing.ensures fields are both.0; segment = c.has_no_segment.ensures fields are both.1 })
-    (λ never. absurd (true≢false (sym never)))
+    tt

@@ -5,7 +5,7 @@ use Rattle.std.specs.List.{All}
 use Rattle.warc_record.specs.Table.{rule_seen}
 use Rattle.warc_quick.specs.Ruled.{IsKept}
 use Rattle.warc_quick.proofs.RuledLemmas.{places_are, row_count, row_is, ruled_name}
-use Rattle.warc_quick.proofs.faultless.keeps_table.Goals as goal
+use Rattle.warc_quick.proofs.table.keeps_table.Goals as goal
 
 pub keeps_rule-requires : goal.keeps_rule-requires
 keeps_rule-requires c = omega (arith, c.loop-at-test.true, row_count c.field_rules-rules.result.now c.loop-at.invariant.1)

@@ -4,7 +4,7 @@ use Rattle.warc_field.specs.Area.{Pair}
 use Rattle.warc_record.specs.Table.{rule_seen, rules}
 use Rattle.warc_quick.specs.Fronts.{AreValues}
 use Rattle.warc_quick.specs.Ruled.{IsKept}
-use Rattle.warc_quick.proofs.faultless.keeps_table.Given as goal
+use Rattle.warc_quick.proofs.table.keeps_table.Given as goal
 
 -- each rule so far is kept
 abbrev pub invariant-loop-at : goal.invariant-loop-at

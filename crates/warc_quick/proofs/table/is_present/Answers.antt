@@ -1,6 +1,6 @@
 use Rattle.std.proofs.Common.{◌==◌, ◌∙◌, length, not, sym, ap}
 use Rattle.warc_quick.proofs.RuledLemmas.{target_stands}
-use Rattle.warc_quick.proofs.faultless.is_present.Goals as goal
+use Rattle.warc_quick.proofs.table.is_present.Goals as goal
 
 pub returns-then-place-eq-FIRST_RULED : goal.returns-then-place-eq-FIRST_RULED
 returns-then-place-eq-FIRST_RULED c = λ fields name are at.
