@@ -39,6 +39,7 @@ gives_none part rows i s o none = record {
   silent = λ e. refl;
   absent = (λ e. none, λ e. refl);
   reads = nothing_read part (slice_get rows i) s;
+  device = tt;
   fails = record { may = refl; failed = λ bytes held is. refl };
   cause = refl;
 }
@@ -98,6 +99,7 @@ module _ (part : Part) (rows : List Row) (i : ℕ) (row : Row) (start len : ℕ)
     silent = λ e. cc e;
     absent = (λ e. cc e, λ none. absurd (some_row none));
     reads = reads;
+    device = tt;
     fails = fails_never sound;
     cause = cause;
   }
@@ -113,20 +115,10 @@ module _ (part : Part) (rows : List Row) (i : ℕ) (row : Row) (start len : ℕ)
     silent = λ no. cc no;
     absent = (λ no. cc no, λ none. absurd (some_row none));
     reads = reads;
+    device = device;
     fails = fails_more (λ bytes held is. let (text, found, same, range) = there bytes is in (_, (range, refl))) fails;
     cause = cause;
   }
-
--- memory was refused before anything was looked for
-pub extracts_refused : {S : Type 0} (archive : Archived S) (id : List ℕ) (s : SeenSource) (o : Seen) → Extracts archive id s s o o (Err (Out (outs.Memory 0)))
-extracts_refused archive id s o = record {
-  told = λ bytes held is. (refl, refl);
-  reads = λ bytes held is. nothing_read Block (option_map row_of (extracted is.listed.are.records id)) s;
-  silent = λ no. cc no;
-  near = (0, nothing_read Block (slice_get archive.listing.rows 0) s);
-  fails = record { may = refl; failed = λ bytes held is. refl };
-  cause = refl;
-}
 
 -- no record has the id
 pub extracts_missing : {S : Type 0} (archive : Archived S) (id : List ℕ) (s : SeenSource) (o : Seen)
@@ -136,6 +128,7 @@ extracts_missing archive id s o none = record {
   reads = λ bytes held is. nothing_read Block (option_map row_of (extracted is.listed.are.records id)) s;
   silent = λ no. refl;
   near = (0, nothing_read Block (slice_get archive.listing.rows 0) s);
+  device = tt;
   fails = record { may = refl; failed = λ bytes held is. refl };
   cause = refl;
 }
@@ -157,6 +150,7 @@ extracts_at archive id position old new before after answer found at = record {
       subst (λ o. ReadsPart Block o old new) (sym row) at.reads;
   silent = at.silent;
   near = (position, at.reads);
+  device = at.device;
   fails = fails_more (λ bytes held is. is.listed) at.fails;
   cause = at.cause;
 }

@@ -5,7 +5,7 @@ use Rattle.std.specs.Result.{result_err}
 use Rattle.std.proofs.Math.Seq.{take-append_seam}
 use Rattle.std.proofs.lemmas.List.{append_assoc, append-nil, take-append-drop}
 use Rattle.std.specs.Io.KnownBytes.{append_known}
-use Rattle.warc_frame.specs.Effects.{HasRange, IsRange, ReadsRange, Sends}
+use Rattle.warc_frame.specs.Effects.{HasRange, IsOfDevice, IsRange, ReadsRange, Sends}
 use Rattle.warc_frame.proofs.EffectLemmas.{reads_within}
 use Rattle.warc_frame.specs.Failing.{HasFailedBy, MayHaveFailedBy}
 use Rattle.warc_frame.specs.Record.{max_archive}
@@ -75,13 +75,14 @@ module _ (rows : List Row) (end : ℕ) (old new : SeenSource) (before after : Se
     failed = λ text more held few is. sends.fails.may;
     reads = reads;
     near = near;
+    device = tt;
     may = sends.fails.may;
     cause = sends.cause;
   }
 
-  pub copies_cut : (e : OutFault) → Sends {X = Unit {0}} (IsRange 0 end) old new before after (Err e)
+  pub copies_cut : (e : OutFault) → IsOfDevice e → Sends {X = Unit {0}} (IsRange 0 end) old new before after (Err e)
       → CopiesFront rows old new before after (Err e)
-  copies_cut e sends = record {
+  copies_cut e device sends = record {
     told = λ text more held few is. (tt, tt);
     cut = λ text more held few is.
         let P : List ℕ → Type 0 = λ t. WentOut before.tells t after.tells (sent_of e) in
@@ -90,6 +91,7 @@ module _ (rows : List Row) (end : ℕ) (old new : SeenSource) (before after : Se
         failed_as_count e old.faults new.faults (sends.fails.failed (text ++ more) held (_, (there text more few is, refl)));
     reads = reads;
     near = near;
+    device = device;
     may = may_as_count e old.faults new.faults sends.fails.may;
     cause = sends.cause;
   }

@@ -1,7 +1,7 @@
 -- What extracting a block answers, what goes out, and what is read of the source. That the first record with an id
 -- counts, whatever its kind, is this project's own notion.
-use Rattle.std.specs.Prelude.{◌≡◌, ℕ, List, [], map, slice_get, Option, option_and_then, option_map, Result, Err}
-use Rattle.warc_frame.specs.Effects.{FailsBy}
+use Rattle.std.specs.Prelude.{◌≡◌, ℕ, List, [], map, slice_get, Option, option_and_then, option_map, Result, Err, IfErr}
+use Rattle.warc_frame.specs.Effects.{FailsBy, IsOfDevice}
 use Rattle.warc_frame.specs.Failing.{failed_by}
 use Rattle.warc_frame.specs.Seen.{IfHeld, Seen, SeenSource}
 use Rattle.warc_record.specs.Ids.{id_key}
@@ -27,7 +27,7 @@ IsExtract found answer old new = IsGiven (option_map (λ p. part_text Block [] p
 
 -- Extracting from an archive. Where its source holds the archive's bytes, the block of the first record with the id
 -- goes out, and that block alone is read. Of any source at most one block is read; where there is no record nothing
--- goes out
+-- goes out. A failed read or write is the only fault
 pub record Extracts {S : Type 0} (archive : Archived S) (id : List ℕ) (old new : SeenSource) (before after : Seen)
     (answer : Result ℕ ExtractFault) : Type 0 where
   pub told : IfHeld old.holds (λ bytes. (is : IsIndexed bytes archive)
@@ -36,5 +36,6 @@ pub record Extracts {S : Type 0} (archive : Archived S) (id : List ℕ) (old new
       → ReadsPart Block (option_map row_of (extracted is.listed.are.records id)) old new)
   pub silent : answer ≡ Err NoRecord → after.tells ≡ before.tells
   pub near : (place : ℕ) × ReadsPart Block (slice_get archive.listing.rows place) old new
+  pub device : IfErr (extract_result answer) IsOfDevice
   pub fails : FailsBy (λ bytes. IsIndexed bytes archive) (extract_result answer) old new
   pub cause : after.faults ≡ failed_by (extract_result answer) before.faults

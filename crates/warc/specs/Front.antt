@@ -1,7 +1,7 @@
 -- The good front of a source: what can be opened of an archive that is refused. This project's own notion.
 use Rattle.std.specs.Prelude.{◌≡◌, ℕ, ◌^◌, ◌<◌, List, ◌++◌, length, take, Option, Some, None, Result, Ok, Err, IfErr, IfOk, OnOk}
 use Rattle.std.specs.Io.KnownBytes.{append_known}
-use Rattle.warc_frame.specs.Effects.{ReadsRange}
+use Rattle.warc_frame.specs.Effects.{IsOfDevice, ReadsRange}
 use Rattle.warc_frame.specs.Failing.{HasFailedBy, MayHaveFailedBy, failed_by}
 use Rattle.warc_frame.specs.Record.{max_archive}
 use Rattle.warc_frame.specs.Seen.{IfHeld, Seen, SeenSource}
@@ -36,7 +36,8 @@ IfBegun source rows P = (text more : List ℕ) → source.holds ≡ Some (text +
 
 -- Writing the bytes of the good records at the front of a source. Where it holds them, they go out and are counted, or
 -- a front of them does, and the source has failed once more exactly where a read is reported. Any source is asked for
--- these bytes alone, in at most one read for each, and for none at an offset from 2^48 on.
+-- these bytes alone, in at most one read for each, and for none at an offset from 2^48 on. A failed read or write is
+-- the only fault.
 pub record CopiesFront (rows : List Row) (old new : SeenSource) (before after : Seen) (answer : Result ℕ OutFault)
     : Type 0 where
   pub told : IfBegun old rows (λ text.
@@ -45,5 +46,6 @@ pub record CopiesFront (rows : List Row) (old new : SeenSource) (before after : 
   pub failed : IfBegun old rows (λ text. HasFailedBy answer old.faults new.faults)
   pub reads : (text : List ℕ) → IsArchiveOf text rows → ReadsRange 0 (length text) old new
   pub near : ReadsRange 0 max_archive old new
+  pub device : IfErr answer IsOfDevice
   pub may : MayHaveFailedBy answer old.faults new.faults
   pub cause : after.faults ≡ failed_by answer before.faults

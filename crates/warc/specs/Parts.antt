@@ -1,7 +1,7 @@
 -- What giving a part of a record writes: its head or its block, as the archive has it; and what it reads for that.
-use Rattle.std.specs.Prelude.{◌≡◌, ◌↔◌, ℕ, ◌+◌, ◌-◌, ◌<◌, ◌≤◌, List, length, slice_get, slice_range, Option, Some, None, option_map, Result, Ok, Err}
+use Rattle.std.specs.Prelude.{◌≡◌, ◌↔◌, ℕ, ◌+◌, ◌-◌, ◌<◌, ◌≤◌, List, length, slice_get, slice_range, Option, Some, None, option_map, Result, Ok, Err, IfErr}
 use Rattle.std.specs.Io.KnownBytes.{append_known}
-use Rattle.warc_frame.specs.Effects.{FailsBy, ReadsOnly}
+use Rattle.warc_frame.specs.Effects.{FailsBy, IsOfDevice, ReadsOnly}
 use Rattle.warc_frame.specs.Failing.{failed_by}
 use Rattle.warc_frame.specs.Seen.{IfHeld, Seen, SeenSource}
 use Rattle.warc_frame.specs.Send.{WentOut}
@@ -28,11 +28,11 @@ abbrev pub part_len : Part → Row → ℕ
 part_len Head row = row.block_start - row.offset
 part_len Block row = row.block_len
 
--- a front of the text went out; where memory is refused nothing did
+-- a front of the text went out before a failed read or write
 abbrev pub IsGivenCut : Option (List ℕ) → OutFault → Option (List ℕ) → Option (List ℕ) → Type 0
 IsGivenCut found (outs.Read n) old new = (text : List ℕ) × (found ≡ Some text) × WentOut old text new n
 IsGivenCut found (outs.Write n) old new = (text : List ℕ) × (found ≡ Some text) × WentOut old text new n
-IsGivenCut found (outs.Memory n) old new = (n ≡ 0) × (new ≡ old)
+IsGivenCut found (outs.Memory n) old new = ⊥
 
 -- the text went out and its length is answered, and no byte went out where there is none
 abbrev pub IsGiven : Option (List ℕ) → Result ℕ ExtractFault → Option (List ℕ) → Option (List ℕ) → Type 0
@@ -61,7 +61,8 @@ abbrev pub ReadsPart : Part → Option Row → SeenSource → SeenSource → Typ
 ReadsPart part found old new = ReadsOnly (IsInPart part found) (found_len part found) old new
 
 -- Giving a part of the record at a position of an archive of these rows. Where its source holds the archive's bytes,
--- that part goes out. Of any source that part alone is read; where there is no record nothing goes out
+-- that part goes out. Of any source that part alone is read; where there is no record nothing goes out. A failed read
+-- or write is the only fault
 pub record GivesPart (part : Part) (rows : List Row) (position : ℕ) (old new : SeenSource) (before after : Seen)
     (answer : Result ℕ ExtractFault) : Type 0 where
   pub told : IfHeld old.holds (λ bytes. (is : IsArchiveOf bytes rows)
@@ -70,5 +71,6 @@ pub record GivesPart (part : Part) (rows : List Row) (position : ℕ) (old new :
   pub silent : answer ≡ Err NoRecord → after.tells ≡ before.tells
   pub absent : (answer ≡ Err NoRecord) ↔ (slice_get rows position ≡ None)
   pub reads : ReadsPart part (slice_get rows position) old new
+  pub device : IfErr (extract_result answer) IsOfDevice
   pub fails : FailsBy (λ bytes. IsArchiveOf bytes rows) (extract_result answer) old new
   pub cause : after.faults ≡ failed_by (extract_result answer) before.faults

@@ -12,5 +12,5 @@ returns-clause-copies g c =
       | in-Ok w ↦ rw (w.result-is, sym c.self.view_is)
           (copies_all rows end.result _ _ _ _ end.ensures.limit end.ensures.end reads w.in-Ok.ensures.sends)
       | in-Err w ↦ rw (w.result-is, sym c.self.view_is)
-          (copies_cut rows end.result _ _ _ _ end.ensures.limit end.ensures.end reads w.in-Err.fault w.in-Err.ensures.sends)
+          (copies_cut rows end.result _ _ _ _ end.ensures.limit end.ensures.end reads w.in-Err.fault w.in-Err.ensures.device w.in-Err.ensures.sends)
     ]
