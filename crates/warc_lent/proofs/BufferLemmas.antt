@@ -143,6 +143,13 @@ drop_further m n xs ys least same =
     let far : m + (n - m) ≡ n = omega (arith, least) in
     ap (λ k. drop k xs) (sym far) ∙ sym (drop-drop (n - m) m xs) ∙ ap (drop (n - m)) same ∙ drop-drop (n - m) m ys ∙ ap (λ k. drop k ys) far
 
+-- what follows one text after another stays
+pub rest_further : {X : Type 0} (before text old mid new : List X) → drop (length before) mid ≡ drop (length before) old
+    → drop (length (before ++ text)) new ≡ drop (length (before ++ text)) mid
+    → drop (length (before ++ text)) new ≡ drop (length (before ++ text)) old
+rest_further before text old mid new first second =
+    second ∙ drop_further (length before) (length (before ++ text)) mid old (omega (arith, length-append before text)) first
+
 -- one more element leaves what follows it
 pub rest_next : {X : Type 0} (old buffer : List X) (i : ℕ) (x : X) → drop i buffer ≡ drop i old
     → drop (i + 1) (set buffer i x) ≡ drop (i + 1) old

@@ -1,9 +1,10 @@
 //! What heads say, as numbers and texts: the fields of a record's head, and those of an HTTP response's.
-ghost use Rattle.std.specs.Prelude.{◌≡◌, ◌++◌, ◌≤◌, ℕ, List, length, map, set, OnErr};
+ghost use Rattle.std.specs.Prelude.{◌≡◌, ◌++◌, ◌≤◌, ℕ, List, length, map, set, IfOk, OnErr, Ok};
 ghost use Rattle.std.specs.List.{flat_map};
 ghost use Rattle.warc_frame.specs.Count.{capped};
+ghost use Rattle.warc_frame.specs.Reading.{Head, any_fields, head_of};
 ghost use Rattle.warc_payload.specs.Head.{HasNoHead, front_of};
-ghost use Rattle.warc_lent.specs.Buffers.{HoldsFront};
+ghost use Rattle.warc_lent.specs.Buffers.{HoldsFront, KeepsAfter};
 ghost use Rattle.warc_lent.specs.Heads.{PutsFields, PutsHttp, field_numbers, pair_text, http_field_numbers, http_numbers, problem_of_head};
 
 use crate::buffers::put_text_at;
@@ -76,9 +77,11 @@ fn put_field(field: FieldNumbers, index: usize, out: &mut [FieldNumbers])
     }
 }
 
-/// Puts how long the names and values of all fields are, as many as there is room for.
+/// Puts how long the names and values of all fields are, as many as there is room for. What follows in the buffer
+/// stays.
 fn put_lengths<A: Allocator>(fields: &Fields<A>, out: &mut [FieldNumbers])
     ensures front { HoldsFront (map field_numbers fields.now) out.new }
+    ensures rest { KeepsAfter (length fields.now) out.old out.new }
     ensures room { length out.new ≡ length out.old }
 {
     'putting: for index in 0..fields.len() {
@@ -95,15 +98,19 @@ fn put_pair<A: Allocator>(name: &Name<A>, value: &Value<A>, at: usize, out: &mut
         result ≡ capped (length (before ++ pair_text (name.now, value.now))) }
     ensures front { (before : List ℕ) → at ≡ capped (length before) → HoldsFront before out.old →
         HoldsFront (before ++ pair_text (name.now, value.now)) out.new }
+    ensures rest { (before : List ℕ) → at ≡ capped (length before) →
+        KeepsAfter (length (before ++ pair_text (name.now, value.now))) out.old out.new }
     ensures room { length out.new ≡ length out.old }
 {
     let after = put_text_at(name.bytes(), at, out);
     put_text_at(value.bytes(), after, out)
 }
 
-/// Puts the names and values of all fields one after another, as far as there is room.
+/// Puts the names and values of all fields one after another, as far as there is room. What follows in the buffer
+/// stays.
 fn put_texts<A: Allocator>(fields: &Fields<A>, out: &mut [u8])
     ensures front { HoldsFront (flat_map pair_text fields.now) out.new }
+    ensures rest { KeepsAfter (length (flat_map pair_text fields.now)) out.old out.new }
     ensures room { length out.new ≡ length out.old }
 {
     let mut at = 0;
@@ -126,8 +133,9 @@ fn problem_of_head(fault: Fault) -> Problem
 }
 
 /// Puts the fields of a record's head, in their order: how long the name and the value of each are, as many as there is
-/// room for, and the names and values one after another, as far as there is room. A folded value is one line, as the
-/// library reads it. The answer is the number of fields. `Changed`: the bytes begin with no head of a record.
+/// room for, and the names and values one after another, as far as there is room. What follows in the buffers stays. A
+/// folded value is one line, as the library reads it. The answer is the number of fields. `Changed`: the bytes begin
+/// with no head of a record.
 pub fn put_fields<A: Allocator + Copy>(
     alloc: A,
     head: &[u8],
@@ -135,7 +143,11 @@ pub fn put_fields<A: Allocator + Copy>(
     texts: &mut [u8],
 ) -> Result<usize, Problem>
     ensures puts { PutsFields head.now result lengths.new texts.new }
+    ensures rest { IfOk result (λ number. KeepsAfter number lengths.old lengths.new) }
+    ensures texts_rest { (h : Head) → head_of any_fields head.now ≡ Ok h →
+        KeepsAfter (length (flat_map pair_text h.fields)) texts.old texts.new }
     ensures same { OnErr result ((lengths.new ≡ lengths.old) × (texts.new ≡ texts.old)) }
+    ensures room { (length lengths.new ≡ length lengths.old) × (length texts.new ≡ length texts.old) }
 {
     match read_head(alloc, head) {
         Ok(head) => {
@@ -182,9 +194,10 @@ fn put_http_field(field: HeaderSpan, index: usize, out: &mut [HttpFieldNumbers])
     }
 }
 
-/// Puts where fields are, as many as there is room for.
+/// Puts where fields are, as many as there is room for. What follows in the buffer stays.
 fn put_http_fields(fields: &[HeaderSpan], out: &mut [HttpFieldNumbers])
     ensures front { HoldsFront (map http_field_numbers fields.now) out.new }
+    ensures rest { KeepsAfter (length fields.now) out.old out.new }
     ensures room { length out.new ≡ length out.old }
 {
     'putting: for index in 0..fields.len() {
@@ -193,15 +206,18 @@ fn put_http_fields(fields: &[HeaderSpan], out: &mut [HttpFieldNumbers])
 }
 
 /// Puts what the HTTP head at the front of a block says: its status, where its reason phrase is and where the body
-/// begins, and where the names and values of its fields are, as many as there is room for. The answer is the number of
-/// fields. It is P9 where a replay would say P9: the block begins with no whole head of a response.
+/// begins, and where the names and values of its fields are, as many as there is room for. What follows in the buffer
+/// stays. The answer is the number of fields. It is P9 where a replay would say P9: the block begins with no whole head
+/// of a response.
 pub fn put_http(
     block: &[u8],
     http: &mut HttpNumbers,
     fields: &mut [HttpFieldNumbers],
 ) -> Result<usize, Problem>
     ensures puts { PutsHttp (front_of block.now) result http.new fields.new }
+    ensures rest { IfOk result (λ number. KeepsAfter number fields.old fields.new) }
     ensures same { OnErr result ((http.new ≡ http.old) × (fields.new ≡ fields.old)) }
+    ensures room { length fields.new ≡ length fields.old }
     ensures none { OnErr result (HasNoHead (front_of block.now)) }
 {
     let text = front(block);
