@@ -19,7 +19,7 @@ use Rattle.warc_answer.specs.declared.answer.Path.{Path}
 use Rattle.warc_reading.specs.Archive.{SpellsFrom}
 use Rattle.warc_reading.specs.Row.{Placed}
 use Rattle.warc_reading.proofs.FitLemmas.{front_size}
-use Rattle.warc.specs.Replaying.{joined_len, origin_reads, path_reads}
+use Rattle.warc.specs.Replaying.{joined_len, path_reads, reads_of}
 use Rattle.warc.proofs.ReplayLemmas.{read_all, read_at}
 
 -- ---- the members with the numbers from one on, each with a weight
@@ -229,11 +229,11 @@ head_fits q (x ∷ ps) text (suc i) p (front, rest, one, at, start, whole, more)
     omega (arith, head_fits (q + length front) ps rest i p more there, front_size q q x front one at start, at, start, ap length whole, length-append front rest)
 
 -- the head of an origin and twice its joined block are at most twice the archive
-pub path_short : (bytes : List ℕ) (records : List Placed) (way : Result Path Unfound) → SpellsFrom 0 records bytes → path_reads records way ≤ 2 * length bytes
+pub path_short : (bytes : List ℕ) (records : List Placed) (way : Result Path Unfound) → SpellsFrom 0 records bytes → path_reads 2 records way ≤ 2 * length bytes
 path_short bytes records (Err unfound) is = omega arith
 path_short bytes records (Ok path) is = by_origin (slice_get records path.given) refl
   where
-    by_origin : (o : Option Placed) → slice_get records path.given ≡ o → origin_reads records o ≤ 2 * length bytes
+    by_origin : (o : Option Placed) → slice_get records path.given ≡ o → reads_of 2 records o ≤ 2 * length bytes
     by_origin None there = omega arith
     by_origin (Some p) there =
         omega (arith, head_fits 0 records bytes path.given p is there, joined_less (read_all records) path.given (read_record p.content) (read_at records path.given p there))

@@ -30,6 +30,7 @@ module _ (rows : List Row) (index : Indexes) (parts : Parts) (position : ℕ) wh
       → LocatesAt rows index parts position s s (Err NoRecord)
   no_record_there s none = record {
     located = λ bytes held is are. none_there bytes rows position is none;
+    early = tt;
     reads = λ bytes held is are. reads_nothing;
     inside = λ bytes is off. refl;
     keeps = keeps_same s;
@@ -40,6 +41,7 @@ module _ (rows : List Row) (index : Indexes) (parts : Parts) (position : ℕ) wh
       → LocatesAt rows index parts position s s (Err NoCapture)
   no_capture_there s has = record {
     located = λ bytes held is are. other_there bytes rows position is has;
+    early = tt;
     reads = λ bytes held is are. reads_nothing;
     inside = λ bytes is off. refl;
     keeps = keeps_same s;
@@ -58,6 +60,7 @@ module _ (rows : List Row) (index : Indexes) (parts : Parts) (position : ℕ) wh
         refl,
       ),
     );
+    early = tt;
     reads = λ bytes held is are. reads_nothing;
     inside = λ bytes is off. refl;
     keeps = keeps_same s;
@@ -70,6 +73,7 @@ module _ (rows : List Row) (index : Indexes) (parts : Parts) (position : ℕ) wh
       → LocatesAt rows index parts position old new (Ok body)
   body_there path body old new found by = record {
     located = λ bytes held is are. (capture_there bytes rows position is found.0, (by.held bytes held is are).located);
+    early = tt;
     reads = λ bytes held is are. (by.held bytes held is are).reads;
     inside = by.inside;
     keeps = by.keeps;
@@ -82,6 +86,7 @@ module _ (rows : List Row) (index : Indexes) (parts : Parts) (position : ℕ) wh
       → LocatesAt rows index parts position old new (Err (Replay fault))
   fault_there path fault old new found by = record {
     located = λ bytes held is are. (capture_there bytes rows position is found.0, (by.held bytes held is are).located);
+    early = by.early;
     reads = λ bytes held is are. (by.held bytes held is are).reads;
     inside = by.inside;
     keeps = by.keeps;

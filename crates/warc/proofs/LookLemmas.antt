@@ -3,7 +3,7 @@ use Rattle.std.proofs.Common.{◌≡◌, inl, inr, ℕ, zero, suc, ◌<◌, ◌�
 use Rattle.std.specs.Io.KnownBytes.{append_known}
 use Rattle.std.specs.List.{slice_get}
 use Rattle.std.specs.Option.{option_map_or}
-use Rattle.warc_frame.specs.Effects.{FailsBy, ReadsOnly}
+use Rattle.warc_frame.specs.Effects.{FailsBy, IsOfDevice, ReadsOnly}
 use Rattle.warc_frame.specs.Failing.{MayHaveFailedBy, failed_by}
 use Rattle.warc_frame.proofs.EffectLemmas.{fails_as, fails_more}
 use Rattle.warc_frame.specs.Record.{Record, max_archive}
@@ -22,7 +22,7 @@ use Rattle.warc_answer.specs.Answers.{path_at}
 use Rattle.warc_answer.specs.Laws.{PathsEndInside}
 use Rattle.warc_answer.specs.Payloads.{read_record, whole_block}
 use Rattle.warc_answer.specs.Places.{ReadsPlaces, len_of}
-use Rattle.warc_answer.specs.Replays.{out_result}
+use Rattle.warc_answer.specs.Replays.{IsSilent, out_result}
 use Rattle.warc_answer.specs.Seen.{IsEarly, IsJudged, stored_seen}
 use Rattle.warc_answer.specs.Stored.{IsStoredAt, IsStoredBy, IsStoredOn, StoredBody, joined_text, joined_text_at, joined_to}
 use Rattle.warc_answer.specs.declared.answer.Path.{Path}
@@ -103,6 +103,12 @@ out_may X Y (outs.Read n) old new is = is
 out_may X Y (outs.Write n) old new is = is
 out_may X Y (outs.Memory n) old new is = is
 
+-- where a device fails, it isn't before a byte is out
+pub device_silent : (X : Type 0) (e : OutFault) (old new : Option (List ℕ)) → IsOfDevice e → IsSilent {X = X} (Err (Out e)) old new
+device_silent X (outs.Read n) old new is = tt
+device_silent X (outs.Write n) old new is = tt
+device_silent X (outs.Memory n) old new is = absurd is
+
 pub early_sound : (fault : ReplayFault) (n : ℕ) → IsEarly fault → failed_by (out_result {X = Unit {0}} (Err fault)) n ≡ n
 early_sound (Reason why) n is = refl
 early_sound (Out (outs.Read sent)) n is = refl
@@ -112,8 +118,11 @@ early_sound (Out (outs.Memory sent)) n is = refl
 -- ---- what is read
 
 module _ {A : Type 0} {rows : List Row} {parts : Parts} {position : ℕ} {old mid : SeenSource} {answer : Result (Look A) ReplayFault} (looks : Looks rows parts position old mid answer) where
-  pub origin_read : ReadsOrigin rows parts position old mid
-  origin_read = λ bytes held is are. read_less 1 2 (λ n. omega arith) is.are.records (slice_get is.are.records position) (looks.reads bytes held is are).reads
+  pub origin_read : ReadsOrigin 1 rows parts position old mid
+  origin_read = λ bytes held is are. (looks.reads bytes held is are).reads
+
+  pub origin_read_less : ReadsOrigin 2 rows parts position old mid
+  origin_read_less = λ bytes held is are. read_less 1 2 (λ n. omega arith) is.are.records (slice_get is.are.records position) (origin_read bytes held is are)
 
   pub asked_within : AsksWithin rows parts old mid
   asked_within = λ bytes is are. (looks.inside bytes is are).asks
@@ -148,7 +157,7 @@ judged_out {A} {rows} {parts} {position} {old} {new} answer e is looks =
 -- and then the blocks are read that are joined
 module _ {A : Type 0} {rows : List Row} {parts : Parts} {position : ℕ} {old mid : SeenSource} {look : Look A} (looks : Looks rows parts position old mid (Ok look))
     (places : List Place) (new : SeenSource) (same : places ≡ look.places.items) (then : ReadsPlaces places (len_of places) mid new) where
-  pub sent_read : ReadsOrigin rows parts position old new
+  pub sent_read : ReadsOrigin 2 rows parts position old new
   sent_read = λ bytes held is are.
       let looked = looks.reads bytes held is are in
       then_read 1 1 2 (λ n. omega arith) is.are.records (slice_get is.are.records position) look.places.items places (len_of places) looked.reads looked.places same (omega arith) then
@@ -164,6 +173,7 @@ module _ (rows : List Row) (index : Indexes) (parts : Parts) (position : ℕ) wh
   pub judges_no_record : {A : Type 0} → (s : SeenSource) → slice_get rows position ≡ None → JudgesAt {A = A} rows index parts position s s (Err NoRecord)
   judges_no_record s none = record {
     told = λ bytes held is are. none_there bytes rows position is none;
+    early = tt;
     reads = λ bytes held is are. reads_nothing;
     inside = λ bytes is off. refl;
     keeps = record { kept = refl; watched = refl };
@@ -173,6 +183,7 @@ module _ (rows : List Row) (index : Indexes) (parts : Parts) (position : ℕ) wh
   pub judges_no_capture : {A : Type 0} → (s : SeenSource) → IsOtherRow rows position → JudgesAt {A = A} rows index parts position s s (Err NoCapture)
   judges_no_capture s has = record {
     told = λ bytes held is are. other_there bytes rows position is has;
+    early = tt;
     reads = λ bytes held is are. reads_nothing;
     inside = λ bytes is off. refl;
     keeps = record { kept = refl; watched = refl };
@@ -198,6 +209,7 @@ module _ (rows : List Row) (index : Indexes) (parts : Parts) (position : ℕ) wh
       refl,
       outcome_made None (Err (NotFound unfound)) (Err unfound) (contents is.are.records) (path_found (Err unfound) bytes is are found) refl refl,
     );
+    early = tt;
     reads = λ bytes held is are. reads_nothing;
     inside = λ bytes is off. refl;
     keeps = record { kept = refl; watched = refl };
@@ -209,10 +221,10 @@ module _ (rows : List Row) (index : Indexes) (parts : Parts) (position : ℕ) wh
   inside_there inside path bytes is are found =
       (inside (contents is.are.records)).1 position (below_there bytes rows position is found.0) path (path_found (Ok path) bytes is are found)
 
-  reads_there : (path : Path) (old new : SeenSource) → IsFoundAt rows index parts position (Capture (Ok path)) → ReadsOrigin rows parts path.given old new
-      → ReadsPath rows index parts (λ records. path_at records position) old new
-  reads_there path old new found by = λ bytes held is are.
-      subst (λ (f : Result Path Unfound). ReadsOnly (IsOnPath is.are.records f) (path_reads is.are.records f) old new) (sym (path_found (Ok path) bytes is are found)) (by bytes held is are.parts_are)
+  reads_there : (times : ℕ) (path : Path) (old new : SeenSource) → IsFoundAt rows index parts position (Capture (Ok path)) → ReadsOrigin times rows parts path.given old new
+      → ReadsPath times rows index parts (λ records. path_at records position) old new
+  reads_there times path old new found by = λ bytes held is are.
+      subst (λ (f : Result Path Unfound). ReadsOnly (IsOnPath is.are.records f) (path_reads times is.are.records f) old new) (sym (path_found (Ok path) bytes is are found)) (by bytes held is are.parts_are)
 
   pub judges_made : {A : Type 0} → PathsEndInside → (path : Path) (stored : Result (Stored A) Why) (old new : SeenSource) → IsFoundAt rows index parts position (Capture (Ok path))
       → Judges rows parts path.given old new (Ok stored)
@@ -223,7 +235,8 @@ module _ (rows : List Row) (index : Indexes) (parts : Parts) (position : ℕ) wh
       refl,
       outcome_made (Some path.given) (judged_seen stored) (Ok path) (contents is.are.records) (path_found (Ok path) bytes is are found) refl (by.told bytes held is are.parts_are),
     );
-    reads = reads_there path old new found by.reads;
+    early = tt;
+    reads = reads_there 1 path old new found by.reads;
     inside = λ bytes (is, are). by.inside bytes is are.parts_are;
     keeps = by.keeps;
     fails = fails_more (λ bytes held (is, are). (is, are.parts_are, inside_there inside path bytes is are found)) (record { may = by.fails.may; failed = by.fails.failed });
@@ -233,7 +246,8 @@ module _ (rows : List Row) (index : Indexes) (parts : Parts) (position : ℕ) wh
       → Judges {A = A} rows parts path.given old new (Err e) → JudgesAt {A = A} rows index parts position old new (Err (Replay (Out e)))
   judges_failed {A} inside path e old new found by = record {
     told = λ bytes held is are. (capture_there bytes rows position is found.0, early_sent e by.early);
-    reads = reads_there path old new found by.reads;
+    early = by.early;
+    reads = reads_there 1 path old new found by.reads;
     inside = λ bytes (is, are). by.inside bytes is are.parts_are;
     keeps = by.keeps;
     fails = fails_more (λ bytes held (is, are). (is, are.parts_are, inside_there inside path bytes is are found)) (fails_as (Result (Stored A) Why) (Unit {0}) by.fails);
@@ -290,7 +304,7 @@ module _ (rows : List Row) (index : Indexes) (parts : Parts) (position : ℕ) wh
     told = λ bytes held is are.
         let sent = by.told bytes held is are.parts_are in
         (capture_there bytes rows position is found.0, path_found (Ok path) bytes is are found, sent.0, sent.1);
-    reads = reads_there path old new found by.reads;
+    reads = reads_there 2 path old new found by.reads;
     inside = λ bytes (is, are). by.inside bytes is are.parts_are;
     silent = tt;
     keeps = by.keeps;
@@ -307,9 +321,9 @@ module _ (rows : List Row) (index : Indexes) (parts : Parts) (position : ℕ) wh
           reason_there (Ok path) why (contents is.are.records) (path_found (Ok path) bytes is are found) sent.0,
           sent.1,
         );
-    reads = reads_there path old new found by.reads;
+    reads = reads_there 2 path old new found by.reads;
     inside = λ bytes (is, are). by.inside bytes is are.parts_are;
-    silent = by.silent tt;
+    silent = by.silent;
     keeps = by.keeps;
     fails = fails_more (λ bytes held (is, are). (is, are.parts_are, inside_there inside path bytes is are found)) (record { may = by.fails.may; failed = by.fails.failed });
     cause = by.cause;
@@ -321,9 +335,9 @@ module _ (rows : List Row) (index : Indexes) (parts : Parts) (position : ℕ) wh
       path_found (Ok path) bytes is are found,
       by.told bytes held is are.parts_are,
     );
-    reads = reads_there path old new found by.reads;
+    reads = reads_there 2 path old new found by.reads;
     inside = λ bytes (is, are). by.inside bytes is are.parts_are;
-    silent = tt;
+    silent = by.silent;
     keeps = by.keeps;
     fails = fails_more (λ bytes held (is, are). (is, are.parts_are, inside_there inside path bytes is are found)) (record { may = by.fails.may; failed = by.fails.failed });
     cause = by.cause;

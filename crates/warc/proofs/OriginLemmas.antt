@@ -16,13 +16,12 @@ use Rattle.warc_answer.specs.Answers.{IsAnswerOn}
 use Rattle.warc_answer.specs.Laws.{EndsInside, FailsBeforeAll, PlacesAreAsLong, ReasonsAreAnswers}
 use Rattle.warc_answer.specs.Payloads.{read_record}
 use Rattle.warc_answer.specs.Places.{IsInOne, ReadsPlaces, len_of}
-use Rattle.warc_answer.specs.Replays.{IsReplayOn, WritesLate, out_result}
+use Rattle.warc_answer.specs.Replays.{IsReplayOn, out_result}
 use Rattle.warc_answer.specs.Seen.{IsEarly}
 use Rattle.warc_answer.specs.declared.answer.Path.{Path}
 use Rattle.warc_answer.specs.declared.answer.Reason.{Reason as Why}
 use Rattle.warc_answer.specs.declared.answer.ReplayFault.{ReplayFault}
 use Rattle.warc_answer.specs.declared.answer.ReplayFault.TheVariants.{Reason, Out}
-use Rattle.warc_frame.specs.Seen.{Seen}
 use Rattle.warc_reading.specs.Archive.{SpellsFrom, contents}
 use Rattle.warc_reading.specs.Indexed.{place_of, placed_record}
 use Rattle.warc_reading.specs.Rereading.{ReadsHeads, ended_by}
@@ -52,13 +51,6 @@ pub early_sent : (e : OutFault) → IsEarly (Out e) → sent_of e ≡ 0
 early_sent (outs.Read n) is = is
 early_sent (outs.Write n) is = absurd is
 early_sent (outs.Memory n) is = is
-
--- nothing goes out before one
-pub early_late : {X : Type 0} (fault : ReplayFault) (o : Seen) → IsEarly fault → WritesLate {X = X} (Err fault) o o
-early_late {X} (Reason why) o is = record { silent = refl; cause = refl }
-early_late {X} (Out (outs.Read n)) o is = record { silent = tt; cause = refl }
-early_late {X} (Out (outs.Write n)) o is = absurd is
-early_late {X} (Out (outs.Memory n)) o is = record { silent = (is, refl); cause = refl }
 
 -- places that weren't joined
 pub unjoined_early : (fault : ReplayFault) → IsUnjoined fault → IsEarly fault
@@ -119,10 +111,10 @@ then_read done times more sum all (Some p) items places most {old} {mid} {new} f
     reads_within (λ at in_. in_) (more_than _ _ _ _ (sum (origin_joined all p))) (reads_both first second)
 
 -- what is read for the origin is read on the path
-pub on_path : (records : List Placed) (found : Result Path Unfound) (path : Path) {old new : SeenSource} → found ≡ Ok path
-    → ReadsOnly (IsOfOrigin records (slice_get records path.given)) (reads_of 2 records (slice_get records path.given)) old new → ReadsOnly (IsOnPath records found) (path_reads records found) old new
-on_path records found path {old} {new} is has =
-    subst (λ (f : Result Path Unfound). ReadsOnly (IsOnPath records f) (path_reads records f) old new) (sym is) has
+pub on_path : (times : ℕ) (records : List Placed) (found : Result Path Unfound) (path : Path) {old new : SeenSource} → found ≡ Ok path
+    → ReadsOnly (IsOfOrigin records (slice_get records path.given)) (reads_of times records (slice_get records path.given)) old new → ReadsOnly (IsOnPath records found) (path_reads times records found) old new
+on_path times records found path {old} {new} is has =
+    subst (λ (f : Result Path Unfound). ReadsOnly (IsOnPath records f) (path_reads times records f) old new) (sym is) has
 
 -- the places of an origin that is found are those of what is joined to it
 pub places_in : (bytes : List ℕ) (records : List Placed) (position : ℕ) → SpellsFrom 0 records bytes → {fields : List Pair} (items : List Place) (at : IsOriginAt records position fields items) → PlacesAreOfRecords

@@ -1,5 +1,5 @@
 -- What the record at a position gives, and what it reads of the source. This project's own notion.
-use Rattle.std.specs.Prelude.{◌≡◌, ℕ, List, codes, slice_get, Option, Some, None, Result, Ok, Err, IsTrue, IsFalse}
+use Rattle.std.specs.Prelude.{◌≡◌, ℕ, List, codes, slice_get, Option, Some, None, Result, Ok, Err, IsTrue, IsFalse, ⊤}
 use Rattle.warc_frame.specs.Effects.{FailsBy, Preserves}
 use Rattle.warc_frame.specs.Failing.{failed_by}
 use Rattle.warc_frame.specs.Record.{Record}
@@ -12,6 +12,7 @@ use Rattle.warc_segment.specs.Kept.{Kept as Parts}
 use Rattle.warc_answer.specs.Answers.{path_at}
 use Rattle.warc_answer.specs.ReasonText.{replay_fault_text}
 use Rattle.warc_answer.specs.Replays.{IsReplayOn, IsSilent, out_result}
+use Rattle.warc_answer.specs.Seen.{IsEarly}
 use Rattle.warc_answer.specs.declared.answer.Answer.{Answer}
 use Rattle.warc_reading.specs.Archive.{IsArchiveOf, contents}
 use Rattle.warc_reading.specs.Indexed.{AreOf}
@@ -57,11 +58,17 @@ body_result (Err (Replay fault)) = out_result {X = Answer} (Err fault)
 
 -- nothing goes out where there is no record or no capture, before a reason, or before memory is refused, whatever the
 -- source holds
-abbrev pub IsSilentAt : Result Answer BodyFault → Option (List ℕ) → Option (List ℕ) → Type 0
-IsSilentAt (Ok answer) old new = IsSilent {X = Answer} (Ok answer) old new
+abbrev pub IsSilentAt : {X : Type 0} → Result X BodyFault → Option (List ℕ) → Option (List ℕ) → Type 0
+IsSilentAt (Ok x) old new = ⊤
 IsSilentAt (Err NoRecord) old new = new ≡ old
 IsSilentAt (Err NoCapture) old new = new ≡ old
-IsSilentAt (Err (Replay fault)) old new = IsSilent {X = Answer} (Err fault) old new
+IsSilentAt {X} (Err (Replay fault)) old new = IsSilent {X = X} (Err fault) old new
+
+-- there is no record or no capture, or a fault comes before anything is written
+abbrev pub IsEarlyAt : BodyFault → Type 0
+IsEarlyAt NoRecord = ⊤
+IsEarlyAt NoCapture = ⊤
+IsEarlyAt (Replay fault) = IsEarly fault
 
 -- The body of the capture at a position, by rows, an index and parts. Where the archive's source holds its bytes, what
 -- goes out and what is answered are as the definition says of its records
@@ -69,7 +76,7 @@ pub record GivesBodyAt (rows : List Row) (index : Indexes) (parts : Parts) (posi
     (before after : Seen) (answer : Result Answer BodyFault) : Type 0 where
   pub told : IfHeld old.holds (λ bytes. (is : IsArchiveOf bytes rows) → AreOf is.are.records index parts
       → IsBodyAt (contents is.are.records) position answer before.tells after.tells)
-  pub reads : ReadsPath rows index parts (λ records. path_at records position) old new
+  pub reads : ReadsPath 2 rows index parts (λ records. path_at records position) old new
   pub inside : AsksInside rows index parts old new
   pub keeps : Preserves old new
   pub silent : IsSilentAt answer before.tells after.tells

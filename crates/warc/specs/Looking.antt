@@ -11,7 +11,7 @@ use Rattle.warc_segment.specs.Joined.{joined_places}
 use Rattle.warc_segment.specs.Kept.{Kept as Parts}
 use Rattle.warc_segment.specs.declared.place.Place.{Place}
 use Rattle.warc_answer.specs.Places.{LieIn, len_of, text_at}
-use Rattle.warc_answer.specs.Replays.{out_result}
+use Rattle.warc_answer.specs.Replays.{IsSilent, out_result}
 use Rattle.warc_answer.specs.Seen.{IsEarly, stored_seen}
 use Rattle.warc_answer.specs.Stored.{IsStoredAt, joined_text_at}
 use Rattle.warc_answer.specs.declared.answer.Reason.{Reason as Why}
@@ -23,7 +23,7 @@ use Rattle.warc_reading.specs.Indexed.{placed_record}
 use Rattle.warc_reading.specs.Row.{Placed, Row}
 use Rattle.warc.specs.Origins.{ArePartsOf, IsRecordAt, StaysInside}
 use Rattle.warc.specs.Outcomes.{IsFrontAt, judged_seen, stored_text}
-use Rattle.warc.specs.Replaying.{IsOfOrigin, origin_joined, origin_reads, reads_of}
+use Rattle.warc.specs.Replaying.{IsOfOrigin, origin_joined, reads_of}
 use Rattle.warc.specs.declared.looking.Look.{Look}
 
 -- what is stored of the origin at a position, and the places of what is joined; a reason, or nothing where a read or a
@@ -52,13 +52,13 @@ pub record LooksOn {A : Type 0} (all : List Placed) (found : Option Placed) (old
   pub reads : ReadsOnly (IsOfOrigin all found) (reads_of 1 all found) old new
   pub places : IfOk answer (λ l. ArePlacesIn all found l.places.items)
 
--- the head of the record at the position and the blocks that are joined to it are read, where the source holds the
--- archive's bytes
-abbrev pub ReadsOrigin : List Row → Parts → ℕ → SeenSource → SeenSource → Type 0
-ReadsOrigin rows parts position old new =
+-- the head of the record at the position and, some times, the blocks that are joined to it are read, where the source
+-- holds the archive's bytes
+abbrev pub ReadsOrigin : ℕ → List Row → Parts → ℕ → SeenSource → SeenSource → Type 0
+ReadsOrigin times rows parts position old new =
     IfHeld old.holds (λ bytes. (is : IsArchiveOf bytes rows) → ArePartsOf is.are.records parts
     → ReadsOnly (IsOfOrigin is.are.records (slice_get is.are.records position))
-    (origin_reads is.are.records (slice_get is.are.records position)) old new)
+    (reads_of times is.are.records (slice_get is.are.records position)) old new)
 
 -- any source is asked for no byte after those of an archive of these rows and parts
 abbrev pub AsksWithin : List Row → Parts → SeenSource → SeenSource → Type 0
@@ -80,17 +80,12 @@ pub record Looks {A : Type 0} (rows : List Row) (parts : Parts) (position : ℕ)
   pub keeps : Preserves old new
   pub fails : FailsBy (IsRecordAt rows parts position) (out_result answer) old new
 
--- a fault that is a reason
-abbrev pub IsReason : ReplayFault → Type 0
-IsReason (Reason why) = ⊤
-IsReason (Out e) = ⊥
-
 -- the same without the places
 pub record Judges {A : Type 0} (rows : List Row) (parts : Parts) (position : ℕ) (old new : SeenSource)
     (answer : Result (Result (Stored A) Why) OutFault) : Type 0 where
   pub told : IfHeld old.holds (λ bytes. (is : IsArchiveOf bytes rows) → ArePartsOf is.are.records parts
       → IfOk answer (λ judged. IsStoredAt (contents is.are.records) position (judged_seen judged)))
-  pub reads : ReadsOrigin rows parts position old new
+  pub reads : ReadsOrigin 1 rows parts position old new
   pub inside : AsksWithin rows parts old new
   pub early : IfErr answer (λ e. IsEarly (Out e))
   pub keeps : Preserves old new
@@ -110,9 +105,9 @@ pub record SendsStored {A : Type 0} (rows : List Row) (parts : Parts) (position 
     (before after : Seen) (answer : Result (Stored A) ReplayFault) : Type 0 where
   pub told : IfHeld old.holds (λ bytes. (is : IsArchiveOf bytes rows) → ArePartsOf is.are.records parts
       → IsSent (contents is.are.records) position answer before.tells after.tells)
-  pub reads : ReadsOrigin rows parts position old new
+  pub reads : ReadsOrigin 2 rows parts position old new
   pub inside : AsksWithin rows parts old new
-  pub silent : IfErr answer (λ fault. IsReason fault → after.tells ≡ before.tells)
+  pub silent : IsSilent answer before.tells after.tells
   pub keeps : Preserves old new
   pub fails : FailsBy (IsRecordAt rows parts position) (out_result answer) old new
   pub cause : after.faults ≡ failed_by (out_result answer) before.faults

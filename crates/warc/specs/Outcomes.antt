@@ -1,6 +1,6 @@
 -- What is stored at the end of the path from the record at a position, and what it reads of the source. This project's
 -- own notion.
-use Rattle.std.specs.Prelude.{◌≡◌, ℕ, ◌⊎◌, List, drop, slice_get, Option, Some, None, Result, Ok, Err}
+use Rattle.std.specs.Prelude.{◌≡◌, ℕ, ◌⊎◌, List, drop, slice_get, Option, Some, None, Result, Ok, Err, IfErr}
 use Rattle.std.specs.Io.KnownBytes.{append_known}
 use Rattle.warc_frame.specs.Effects.{FailsBy, Preserves}
 use Rattle.warc_frame.specs.Failing.{failed_by}
@@ -22,7 +22,7 @@ use Rattle.warc_answer.specs.declared.stored.Stored.{Stored}
 use Rattle.warc_reading.specs.Archive.{IsArchiveOf, contents}
 use Rattle.warc_reading.specs.Indexed.{AreOf}
 use Rattle.warc_reading.specs.Row.{Row}
-use Rattle.warc.specs.Bodies.{IsCaptureAt, IsOtherAt}
+use Rattle.warc.specs.Bodies.{IsCaptureAt, IsEarlyAt, IsOtherAt, IsSilentAt}
 use Rattle.warc.specs.Replaying.{AsksInside, IsIndexedBy, ReadsPath}
 use Rattle.warc.specs.declared.fault.BodyFault.{BodyFault}
 use Rattle.warc.specs.declared.fault.BodyFault.TheVariants.{NoRecord, NoCapture, Replay}
@@ -70,12 +70,13 @@ fault_result (Err NoCapture) = Ok tt
 fault_result (Err (Replay fault)) = out_result {X = Unit {0}} (Err fault)
 
 -- What is answered of the capture at a position, by rows, an index and parts. Where the archive's source holds its
--- bytes, it is the outcome of its records
+-- bytes, it is the outcome of its records. Nothing is written, so no fault says that a write failed
 pub record JudgesAt {A : Type 0} (rows : List Row) (index : Indexes) (parts : Parts) (position : ℕ)
     (old new : SeenSource) (answer : Result (Outcome A) BodyFault) : Type 0 where
   pub told : IfHeld old.holds (λ bytes. (is : IsArchiveOf bytes rows) → AreOf is.are.records index parts
       → IsOutcomeAt (contents is.are.records) position answer)
-  pub reads : ReadsPath rows index parts (λ records. path_at records position) old new
+  pub early : IfErr answer IsEarlyAt
+  pub reads : ReadsPath 1 rows index parts (λ records. path_at records position) old new
   pub inside : AsksInside rows index parts old new
   pub keeps : Preserves old new
   pub fails : FailsBy (IsIndexedBy rows index parts) (fault_result answer) old new
@@ -117,23 +118,15 @@ IsStoredOut records position (Err (Replay (Reason why))) old new =
 IsStoredOut records position (Err (Replay (Out e))) old new = IsCaptureAt records position
     × (path : Path) × (path_at records position ≡ Ok path) × IsFrontAt records path.given (sent_of e) old new
 
--- nothing goes out where there is no record or no capture, or before a reason, whatever the source holds
-abbrev pub IsSilentBefore : {X : Type 0} → Result X BodyFault → Option (List ℕ) → Option (List ℕ) → Type 0
-IsSilentBefore (Ok x) old new = Unit {0}
-IsSilentBefore (Err NoRecord) old new = new ≡ old
-IsSilentBefore (Err NoCapture) old new = new ≡ old
-IsSilentBefore (Err (Replay (Reason why))) old new = new ≡ old
-IsSilentBefore (Err (Replay (Out e))) old new = Unit {0}
-
 -- What is stored of the origin of the capture at a position is written, by rows, an index and parts. Where the
 -- archive's source holds its bytes, what goes out and what is answered are as the definition says of its records
 pub record GivesStoredAt (rows : List Row) (index : Indexes) (parts : Parts) (position : ℕ) (old new : SeenSource)
     (before after : Seen) (answer : Result StoredAnswer BodyFault) : Type 0 where
   pub told : IfHeld old.holds (λ bytes. (is : IsArchiveOf bytes rows) → AreOf is.are.records index parts
       → IsStoredOut (contents is.are.records) position answer before.tells after.tells)
-  pub reads : ReadsPath rows index parts (λ records. path_at records position) old new
+  pub reads : ReadsPath 2 rows index parts (λ records. path_at records position) old new
   pub inside : AsksInside rows index parts old new
-  pub silent : IsSilentBefore answer before.tells after.tells
+  pub silent : IsSilentAt answer before.tells after.tells
   pub keeps : Preserves old new
   pub fails : FailsBy (IsIndexedBy rows index parts) (fault_result answer) old new
   pub cause : after.faults ≡ failed_by (fault_result answer) before.faults

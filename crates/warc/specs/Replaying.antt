@@ -35,14 +35,10 @@ abbrev pub reads_of : ℕ → List Placed → Option Placed → ℕ
 reads_of times all None = 0
 reads_of times all (Some p) = p.block_start - p.offset + times * origin_joined all p
 
--- the most reads for an origin, whose joined block is read twice
-abbrev pub origin_reads : List Placed → Option Placed → ℕ
-origin_reads all p = reads_of 2 all p
-
 -- none where there is no origin
-abbrev pub path_reads : List Placed → Result Path Unfound → ℕ
-path_reads all (Ok path) = origin_reads all (slice_get all path.given)
-path_reads all (Err unfound) = 0
+abbrev pub path_reads : ℕ → List Placed → Result Path Unfound → ℕ
+path_reads times all (Ok path) = reads_of times all (slice_get all path.given)
+path_reads times all (Err unfound) = 0
 
 -- the offset of a byte of a block that is joined, of none where they don't join
 abbrev pub IsJoined : Result (List Place) Gap → ℕ → Type 0
@@ -69,13 +65,13 @@ abbrev pub IsIndexedBy : List Row → Indexes → Parts → List ℕ → Type 0
 IsIndexedBy rows index parts bytes = (is : IsArchiveOf bytes rows) × AreOf is.are.records index parts
 
 -- where the source holds the archive's bytes, the origin's head and the joined blocks at the end of the path alone are
--- read, in at most `path_reads` reads
-abbrev pub ReadsPath : List Row → Indexes → Parts → (List Record → Result Path Unfound) → SeenSource → SeenSource
+-- read, in at most as many reads as the head and `times` the blocks have bytes
+abbrev pub ReadsPath : ℕ → List Row → Indexes → Parts → (List Record → Result Path Unfound) → SeenSource → SeenSource
     → Type 0
-ReadsPath rows index parts way old new =
+ReadsPath times rows index parts way old new =
     IfHeld old.holds (λ bytes. (is : IsArchiveOf bytes rows) → AreOf is.are.records index parts
     → ReadsOnly (IsOnPath is.are.records (way (contents is.are.records)))
-    (path_reads is.are.records (way (contents is.are.records))) old new)
+    (path_reads times is.are.records (way (contents is.are.records))) old new)
 
 -- any source is asked for no byte after the archive's
 abbrev pub AsksInside : List Row → Indexes → Parts → SeenSource → SeenSource → Type 0
@@ -88,7 +84,7 @@ pub record ReplaysOn (rows : List Row) (index : Indexes) (parts : Parts) (way : 
     (old new : SeenSource) (before after : Seen) (answer : Result Answer ReplayFault) : Type 0 where
   pub told : IfHeld old.holds (λ bytes. (is : IsArchiveOf bytes rows) → AreOf is.are.records index parts
       → IsReplayOn (contents is.are.records) (way (contents is.are.records)) answer before.tells after.tells)
-  pub reads : ReadsPath rows index parts way old new
+  pub reads : ReadsPath 2 rows index parts way old new
   pub inside : AsksInside rows index parts old new
   pub keeps : Preserves old new
   pub late : WritesLate answer before after

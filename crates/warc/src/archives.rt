@@ -297,7 +297,7 @@ impl<S: Source, A: Allocator + Copy> Archive<S, A> {
     }
 
     /// Writes what is stored of the origin of the capture at a position, as `replay_at` writes a body, but a coded one
-    /// too, as it is after the HTTP head.
+    /// too, as it is after the HTTP head. `Memory` comes before any byte.
     pub fn stored_to<W: Sink>(
         &mut self,
         position: usize,

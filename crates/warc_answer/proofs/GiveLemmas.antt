@@ -13,10 +13,11 @@ use Rattle.warc_value.specs.Digests.{is_bad, verdict_of}
 use Rattle.warc_field.specs.Area.{Pair}
 use Rattle.warc_field.specs.Decimal.{decimal_of, number_of}
 use Rattle.warc_frame.specs.Effects.{FailsBy}
-use Rattle.warc_frame.specs.Seen.{SeenSource}
+use Rattle.warc_frame.specs.Seen.{Seen, SeenSource}
 use Rattle.warc_frame.proofs.EffectLemmas.{fails_more}
 use Rattle.warc_frame.specs.Record.{Record, max_archive}
 use Rattle.warc_frame.specs.Send.{WentOut, sent_of}
+use Rattle.warc_frame.specs.declared.fault.OutFault.TheVariants as outs
 use Rattle.warc_record.specs.Readings.{number_in, present_value}
 use Rattle.warc_payload.specs.declared.HeadInfo.{HeadInfo}
 use Rattle.warc_payload.specs.Head.{HasNoHead, IsInfoOf, front_of}
@@ -30,7 +31,8 @@ use Rattle.warc_answer.specs.Laws.{FailsBeforeAll, IsFound, PlacesAreAsLong}
 use Rattle.warc_answer.specs.Payloads.{Payload, IsBehindHead, IsPayload, has_bad_block, is_http_response, read_record, whole_block}
 use Rattle.warc_answer.specs.Origins.{AreBlocksIn}
 use Rattle.warc_answer.specs.Places.{LieIn, bytes_at, len_of, text_at}
-use Rattle.warc_answer.specs.Replays.{IsReplayOn, body_of, given, out_result}
+use Rattle.warc_answer.specs.Replays.{IsReplayOn, WritesLate, body_of, given, out_result}
+use Rattle.warc_answer.specs.Seen.{IsEarly}
 use Rattle.warc_answer.specs.declared.answer.Path.{Path}
 use Rattle.warc_answer.specs.declared.answer.Reason.{Reason as Why}
 use Rattle.warc_answer.specs.declared.answer.Reason.TheVariants.{NotFound, Segments, BadDigest, BadHead, Coded}
@@ -336,3 +338,10 @@ pub fails_before_all : OneOfThree → FailsBeforeAll
 fails_before_all three records way told e within none =
     let it = answer_some three records way within in
     (it.0, it.1, subst (λ (n : ℕ). WentOut told (body_of it.0) told n) (sym none) (none_out told (body_of it.0)))
+
+-- nothing goes out before a fault that comes before anything is written
+pub early_late : {X : Type 0} (fault : ReplayFault) (o : Seen) → IsEarly fault → WritesLate {X = X} (Err fault) o o
+early_late {X} (Reason why) o is = record { silent = refl; cause = refl }
+early_late {X} (Out (outs.Read n)) o is = record { silent = tt; cause = refl }
+early_late {X} (Out (outs.Write n)) o is = absurd is
+early_late {X} (Out (outs.Memory n)) o is = record { silent = (is, refl); cause = refl }

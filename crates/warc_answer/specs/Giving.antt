@@ -5,7 +5,6 @@ use Rattle.std.specs.Bool.{MatchBool}
 use Rattle.std.specs.List.{list_any}
 use Rattle.warc_value.specs.Digests.{is_bad, verdict_of}
 use Rattle.warc_frame.specs.Effects.{FailsBy}
-use Rattle.warc_frame.specs.Failing.{failed_by}
 use Rattle.warc_frame.specs.Seen.{IfHeld, SeenSource}
 use Rattle.warc_frame.specs.declared.fault.OutFault.TheVariants as outs
 use Rattle.warc_payload.specs.Head.{HasNoHead, most_head_bytes}
@@ -14,6 +13,7 @@ use Rattle.warc_segment.specs.declared.place.Place.{Place}
 use Rattle.warc_answer.specs.Origins.{ReadsToJudge}
 use Rattle.warc_answer.specs.Places.{LieIn, bytes_at, len_of, text_at}
 use Rattle.warc_answer.specs.Replays.{WantsNoMemory, out_result}
+use Rattle.warc_answer.specs.Seen.{IsEarly}
 use Rattle.warc_answer.specs.declared.answer.Reason.{Reason as Why}
 use Rattle.warc_answer.specs.declared.answer.Reason.TheVariants.{NotFound, Segments, BadDigest, BadHead, Coded}
 use Rattle.warc_answer.specs.declared.answer.ReplayFault.{ReplayFault}
@@ -62,7 +62,7 @@ pub record FindsStart (http : Bool) (places : List Place) (old new : SeenSource)
     (result : Result BodyStart ReplayFault) : Type 0 where
   pub begun : IfHeld old.holds (λ bytes. LieIn places bytes →
       IsStart (any_bad_at bytes places) http (text_at places bytes) result)
-  pub unwritten : (n : ℕ) → failed_by (out_result result) n ≡ n
+  pub early : IfErr result IsEarly
   pub device : IfErr result WantsNoMemory
   pub reads : ReadsToJudge http places old new
   pub fails : FailsBy (LieIn places) (out_result result) old new

@@ -5,9 +5,9 @@ pub mod Places
 pub mod Replays
 pub mod Laws
 pub mod Origins
-pub mod Giving
 pub mod Stored
 pub mod Seen
+pub mod Giving
 pub mod Judging
 pub mod Located
 pub mod Hashed

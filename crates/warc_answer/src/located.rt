@@ -1,5 +1,5 @@
 //! Where the body of an origin lies in a source, without reading the body.
-ghost use Rattle.std.specs.Prelude.{◌≡◌, ℕ, List, length, drop, slice_get, Result, IfOk};
+ghost use Rattle.std.specs.Prelude.{◌≡◌, ℕ, List, length, drop, slice_get, Result, IfErr, IfOk};
 ghost use Rattle.warc_frame.specs.Effects.{FailsBy};
 ghost use Rattle.warc_frame.specs.Record.{Record};
 ghost use Rattle.warc_frame.specs.Seen.{IfHeld};
@@ -9,6 +9,7 @@ ghost use Rattle.warc_answer.specs.Located.{AreInside, IsLocatedOn, spans_text};
 ghost use Rattle.warc_answer.specs.Origins.{AreBlocksIn, IsJoinedOn};
 ghost use Rattle.warc_answer.specs.Places.{LieIn, ReadsPlaces, len_of, text_at};
 ghost use Rattle.warc_answer.specs.Replays.{out_result};
+ghost use Rattle.warc_answer.specs.Seen.{IsEarly};
 
 use crate::answer::{Answer, Path, ReplayFault};
 use crate::replay::begin_body;
@@ -104,6 +105,7 @@ pub fn locate_joined<S: Source, A: Allocator + Copy>(
     ensures located { IfHeld (S.seen source.old).holds (λ bytes. (records : List Record)
         (found : Result Path Unfound) → IsJoinedOn bytes records found path (said origin.now) places.now →
         IsLocatedOn bytes records found result) }
+    ensures early { IfErr result IsEarly }
     ensures reads { ReadsPlaces places.now (len_of places.now) (S.seen source.old) (S.seen source.new) }
     ensures fails { FailsBy (AreBlocksIn places.now) (out_result result) (S.seen source.old) (S.seen source.new) }
 {

@@ -3,7 +3,6 @@ ghost use Rattle.std.specs.Prelude.{◌≡◌, ℕ, List, drop, Option, Result, 
 ghost use Rattle.std.specs.List.{list_any};
 ghost use Rattle.warc_frame.specs.Count.{capped};
 ghost use Rattle.warc_frame.specs.Effects.{FailsBy};
-ghost use Rattle.warc_frame.specs.Failing.{failed_by};
 ghost use Rattle.warc_frame.specs.Record.{Record};
 ghost use Rattle.warc_frame.specs.Seen.{IfHeld};
 ghost use Rattle.warc_record.specs.Seen.{said};
@@ -13,6 +12,7 @@ ghost use Rattle.warc_answer.specs.Origins.{AreBlocksIn, IsJoinedOn, ReadsToJudg
 ghost use Rattle.warc_answer.specs.Payloads.{is_http_response};
 ghost use Rattle.warc_answer.specs.Places.{ReadsPlaces, len_of, text_at};
 ghost use Rattle.warc_answer.specs.Replays.{IsReplayOn, WantsNoMemory, WritesLate, given, out_result};
+ghost use Rattle.warc_answer.specs.Seen.{IsEarly};
 
 use crate::answer::{Answer, Path, Reason, ReplayFault};
 use crate::blocks::send_blocks;
@@ -61,7 +61,7 @@ pub(crate) fn begin_body<S: Source>(
     ensures refused { IfHeld (S.seen source.old).holds (λ bytes. (records : List Record)
         (found : Result Path Unfound) → IsJoinedOn bytes records found path (said origin.now) places.now →
         IfErr result (λ fault. (told : Option (List ℕ)) → IsReplayOn records found (Err fault) told told)) }
-    ensures unwritten { (n : ℕ) → failed_by (out_result result) n ≡ n }
+    ensures early { IfErr result IsEarly }
     ensures device { IfErr result WantsNoMemory }
     ensures reads { ReadsToJudge (is_http_response (said origin.now)) places.now (S.seen source.old)
         (S.seen source.new) }

@@ -283,7 +283,7 @@ replay_near {S} {old} {mid} {last} {new} {archive} opens same inside =
 
 -- and is read in at most twice as many reads as the archive has bytes
 pub replay_read : {S : Type 0} {old mid last new : SeenSource} {archive : Archived S} (way : List Record → Result Path Unfound) → Opens IsIndexed old mid (Ok archive) → new ≡ last
-    → ReadsPath archive.listing.rows archive.index archive.parts way mid last → AsksInside archive.listing.rows archive.index archive.parts mid last → ReadsTimes 3 old new
+    → ReadsPath 2 archive.listing.rows archive.index archive.parts way mid last → AsksInside archive.listing.rows archive.index archive.parts mid last → ReadsTimes 3 old new
 replay_read {S} {old} {mid} {last} {new} {archive} way opens same reads inside =
     let read : ReadsTimes 3 old last = record {
       near = inside_near last opens inside;

@@ -12,8 +12,8 @@ use Rattle.warc_answer.specs.ReasonText.{reason_text}
 use Rattle.warc_answer.specs.Stored.{answer_with}
 use Rattle.warc_answer.specs.declared.answer.Reason.TheVariants.{NotFound}
 use Rattle.warc_answer.specs.declared.answer.ReplayFault.TheVariants.{Reason, Out as ReplayOut}
-use Rattle.warc.specs.Bodies.{body_fault_text}
-use Rattle.warc.specs.Outcomes.{IsSilentBefore, IsStoredOut, StoredAnswer, fault_result}
+use Rattle.warc.specs.Bodies.{IsSilentAt, body_fault_text}
+use Rattle.warc.specs.Outcomes.{IsStoredOut, StoredAnswer, fault_result}
 use Rattle.warc.specs.declared.fault.BodyFault.{BodyFault}
 use Rattle.warc.specs.declared.fault.BodyFault.TheVariants.{NoRecord, NoCapture, Replay}
 use Rattle.warc_commands.specs.Devices.{Devices}
@@ -50,7 +50,7 @@ pub record IsStoredGivenOf (position : ℕ) (answer : Result StoredAnswer BodyFa
 pub record IsStoredGiven (position : ℕ) (old new : Devices) (status : ℕ) : Type 0 where
   pub answer : Result StoredAnswer BodyFault
   pub is : IfHeld old.source.holds (λ bytes. IsStoredGivenOf position answer bytes old new)
-  pub silent : IsSilentBefore answer old.out.tells new.out.tells
+  pub silent : IsSilentAt answer old.out.tells new.out.tells
   pub source : MayHaveFailedBy (fault_result answer) old.source.faults new.source.faults
   pub failed : new.out.faults ≡ failed_by (fault_result answer) old.out.faults
   pub told : Tells (stored_line answer) old.err new.err

@@ -22,6 +22,7 @@ returns-in-Err g c = record {
     );
     reads = reads_nothing;
   };
+  early = tt;
   inside = λ bytes is off. refl;
   keeps = keeps_same _;
   fails = record { may = refl; failed = λ bytes held is. refl };

@@ -20,8 +20,9 @@ returns-in_err-origin g c =
         located = λ tells.
             fault_replayed (Unit {0}) c.reasons_are_answers.ensures c.fails_before_all.ensures c.places_are_of_records.ensures bytes is.are.records (way (contents is.are.records)) c.args.path c.in_err-origin.field-0.0 tells
             is.are.spelled (leads.is bytes is are) (leads.ends bytes is are) found.early (found.told bytes held is are.parts_are);
-        reads = on_path is.are.records _ c.args.path (leads.is bytes is are) (read_less 0 2 (λ n. omega arith) is.are.records _ (found.reads bytes held is are.parts_are));
+        reads = on_path 1 is.are.records _ c.args.path (leads.is bytes is are) (read_less 0 1 (λ n. omega arith) is.are.records _ (found.reads bytes held is are.parts_are));
       };
+      early = found.early;
       inside = λ bytes (is, are). (found.inside bytes is are.parts_are).asks;
       keeps = found.keeps;
       fails = fails_more (λ bytes held (is, are). (is, are.parts_are, leads.ends bytes is are c.args.path (leads.is bytes is are))) (fault_fails (Unit {0}) (Unit {0}) c.in_err-origin.field-0.0 found.fails);
@@ -46,10 +47,11 @@ returns g c = λ way leads.
               places_are = subst (λ l. ArePlacesOf bytes l joined) (sym c.deref.ensures.value) places;
             });
             reads =
-                on_path is.are.records _ c.args.path (leads.is bytes is are)
-                (then_read 0 1 2 (λ n. omega arith) is.are.records _ items c.deref.result.now _ (found.reads bytes held is are.parts_are)
+                on_path 1 is.are.records _ c.args.path (leads.is bytes is are)
+                (then_read 0 1 1 (λ n. omega arith) is.are.records _ items c.deref.result.now _ (found.reads bytes held is are.parts_are)
                 (places_in bytes is.are.records c.args.path.given is.are.spelled items at c.places_are_of_records.ensures c.places_are_as_long.ensures) c.deref.ensures.value (omega arith) given.reads);
           };
+      early = given.early;
       inside = λ bytes (is, are).
           let stays = found.inside bytes is are.parts_are in
           then_inside bytes items c.deref.result.now (g.S.Source.seen c.args.source.now) (g.S.Source.seen c.origin_at.new.source) (g.S.Source.seen c.locate_joined.new.source) found.keeps.watched stays.asks stays.ends c.deref.ensures.value given.reads.near;

@@ -5,10 +5,11 @@ use Rattle.warc_record.specs.Readings.{reading_of}
 use Rattle.warc_record.specs.Seen.{said}
 use Rattle.warc_segment.specs.Joined.{ArePlacesOf}
 use Rattle.warc_answer.specs.Payloads.{is_http_response, read_record}
+use Rattle.warc_answer.proofs.GiveLemmas.{early_late}
 use Rattle.warc_answer.proofs.JudgeLemmas.{body_within}
 use Rattle.warc_reading.specs.Archive.{contents}
 use Rattle.warc.proofs.LookLemmas.{fault_fails}
-use Rattle.warc.proofs.OriginLemmas.{early_late, fault_replayed, places_in, on_path, preserves_both, read_less, then_read}
+use Rattle.warc.proofs.OriginLemmas.{fault_replayed, places_in, on_path, preserves_both, read_less, then_read}
 use Rattle.warc.proofs.ReplayLemmas.{found_as, places_are, then_inside}
 use Rattle.warc.proofs.replay.replay_on.Goals as goal
 
@@ -21,7 +22,7 @@ returns-in_err-origin g c =
       told = λ bytes held is are.
           fault_replayed (Unit {0}) c.reasons_are_answers.ensures c.fails_before_all.ensures c.places_are_of_records.ensures bytes is.are.records (way (contents is.are.records)) c.args.path c.in_err-origin.field-0.0 _
           is.are.spelled (leads.is bytes is are) (leads.ends bytes is are) found.early (found.told bytes held is are.parts_are);
-      reads = λ bytes held is are. on_path is.are.records _ c.args.path (leads.is bytes is are) (read_less 0 2 (λ n. omega arith) is.are.records _ (found.reads bytes held is are.parts_are));
+      reads = λ bytes held is are. on_path 2 is.are.records _ c.args.path (leads.is bytes is are) (read_less 0 2 (λ n. omega arith) is.are.records _ (found.reads bytes held is are.parts_are));
       inside = λ bytes (is, are). (found.inside bytes is are.parts_are).asks;
       keeps = found.keeps;
       late = early_late c.in_err-origin.field-0.0 _ found.early;
@@ -48,7 +49,7 @@ returns g c = λ way leads.
       reads = λ bytes held is are.
           let at = found.told bytes held is are.parts_are in
           let places = places_in bytes is.are.records c.args.path.given is.are.spelled items at c.places_are_of_records.ensures c.places_are_as_long.ensures in
-          on_path is.are.records _ c.args.path (leads.is bytes is are)
+          on_path 2 is.are.records _ c.args.path (leads.is bytes is are)
           (then_read 0 2 2 (λ n. omega arith) is.are.records _ items c.deref.result.now _ (found.reads bytes held is are.parts_are) places c.deref.ensures.value
           (body_within (is_http_response (said c.typed.result)) c.deref.result.now) given.reads);
       inside = λ bytes (is, are).

@@ -15,6 +15,11 @@ returns-in_err-begun-clause-located g c =
     let p = err_from_is_err_and c.from_residual.result c.from_residual.ensures.1 in
     rw (p.1, p.2) (λ bytes held records found is tells. c.in_err-begun.ensures.refused bytes held records found is tells)
 
+pub returns-in_err-begun-clause-early : goal.returns-in_err-begun-clause-early
+returns-in_err-begun-clause-early g c =
+    let p = err_from_is_err_and c.from_residual.result c.from_residual.ensures.1 in
+    rw (p.1, p.2) c.in_err-begun.ensures.early
+
 pub returns-in_err-begun-clause-fails : goal.returns-in_err-begun-clause-fails
 returns-in_err-begun-clause-fails g c =
     let p = err_from_is_err_and c.from_residual.result c.from_residual.ensures.1 in

@@ -20,6 +20,11 @@ returns-in_err-start-clause-refused g c =
     c.is_http_response.result c.in_err-start.field-0.0 is.leads is.places_are http
     (c.in_err-start.ensures.begun bytes held (places_lie bytes places is.joined is.short is.places_are)))
 
+pub returns-in_err-start-clause-early : goal.returns-in_err-start-clause-early
+returns-in_err-start-clause-early g c =
+    let p = err_from_is_err_and c.from_residual.result c.from_residual.ensures.1 in
+    rw (p.1, p.2) c.in_err-start.ensures.early
+
 pub returns-in_err-start-clause-fails : goal.returns-in_err-start-clause-fails
 returns-in_err-start-clause-fails g c =
     let p = err_from_is_err_and c.from_residual.result c.from_residual.ensures.1 in

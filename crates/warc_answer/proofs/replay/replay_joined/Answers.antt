@@ -5,7 +5,7 @@ use Rattle.warc_record.specs.Seen.{said}
 use Rattle.warc_answer.specs.Payloads.{is_http_response}
 use Rattle.warc_answer.specs.declared.answer.Answer.{Answer}
 use Rattle.warc_answer.specs.declared.replay.Begun.{Begun}
-use Rattle.warc_answer.proofs.GiveLemmas.{blocks_lie, fails_of_fault, places_lie}
+use Rattle.warc_answer.proofs.GiveLemmas.{blocks_lie, early_late, fails_of_fault, places_lie}
 use Rattle.warc_answer.proofs.JudgeLemmas.{reads_body, reads_front, reads_once}
 use Rattle.warc_answer.proofs.replay.replay_joined.Goals as goal
 
@@ -14,6 +14,11 @@ returns-in_err-begun-clause-replayed g c =
     let p = err_from_is_err_and c.from_residual.result c.from_residual.ensures.1 in
     rw (p.1, p.2) (λ bytes held records way is.
     c.in_err-begun.ensures.refused bytes held records way is ((g.W.Sink.seen c.args.out.now).tells))
+
+pub returns-in_err-begun-clause-late : goal.returns-in_err-begun-clause-late
+returns-in_err-begun-clause-late g c =
+    let p = err_from_is_err_and c.from_residual.result c.from_residual.ensures.1 in
+    rw (p.1, p.2) (early_late c.in_err-begun.field-0.0 (g.W.Sink.seen c.args.out.now) c.in_err-begun.ensures.early)
 
 pub returns-in_err-begun-clause-reads : goal.returns-in_err-begun-clause-reads
 returns-in_err-begun-clause-reads g c = reads_front (is_http_response (said c.args.origin.now)) c.args.places.now c.in_err-begun.ensures.reads
