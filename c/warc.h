@@ -63,11 +63,11 @@
  * warc_problem_text and warc_abi_version call functions over bytes that state their contracts themselves; warc_open
  * answers true only for bytes that spell good records, and otherwise gives their first fault, or says that memory ran
  * out. warc_rewrite, warc_convert, warc_split, warc_select and warc_make are one call of write_lent, split_lent,
- * select_lent or make_lent each, whose contract says what goes to a sink; that a descriptor takes these bytes is
- * write's matter, and warc.c puts the parts together. No contract says that a handle holds the archive that was
- * opened: contracts see no value of a struct that C keeps (docs/PROMISES.md). What this page demands of the caller
- * isn't checked by anybody, and warc.c, which checks pointers, keeps texts and finds fields in what was put, isn't
- * proved.
+ * select_lent, select_closed_lent or make_lent each, whose contract says what goes to a sink; that a descriptor takes
+ * these bytes is write's matter, and warc.c puts the parts together. No contract says that a handle holds the archive
+ * that was opened: contracts see no value of a struct that C keeps (docs/PROMISES.md). What this page demands of the
+ * caller isn't checked by anybody, and warc.c, which checks pointers, keeps texts and finds fields in what was put,
+ * isn't proved.
  */
 #ifndef WARC_H
 #define WARC_H
