@@ -6,7 +6,8 @@ mod ValueLemmas
 mod HeadLemmas
 mod PlainLemmas
 mod TypedLemmas
-mod AsciiLemmas
+mod AloneLemmas
+pub mod AsciiLemmas
 mod RuledLemmas
 mod JudgedLemmas
 mod CanonicalLemmas

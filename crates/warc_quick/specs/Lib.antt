@@ -5,3 +5,4 @@ pub mod Fronts
 pub mod Ruled
 pub mod Canonical
 pub mod PlainFindings
+pub mod Alone

@@ -63,6 +63,7 @@ impl<'a> QuickHead<'a> {
     }
 
     /// What it says, if it names no other record and says nothing of segments.
+    #[inline(always)]
     #[tactic(auto, using(crate::proofs::TypedLemmas::id_found))]
     pub fn typed(&self) -> Typed<'a>
         requires alone { self.now.is_alone ≡ true }

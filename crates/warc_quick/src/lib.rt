@@ -5,6 +5,7 @@
 //! `warc_record`.
 #![tactic(auto)]
 
+mod alone;
 mod canonical;
 mod dates;
 mod head;
@@ -17,6 +18,7 @@ mod runs;
 mod table;
 mod values;
 
+pub use alone::{AloneHead, alone_head};
 pub use canonical::is_canonical_head;
 pub use head::{QuickHead, quick_head};
 pub use judging::judged_text;
