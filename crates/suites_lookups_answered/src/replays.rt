@@ -4,7 +4,7 @@ use crate::stored::{Block, Named, stored};
 use crate::telling::{fault_of, tell};
 use std::alloc::{AllocError, Global};
 use suites_script::{Case, Trial};
-use warc_answer::{Answer, Path, ReplayFault, replay_joined};
+use warc_answer::{Answer, Path, ReplayFault, is_http_response, replay_joined};
 use warc_frame::{MemSink, read_one};
 use warc_record::{Typed, type_head};
 use warc_segment::Place;
@@ -49,7 +49,7 @@ fn replay(
     places: &[Place],
     sink: &mut MemSink,
 ) -> Result<Answer, ReplayFault> {
-    replay_joined(source, PATH, origin, places, sink)
+    replay_joined(source, PATH, is_http_response(origin), places, sink)
 }
 
 /// What a replay to a writer answers.
@@ -59,7 +59,7 @@ fn replay_to_writer(
     places: &[Place],
     writer: &mut BrokenWriter,
 ) -> Result<Answer, ReplayFault> {
-    replay_joined(source, PATH, origin, places, writer)
+    replay_joined(source, PATH, is_http_response(origin), places, writer)
 }
 
 /// Tells what a replay to a sink that holds other bytes answers, and what goes out behind them.

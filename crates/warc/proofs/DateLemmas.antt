@@ -1,9 +1,9 @@
 -- A date in full is of the same instant: what is added says what a shorter form leaves out.
-use Rattle.std.proofs.Common.{◌≡◌, ℕ, zero, suc, ◌+◌, ◌-◌, ◌*◌, ◌^◌, ◌<◌, ◌≤◌, ◌==◌, Bool, true, false, ◌&&◌, not, ◌⊎◌, inl, inr, nat_eq, nat_le, get_or, take, drop, length, List, [], ◌∷◌, ◌++◌, Option, Some, None, refl, drop-cons, add-one, arith, sym, ◌∙◌, ap, subst, if◌then◌else◌, codes}
+use Rattle.std.proofs.Common.{◌≡◌, ℕ, zero, suc, ◌+◌, ◌-◌, ◌<◌, ◌≤◌, ◌==◌, Bool, true, false, ◌&&◌, not, ◌⊎◌, inl, inr, nat_eq, nat_le, get_or, take, drop, length, List, [], ◌∷◌, ◌++◌, Some, None, refl, drop-cons, add-one, arith, sym, ◌∙◌, ap, subst, if◌then◌else◌, codes}
 use Rattle.std.proofs.lemmas.Grind.{common_steps}
 use Rattle.std.proofs.lemmas.List.{drop_all, length-take-le, take_all, take_more}
 use Rattle.std.proofs.lemmas.Bool.{cases_lt, leb-true, eqb-true}
-use Rattle.std.specs.List.{list_all, list_any, prefix_len, zip}
+use Rattle.std.specs.List.{list_all, prefix_len, zip}
 use Rattle.std.specs.Prelude.{IsSome, is_some, option_and_then}
 use Rattle.warc_value.specs.Dates.{date_of, fits_place, instant_if_valid, instant_of}
 use Rattle.warc_value.proofs.Alphabet.{both-left, both-right}

@@ -1,7 +1,10 @@
 -- The origin at a position, and what is read for it.
-use Rattle.std.proofs.Common.{◌≡◌, inr, ℕ, zero, suc, ◌+◌, ◌*◌, ◌<◌, ◌≤◌, List, [], ◌∷◌, length, map, Option, Some, None, Result, Ok, Err, refl, sym, ap, subst, ◌∙◌, arith}
+use Rattle.std.proofs.Common.{◌≡◌, inl, inr, ℕ, Bool, zero, suc, ◌+◌, ◌*◌, ◌<◌, ◌≤◌, List, [], ◌∷◌, length, map, Option, Some, None, Result, Ok, Err, IfErr, IfOk, refl, sym, ap, subst, ◌∙◌, arith}
 use Rattle.std.specs.List.{slice_get}
-use Rattle.warc_frame.specs.Effects.{FailsBy, Preserves, ReadsOnly}
+use Rattle.warc_frame.specs.Effects.{Preserves, ReadsOnly}
+use Rattle.warc_frame.specs.Failing.{HasFailedBy, MayHaveFailedBy}
+use Rattle.warc_frame.specs.Reading.{Head, any_fields, head_of}
+use Rattle.warc_frame.specs.Record.{Record}
 use Rattle.warc_frame.specs.Seen.{SeenSource}
 use Rattle.warc_frame.specs.Send.{sent_of}
 use Rattle.warc_frame.specs.declared.fault.OutFault.{OutFault}
@@ -9,12 +12,14 @@ use Rattle.warc_frame.specs.declared.fault.OutFault.TheVariants as outs
 use Rattle.warc_frame.proofs.EffectLemmas.{reads_both, reads_within}
 use Rattle.warc_index.specs.declared.unfound.Unfound.{Unfound}
 use Rattle.warc_field.specs.Area.{Pair}
-use Rattle.warc_record.specs.Readings.{reading_of}
+use Rattle.warc_record.specs.Readings.{Reading, reading_of}
+use Rattle.warc_quick.specs.Alone.{IsWholeHead}
 use Rattle.warc_segment.specs.Joined.{PlacedRecord, PlacesAreOfRecords, joined_places}
 use Rattle.warc_segment.specs.declared.place.Place.{Place}
+use Rattle.warc_value.specs.declared.hash.Wanted.{Wanted}
 use Rattle.warc_answer.specs.Answers.{IsAnswerOn}
 use Rattle.warc_answer.specs.Laws.{EndsInside, FailsBeforeAll, PlacesAreAsLong, ReasonsAreAnswers}
-use Rattle.warc_answer.specs.Payloads.{read_record}
+use Rattle.warc_answer.specs.Payloads.{is_http_response, read_record}
 use Rattle.warc_answer.specs.Places.{IsInOne, ReadsPlaces, len_of}
 use Rattle.warc_answer.specs.Replays.{IsReplayOn, out_result}
 use Rattle.warc_answer.specs.Seen.{IsEarly}
@@ -23,15 +28,17 @@ use Rattle.warc_answer.specs.declared.answer.Reason.{Reason as Why}
 use Rattle.warc_answer.specs.declared.answer.ReplayFault.{ReplayFault}
 use Rattle.warc_answer.specs.declared.answer.ReplayFault.TheVariants.{Reason, Out}
 use Rattle.warc_reading.specs.Archive.{SpellsFrom, contents}
-use Rattle.warc_reading.specs.Indexed.{place_of, placed_record}
+use Rattle.warc_reading.specs.Indexed.{placed_record}
 use Rattle.warc_reading.specs.Rereading.{ReadsHeads, ended_by}
 use Rattle.warc_reading.specs.Row.{Placed, Row, row_of}
 use Rattle.warc_reading.specs.declared.rereading.RereadFault.{RereadFault}
 use Rattle.warc_reading.specs.declared.rereading.RereadFault.TheVariants.{Read, Memory}
 use Rattle.warc.specs.Looking.{ArePlacesIn}
-use Rattle.warc.specs.Origins.{IsJoinedBy, IsOriginAt, IsOriginFound, IsUnjoined}
+use Rattle.warc.specs.Origins.{IsOriginAt, IsOriginBy, IsOriginFound, IsOriginOf, IsPlacedBy, IsUnjoined, place_in, placed_by}
+use Rattle.warc.specs.declared.origin.Origin.{Origin}
 use Rattle.warc.specs.Replaying.{IsJoined, IsOfOrigin, IsOnPath, origin_joined, path_reads, reads_of}
-use Rattle.warc.proofs.ReplayLemmas.{as_placed, found_as, gap_is, places_are, places_for, reads_of_head}
+use Rattle.warc.proofs.ReplayLemmas.{found_as, gap_is, places_are, places_for, reads_of_head}
+use Rattle.warc.proofs.WholeLemmas.{same_head}
 
 pub absent_after : {X : Type 0} (xs : List X) (i : ℕ) → i < length xs → slice_get xs i ≡ None → ⊥
 absent_after [] i low is = omega (arith, low)
@@ -52,21 +59,65 @@ early_sent (outs.Read n) is = is
 early_sent (outs.Write n) is = absurd is
 early_sent (outs.Memory n) is = is
 
--- places that weren't joined
-pub unjoined_early : (fault : ReplayFault) → IsUnjoined fault → IsEarly fault
-unjoined_early (Reason why) is = tt
-unjoined_early (Out e) is = subst (λ (f : OutFault). IsEarly (Out f)) (sym is) refl
+-- what fails before anything goes out, where no read failed
+pub early_may : {X : Type 0} (answer : Result X ReplayFault) (old new : ℕ) → IfErr answer IsEarly → new ≡ old → MayHaveFailedBy (out_result answer) old new
+early_may (Ok x) old new is same = same
+early_may (Err (Reason why)) old new is same = same
+early_may (Err (Out (outs.Read n))) old new is same = inl same
+early_may (Err (Out (outs.Write n))) old new is same = same
+early_may (Err (Out (outs.Memory n))) old new is same = same
 
-pub unjoined_fails : (X : Type 0) {Expected : List ℕ → Type 0} {old new : SeenSource} (fault : ReplayFault) → IsUnjoined fault → new.faults ≡ old.faults → FailsBy Expected (out_result {X = X} (Err fault)) old new
-unjoined_fails X (Reason why) is same = record { may = same; failed = λ bytes held expected. same }
-unjoined_fails X {Expected} {old} {new} (Out e) is same =
-    subst (λ (f : OutFault). FailsBy {X = Unit {0}} Expected (Err f) old new) (sym is) (record { may = same; failed = λ bytes held expected. same })
+-- ---- what is made of a head
 
-pub not_found : (A X : Type 0) (items : X → List Place) (records : List Placed) (position : ℕ) (p : Placed) (q : PlacedRecord) (fault : ReplayFault) → slice_get records position ≡ Some p
-    → q.head ≡ reading_of p.content.fields → q.place ≡ place_of p → IsJoinedBy items (joined_places (map placed_record records) q) (Err fault) → IsOriginFound {A = A} records position (Err fault)
-not_found A X items records position p q (Reason why) there head place (gap, is, same) =
-    (gap, is, record { placed = p; there = there; gap_is = as_placed records p q (Err gap) head place same })
-not_found A X items records position p q (Out e) there head place is = tt
+-- the record and its place
+pub placed_is : (row : Row) (head : Reading) (place : Place) (wanted : Wanted) → place ≡ place_in row wanted → wanted ≡ head.wanted
+    → ◌≡◌ {A = PlacedRecord} (record { head = head; place = place }) (placed_by row head)
+placed_is row head place wanted at asks =
+    ap (λ (y : Place). let x : PlacedRecord = record { head = head; place = y } in x) (at ∙ ap (place_in row) asks)
+
+-- by the row of a record it is that record
+placed_as : (p : Placed) (row : Row) → row ≡ row_of p → placed_by row (reading_of p.content.fields) ≡ placed_record p
+placed_as p row same = ap (λ (r : Row). placed_by r (reading_of p.content.fields)) same
+
+pub made_found : {A : Type 0} (records : List Placed) (position : ℕ) (p : Placed) (row : Row) (answer : Result (Origin A) ReplayFault) → slice_get records position ≡ Some p → row ≡ row_of p
+    → IsOriginOf (map placed_record records) row p.content.fields answer → IsOriginFound records position answer
+made_found records position p row (Ok o) there same (http, is, joined) = record {
+  placed = p;
+  there = there;
+  http_is = http;
+  type_is = is;
+  places_are = ap (joined_places (map placed_record records)) (sym (placed_as p row same)) ∙ joined;
+}
+made_found records position p row (Err (Reason why)) there same (gap, says, joined) =
+    (gap, says, record { placed = p; there = there; gap_is = ap (joined_places (map placed_record records)) (sym (placed_as p row same)) ∙ joined })
+made_found records position p row (Err (Out e)) there same is = tt
+
+-- what isn't joined comes before anything goes out, and no read failed
+pub unjoined_early : {X : Type 0} (answer : Result X ReplayFault) → IfErr answer IsUnjoined → IfErr answer IsEarly
+unjoined_early (Ok x) is = tt
+unjoined_early (Err (Reason why)) is = tt
+unjoined_early (Err (Out e)) is = subst (λ (f : OutFault). IsEarly (Out f)) (sym is) refl
+
+pub unjoined_failed : {X : Type 0} (answer : Result X ReplayFault) (old new : ℕ) → IfErr answer IsUnjoined → new ≡ old → HasFailedBy (out_result answer) old new
+unjoined_failed (Ok x) old new is same = same
+unjoined_failed (Err (Reason why)) old new is same = same
+unjoined_failed (Err (Out e)) old new is same = subst (λ (f : OutFault). HasFailedBy {X = Unit {0}} (Err f) old new) (sym is) same
+
+pub made_placed : {A : Type 0} (all : List PlacedRecord) (row : Row) (head : Reading) (content_type : List ℕ) (answer : Result (Origin A) ReplayFault) → IsOriginBy all row head content_type answer
+    → IfOk answer (IsPlacedBy all row)
+made_placed all row head content_type (Ok o) (http, type, joined) = (head, joined)
+made_placed all row head content_type (Err fault) is = tt
+
+-- a text is the head of one record
+pub same_fields : (text : List ℕ) (r : Record) (block_len : ℕ) (says : Reading) (content_type : List ℕ) (is : IsWholeHead text block_len says content_type)
+    → head_of any_fields text ≡ Ok (record { version = r.version; fields = r.fields; len = length text; block_len = block_len }) → is.fields ≡ r.fields
+same_fields text r block_len says content_type is reads = ap (λ (h : Head). h.fields) (same_head (sym is.reads ∙ reads))
+
+-- the same head, by another name
+pub by_head : {A : Type 0} (all : List PlacedRecord) (row : Row) (answer : Result (Origin A) ReplayFault) {one other : Reading} {own own' : List ℕ} → one ≡ other → own ≡ own'
+    → IsOriginBy all row one own answer → IsOriginBy all row other own' answer
+by_head all row answer {one} {other} {own} {own'} same typed is =
+    subst (λ (t : List ℕ). IsOriginBy all row other t answer) typed (subst (λ (h : Reading). IsOriginBy all row h own answer) same is)
 
 -- what a replay answers where the origin isn't found
 pub fault_replayed : (A : Type 0) → ReasonsAreAnswers → FailsBeforeAll → PlacesAreOfRecords → (bytes : List ℕ) (records : List Placed) (found : Result Path Unfound) (path : Path) (fault : ReplayFault) (told : Option (List ℕ))
@@ -117,7 +168,7 @@ on_path times records found path {old} {new} is has =
     subst (λ (f : Result Path Unfound). ReadsOnly (IsOnPath records f) (path_reads times records f) old new) (sym is) has
 
 -- the places of an origin that is found are those of what is joined to it
-pub places_in : (bytes : List ℕ) (records : List Placed) (position : ℕ) → SpellsFrom 0 records bytes → {fields : List Pair} (items : List Place) (at : IsOriginAt records position fields items) → PlacesAreOfRecords
+pub places_in : (bytes : List ℕ) (records : List Placed) (position : ℕ) → SpellsFrom 0 records bytes → {http : Bool} {content_type : List ℕ} (items : List Place) (at : IsOriginAt records position http content_type items) → PlacesAreOfRecords
     → PlacesAreAsLong → ArePlacesIn records (slice_get records position) items
 places_in bytes records position spelled items at law long =
     let (joined, whole, places) = places_are bytes records position at.placed spelled at.there items law at.places_are in

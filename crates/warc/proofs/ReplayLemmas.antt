@@ -4,12 +4,10 @@ use Rattle.std.specs.Prelude.{Result}
 use Rattle.std.specs.List.{slice_get}
 use Rattle.std.proofs.lemmas.List.Sums.{sum_by-cons}
 use Rattle.warc_value.specs.Dates.{Instant}
-use Rattle.warc_value.specs.declared.hash.Wanted.{Wanted}
 use Rattle.warc_frame.specs.Effects.{ReadsOnly}
 use Rattle.warc_frame.proofs.EffectLemmas.{reads_none, reads_within}
 use Rattle.warc_frame.specs.Seen.{AsksOnly, Seen, SeenSource}
 use Rattle.warc_frame.specs.Send.{sent_of}
-use Rattle.warc_record.specs.Readings.{reading_of}
 use Rattle.std.proofs.lemmas.List.{length-append, length-map}
 use Rattle.std.proofs.lemmas.List.Elements.{All-cons, All-contains, All-head, All-nil, All-tail}
 use Rattle.std.specs.List.{All, cons_option, filter_map}
@@ -74,14 +72,6 @@ found_as records found path p is at joined same = record {
   joined_is = same;
 }
 
--- what a record's own head and place join is what a head and a place that are the same join
-pub as_placed : (records : List Placed) (p : Placed) (q : PlacedRecord) (joined : Result (List Place) Gap) → q.head ≡ reading_of p.content.fields → q.place ≡ place_of p
-    → joined_places (map placed_record records) q ≡ joined → joined_places (map placed_record records) (placed_record p) ≡ joined
-as_placed records p q joined head place is =
-    let by_head : ◌≡◌ {A = PlacedRecord} q (record { head = reading_of p.content.fields; place = q.place }) = ap (λ h. let x : PlacedRecord = record { head = h; place = q.place } in x) head in
-    let by_place : ◌≡◌ {A = PlacedRecord} (record { head = reading_of p.content.fields; place = q.place }) (placed_record p) = ap (λ y. let x : PlacedRecord = record { head = reading_of p.content.fields; place = y } in x) place in
-    ap (joined_places (map placed_record records)) (sym (by_head ∙ by_place)) ∙ is
-
 by_gap : (bytes : List ℕ) (r : Result (List ReadRecord) Gap) (gap : Gap) → ArePlacesJoined bytes (Err gap) r → r ≡ Err gap
 by_gap bytes (Ok records) gap is = absurd is
 by_gap bytes (Err other) gap is = ap Err (sym is)
@@ -112,15 +102,6 @@ places_for bytes records p items joined is law whole are = record {
   are = is;
   long = law bytes items joined are ∙ ap joined_len (sym whole);
 }
-
--- the place that a row and the digest that a head asks for say
-abbrev pub place_in : Row → Wanted → Place
-place_in row wanted = record { start = row.block_start; len = row.block_len; wanted = wanted; truncated = row.is_truncated }
-
--- it is the place of the row's record's block
-pub place_by_row : (p : Placed) (row : Row) (wanted : Wanted) → row ≡ row_of p → wanted ≡ (reading_of p.content.fields).wanted
-    → place_in row wanted ≡ place_of p
-place_by_row p row wanted same asks = ap (λ (r : Row). place_in r wanted) same ∙ ap (place_in (row_of p)) asks
 
 -- a head that isn't read again, as the end of an output
 pub ended_sent : (fault : RereadFault) → sent_of (ended_by fault 0) ≡ 0

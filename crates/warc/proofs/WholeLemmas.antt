@@ -206,7 +206,7 @@ pub same_begins : (head : List ℕ) (row : Row) (bytes text : List ℕ) → IsSa
     → Begins (IsText head) bytes text
 same_begins head row bytes text (rest, closed, is) = (head, rest, is, refl)
 
-same_head : {x y : Head} → ◌≡◌ {A = Result Head Fault} (Ok x) (Ok y) → x ≡ y
+pub same_head : {x y : Head} → ◌≡◌ {A = Result Head Fault} (Ok x) (Ok y) → x ≡ y
 same_head {x} {y} same = cc
 
 -- the text of a canonical head is what its record is written with

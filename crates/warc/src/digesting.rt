@@ -136,7 +136,7 @@ fn origin_digest<S: Source, A: Allocator + Copy>(
         Ok(found) => found,
         Err(fault) => return no_digest(fault),
     };
-    match digest_joined(source, &found.head.typed(), &found.places, algorithm) {
+    match digest_joined(source, found.http, &found.places, algorithm) {
         Ok(digest) => Ok(digest),
         Err(_) => Err(OutFault::Read(0)),
     }

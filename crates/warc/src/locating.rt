@@ -34,13 +34,7 @@ fn locate_on<S: Source, A: Allocator + Copy>(
     places_are_of_records();
     places_are_as_long();
     let origin = origin_at(source, rows, lookup, path.given)?;
-    locate_joined(
-        rows.allocator(),
-        source,
-        path,
-        &origin.head.typed(),
-        &origin.places,
-    )
+    locate_joined(rows.allocator(), source, path, origin.http, &origin.places)
 }
 
 /// Where the payload lies that the records of a source give for a URI as of a moment.

@@ -1,14 +1,11 @@
 //! What is stored of an origin, and where: its head is read again, and its segments are joined.
-ghost use Rattle.std.specs.Prelude.{◌≡◌};
-ghost use Rattle.warc_answer.specs.Stored.{own_type};
 ghost use Rattle.warc.specs.Looking.{Judges, Looks, SendsStored};
 
 use crate::origin::origin_at;
 use std::alloc::Allocator;
 use warc_answer::laws::places_are_as_long;
 use warc_answer::{Reason, ReplayFault, Stored, judge_joined, send_blocks};
-use warc_field::Fields;
-use warc_frame::{OutFault, Sink, Source, names};
+use warc_frame::{OutFault, Sink, Source};
 use warc_reading::{Lookup, Rows};
 use warc_segment::Place;
 use warc_segment::laws::places_are_of_records;
@@ -18,16 +15,6 @@ use warc_segment::laws::places_are_of_records;
 pub(crate) struct Look<A: Allocator> {
     pub(crate) stored: Stored<A>,
     pub(crate) places: Vec<Place, A>,
-}
-
-/// The value of a record's own `Content-Type`, empty where it has none.
-fn own_type<A: Allocator>(fields: &Fields<A>) -> &[u8]
-    ensures { result.now ≡ own_type fields.now }
-{
-    match fields.first(names::CONTENT_TYPE.as_bytes()) {
-        Some(value) => value.bytes(),
-        None => b"",
-    }
 }
 
 /// What is stored of the origin at a position.
@@ -43,8 +30,13 @@ fn look_at<S: Source, A: Allocator + Copy>(
     places_are_as_long();
     let origin = origin_at(source, rows, lookup, position)?;
     let alloc = rows.allocator();
-    let own = own_type(origin.head.fields());
-    match judge_joined(alloc, source, &origin.head.typed(), own, &origin.places) {
+    match judge_joined(
+        alloc,
+        source,
+        origin.http,
+        &origin.content_type,
+        &origin.places,
+    ) {
         Ok(stored) => Ok(Look {
             stored,
             places: origin.places,

@@ -65,7 +65,7 @@ pub(crate) fn replay_on<S: Source, W: Sink, A: Allocator + Copy>(
     places_are_of_records();
     places_are_as_long();
     let origin = origin_at(source, rows, lookup, path.given)?;
-    replay_joined(source, path, &origin.head.typed(), &origin.places, out)
+    replay_joined(source, path, origin.http, &origin.places, out)
 }
 
 /// Writes the payload that the records of a source give for a URI as of a moment.

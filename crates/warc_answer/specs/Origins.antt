@@ -3,23 +3,22 @@ use Rattle.std.specs.Prelude.{◌≡◌, ℕ, ◌+◌, ◌≤◌, Bool, List, le
 use Rattle.warc_frame.specs.Record.{Record, max_archive}
 use Rattle.warc_frame.specs.Seen.{SeenSource}
 use Rattle.warc_index.specs.declared.unfound.Unfound.{Unfound}
-use Rattle.warc_record.specs.Readings.{Reading}
 use Rattle.warc_segment.specs.Joined.{ReadRecord, ArePlacesOf}
 use Rattle.warc_segment.specs.declared.place.Place.{Place}
 use Rattle.warc_answer.specs.Laws.{IsFound}
-use Rattle.warc_answer.specs.Payloads.{read_record}
+use Rattle.warc_answer.specs.Payloads.{is_http_response, read_record}
 use Rattle.warc_answer.specs.Places.{ReadsPlaces, checked_places, len_of}
 use Rattle.warc_answer.specs.declared.answer.Path.{Path}
 
--- at the end of a path among records there is an origin whose head says this, and of the blocks that are joined to it
--- these are the places among the bytes
+-- at the end of a path among records there is an origin, which is an HTTP response or isn't, and of the blocks that are
+-- joined to it these are the places among the bytes
 pub record IsJoinedOn (bytes : List ℕ) (records : List Record) (found : Result Path Unfound) (path : Path)
-    (head : Reading) (places : List Place) : Type 0 where
+    (http : Bool) (places : List Place) : Type 0 where
   pub origin : ReadRecord
   pub joined : List ReadRecord
   pub short : length bytes ≤ max_archive
   pub leads : IsFound (map read_record records) found path origin (Ok joined)
-  pub head_is : head ≡ origin.head
+  pub http_is : http ≡ is_http_response origin.head
   pub places_are : ArePlacesOf bytes places joined
 
 -- the same of a record at the end of a path and the records that are joined to it

@@ -5,7 +5,7 @@ ghost use Rattle.warc_answer.specs.Giving.{FindsStart, HasRoom};
 ghost use Rattle.warc_answer.specs.Payloads.{is_http, is_http_response};
 
 use crate::answer::{Reason, ReplayFault};
-use crate::blocks::{any_bad, judge_blocks};
+use crate::blocks::{SHORT, any_bad, judge_blocks};
 use crate::replay::total;
 use warc_frame::{OutFault, PIECE, Source};
 use warc_payload::laws::{front_tells_head, front_tells_no_head};
@@ -33,7 +33,7 @@ fn is_http(uri: &[u8]) -> bool
 
 /// Whether a record's block begins with the head of an HTTP response: it is a response, and its target begins with
 /// `http:` or `https:`.
-pub(crate) fn is_http_response(origin: &Typed<'_>) -> bool
+pub fn is_http_response(origin: &Typed<'_>) -> bool
     ensures { result ≡ is_http_response (said origin.now) }
 {
     match (origin.kind, origin.target()) {
@@ -84,7 +84,12 @@ fn find_behind_long_head<S: Source>(
 fn find_behind_head<S: Source>(source: &mut S, places: &[Place]) -> Result<BodyStart, ReplayFault>
     ensures { FindsStart true places.now (S.seen source.old) (S.seen source.new) result }
 {
-    if total(places) > PIECE as u64 {
+    let total = total(places);
+    if total <= SHORT as u64 {
+        let mut front = [0; SHORT];
+        return start_through(source, places, &mut front);
+    }
+    if total > PIECE as u64 {
         return find_behind_long_head(source, places);
     }
     let mut front = [0; PIECE];

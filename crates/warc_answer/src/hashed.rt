@@ -252,22 +252,22 @@ fn digest_payload<S: Source>(
 
 /// The digest of the payload of an origin as it is stored: of an HTTP response the bytes after its head, else all. None
 /// if a joined block isn't what its digest says, or if an HTTP response has no HTTP head. `places` are the places of
-/// the joined blocks, as `Parts::join` gives them; `origin` is what the origin's head says. Each byte of the joined
-/// blocks is read at most twice, and none is kept.
+/// the joined blocks, as `Parts::join` gives them; `http` says whether the origin is an HTTP response. Each byte of the
+/// joined blocks is read at most twice, and none is kept.
 pub fn digest_joined<S: Source>(
     source: &mut S,
-    origin: &Typed<'_>,
+    http: bool,
     places: &[Place],
     algorithm: Algorithm,
 ) -> Result<Option<PayloadDigest>, ReadFault>
     ensures digest { IfHeld (S.seen source.old).holds (λ bytes. (content : Record) (joined : List ReadRecord) →
-        IsContentOn bytes content joined places.now → said origin.now ≡ reading_of content.fields →
+        IsContentOn bytes content joined places.now → http ≡ is_http_response (reading_of content.fields) →
         IfOk result (IsDigestBy content joined algorithm)) }
     ensures reads { ReadsPlaces places.now (len_of places.now + len_of places.now) (S.seen source.old)
         (S.seen source.new) }
     ensures fails { FailsBy (AreBlocksIn places.now) (read_result result) (S.seen source.old) (S.seen source.new) }
 {
-    digest_payload(source, is_http_response(origin), places, algorithm)
+    digest_payload(source, http, places, algorithm)
 }
 
 /// The digest of the payload in the block of a record alone, which is `len` bytes at an offset. None if the record is

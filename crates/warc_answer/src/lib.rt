@@ -12,6 +12,7 @@ mod stored;
 
 pub use answer::{Answer, Path, Reason, ReplayFault};
 pub use blocks::send_blocks;
+pub use body::is_http_response;
 pub use hashed::{PayloadDigest, digest_joined, digest_own};
 pub use located::{Located, Span, locate_joined};
 pub use replay::replay_joined;

@@ -3,7 +3,6 @@ ghost use Rattle.std.specs.Prelude.{◌≡◌, ℕ, List, length, drop, slice_ge
 ghost use Rattle.warc_frame.specs.Effects.{FailsBy};
 ghost use Rattle.warc_frame.specs.Record.{Record};
 ghost use Rattle.warc_frame.specs.Seen.{IfHeld};
-ghost use Rattle.warc_record.specs.Seen.{said};
 ghost use Rattle.warc_index.specs.declared.unfound.Unfound.{Unfound};
 ghost use Rattle.warc_answer.specs.Located.{AreInside, IsLocatedOn, spans_text};
 ghost use Rattle.warc_answer.specs.Origins.{AreBlocksIn, IsJoinedOn};
@@ -16,7 +15,6 @@ use crate::replay::begin_body;
 use std::alloc::{AllocError, Allocator, Global};
 use std::marker::Model;
 use warc_frame::{OutFault, Source};
-use warc_record::Typed;
 use warc_segment::Place;
 
 /// Bytes of a source, one after another.
@@ -91,25 +89,25 @@ fn cut_front<A: Allocator>(
 }
 
 /// Where the payload of an origin lies, and what it is. `places` are the places of the joined blocks, as
-/// `Parts::join` gives them; `origin` is what the origin's head says. Each byte of the joined blocks is read at most
-/// once, to judge their digests and to find the HTTP head. If the source changes later, the spans don't follow.
+/// `Parts::join` gives them; `http` says whether the origin is an HTTP response. Each byte of the joined blocks is read
+/// at most once, to judge their digests and to find the HTTP head. If the source changes later, the spans don't follow.
 ///
 /// It is refused as `replay_joined` is before anything is written: a reason, `Read(0)` or `Memory(0)`.
 pub fn locate_joined<S: Source, A: Allocator + Copy>(
     alloc: A,
     source: &mut S,
     path: Path,
-    origin: &Typed<'_>,
+    http: bool,
     places: &[Place],
 ) -> Result<Located<A>, ReplayFault>
     ensures located { IfHeld (S.seen source.old).holds (λ bytes. (records : List Record)
-        (found : Result Path Unfound) → IsJoinedOn bytes records found path (said origin.now) places.now →
+        (found : Result Path Unfound) → IsJoinedOn bytes records found path http places.now →
         IsLocatedOn bytes records found result) }
     ensures early { IfErr result IsEarly }
     ensures reads { ReadsPlaces places.now (len_of places.now) (S.seen source.old) (S.seen source.new) }
     ensures fails { FailsBy (AreBlocksIn places.now) (out_result result) (S.seen source.old) (S.seen source.new) }
 {
-    let begun = begin_body(source, path, origin, places)?;
+    let begun = begin_body(source, path, http, places)?;
     match cut_front(alloc, places, begun.skip) {
         Ok(spans) => Ok(Located {
             answer: begun.answer,

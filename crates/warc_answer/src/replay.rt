@@ -5,21 +5,18 @@ ghost use Rattle.warc_frame.specs.Count.{capped};
 ghost use Rattle.warc_frame.specs.Effects.{FailsBy};
 ghost use Rattle.warc_frame.specs.Record.{Record};
 ghost use Rattle.warc_frame.specs.Seen.{IfHeld};
-ghost use Rattle.warc_record.specs.Seen.{said};
 ghost use Rattle.warc_index.specs.declared.unfound.Unfound.{Unfound};
 ghost use Rattle.warc_answer.specs.Answers.{IsAnswerOn};
 ghost use Rattle.warc_answer.specs.Origins.{AreBlocksIn, IsJoinedOn, ReadsToJudge, body_reads};
-ghost use Rattle.warc_answer.specs.Payloads.{is_http_response};
 ghost use Rattle.warc_answer.specs.Places.{ReadsPlaces, len_of, text_at};
 ghost use Rattle.warc_answer.specs.Replays.{IsReplayOn, WantsNoMemory, WritesLate, given, out_result};
 ghost use Rattle.warc_answer.specs.Seen.{IsEarly};
 
 use crate::answer::{Answer, Path, Reason, ReplayFault};
 use crate::blocks::send_blocks;
-use crate::body::{find_body, is_http_response};
+use crate::body::find_body;
 use warc_frame::{Sink, Source};
 use warc_payload::laws::one_of_three;
-use warc_record::Typed;
 use warc_segment::Place;
 use warc_segment::laws::joined_has_total;
 
@@ -52,24 +49,23 @@ pub(crate) struct Begun {
 pub(crate) fn begin_body<S: Source>(
     source: &mut S,
     path: Path,
-    origin: &Typed<'_>,
+    http: bool,
     places: &[Place],
 ) -> Result<Begun, ReplayFault>
     ensures begun { IfHeld (S.seen source.old).holds (λ bytes. (records : List Record)
-        (found : Result Path Unfound) → IsJoinedOn bytes records found path (said origin.now) places.now →
+        (found : Result Path Unfound) → IsJoinedOn bytes records found path http places.now →
         IfOk result (λ b. IsAnswerOn records found (given b.answer (drop b.skip (text_at places.now bytes))))) }
     ensures refused { IfHeld (S.seen source.old).holds (λ bytes. (records : List Record)
-        (found : Result Path Unfound) → IsJoinedOn bytes records found path (said origin.now) places.now →
+        (found : Result Path Unfound) → IsJoinedOn bytes records found path http places.now →
         IfErr result (λ fault. (told : Option (List ℕ)) → IsReplayOn records found (Err fault) told told)) }
     ensures early { IfErr result IsEarly }
     ensures device { IfErr result WantsNoMemory }
-    ensures reads { ReadsToJudge (is_http_response (said origin.now)) places.now (S.seen source.old)
-        (S.seen source.new) }
+    ensures reads { ReadsToJudge http places.now (S.seen source.old) (S.seen source.new) }
     ensures fails { FailsBy (AreBlocksIn places.now) (out_result result) (S.seen source.old) (S.seen source.new) }
 {
     one_of_three();
     joined_has_total();
-    let start = find_body(source, is_http_response(origin), places)?;
+    let start = find_body(source, http, places)?;
     Ok(Begun {
         answer: Answer {
             chosen: path.chosen,
@@ -83,29 +79,28 @@ pub(crate) fn begin_body<S: Source>(
 }
 
 /// Writes the payload of an origin, and answers what it is. `places` are the places of the joined blocks, as
-/// `Parts::join` gives them; `origin` is what the origin's head says. For a reason, nothing is written. No block is
-/// kept: the joined blocks are read once to judge their digests and to find the HTTP head, and once more to write the
-/// body, through a buffer of 8,192 bytes. If the source changes in between, the body isn't what was judged.
+/// `Parts::join` gives them; `http` says whether the origin is an HTTP response. For a reason, nothing is written. No
+/// block is kept: the joined blocks are read once to judge their digests and to find the HTTP head, and once more to
+/// write the body, through a buffer of 8,192 bytes. If the source changes in between, the body isn't what was judged.
 pub fn replay_joined<S: Source, W: Sink>(
     source: &mut S,
     path: Path,
-    origin: &Typed<'_>,
+    http: bool,
     places: &[Place],
     out: &mut W,
 ) -> Result<Answer, ReplayFault>
     ensures replayed { IfHeld (S.seen source.old).holds (λ bytes. (records : List Record)
-        (found : Result Path Unfound) → IsJoinedOn bytes records found path (said origin.now) places.now →
+        (found : Result Path Unfound) → IsJoinedOn bytes records found path http places.now →
         IsReplayOn records found result (W.seen out.old).tells (W.seen out.new).tells) }
     ensures late { WritesLate result (W.seen out.old) (W.seen out.new) }
     ensures device { IfErr result WantsNoMemory }
 
     // The joined blocks alone are read, at most twice for each byte. If the origin is no HTTP response, those whose
     // digest can't be checked are read at most once.
-    ensures reads { ReadsPlaces places.now (body_reads (is_http_response (said origin.now)) places.now)
-        (S.seen source.old) (S.seen source.new) }
+    ensures reads { ReadsPlaces places.now (body_reads http places.now) (S.seen source.old) (S.seen source.new) }
     ensures fails { FailsBy (AreBlocksIn places.now) (out_result result) (S.seen source.old) (S.seen source.new) }
 {
-    let begun = begin_body(source, path, origin, places)?;
+    let begun = begin_body(source, path, http, places)?;
     send_blocks(source, places, begun.skip, out)?;
     Ok(begun.answer)
 }

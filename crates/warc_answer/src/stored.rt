@@ -5,25 +5,23 @@ ghost use Rattle.warc_frame.specs.Effects.{FailsBy};
 ghost use Rattle.warc_frame.specs.Record.{Record};
 ghost use Rattle.warc_frame.specs.Seen.{IfHeld};
 ghost use Rattle.warc_record.specs.Readings.{reading_of};
-ghost use Rattle.warc_record.specs.Seen.{said};
 ghost use Rattle.warc_segment.specs.Joined.{ReadRecord};
 ghost use Rattle.warc_answer.specs.Giving.{HasRoom, any_bad_at};
 ghost use Rattle.warc_answer.specs.Judging.{IsHeadIn, IsSaidOf, IsSeenIn};
 ghost use Rattle.warc_answer.specs.Origins.{AreBlocksIn, IsContentOn};
+ghost use Rattle.warc_answer.specs.Payloads.{is_http_response};
 ghost use Rattle.warc_answer.specs.Places.{LieIn, ReadsPlaces, len_of, text_at};
 ghost use Rattle.warc_answer.specs.Replays.{out_result};
 ghost use Rattle.warc_answer.specs.Seen.{IsEarly, IsJudged, stored_seen};
 ghost use Rattle.warc_answer.specs.Stored.{own_type};
 
 use crate::answer::{Path, Reason, ReplayFault};
-use crate::blocks::{any_bad, judge_blocks};
-use crate::body::is_http_response;
+use crate::blocks::{SHORT, any_bad, judge_blocks};
 use crate::replay::{any_truncated, total};
 use std::alloc::{Allocator, Global};
 use warc_frame::{OutFault, PIECE, Source};
 use warc_payload::laws::{front_tells_head, front_tells_no_head};
 use warc_payload::{HeadFault, MOST_HEAD_BYTES, StoredHead, media_type, read_head};
-use warc_record::Typed;
 use warc_segment::Place;
 use warc_segment::laws::joined_has_total;
 
@@ -108,7 +106,12 @@ fn find_head<S: Source, A: Allocator + Copy>(
     ensures reads { ReadsPlaces places.now (len_of places.now) (S.seen source.old) (S.seen source.new) }
     ensures fails { FailsBy (LieIn places.now) (out_result result) (S.seen source.old) (S.seen source.new) }
 {
-    if total(places) > PIECE as u64 {
+    let total = total(places);
+    if total <= SHORT as u64 {
+        let mut front = [0; SHORT];
+        return head_through(alloc, source, places, &mut front);
+    }
+    if total > PIECE as u64 {
         return find_long_head(alloc, source, places);
     }
     let mut front = [0; PIECE];
@@ -185,25 +188,25 @@ fn judge_other<S: Source, A: Allocator + Copy>(
 }
 
 /// What is stored of an origin, coded or not, or the reason why nothing is: a bad digest, or a response whose block
-/// doesn't begin with an HTTP head. `places` are the places of the joined blocks, as `Parts::join` gives them;
-/// `origin` is what the origin's head says, and `own` the value of its own `Content-Type`, empty where it has none.
-/// Each byte of the joined blocks is read at most once, to judge their digests and to find the HTTP head.
+/// doesn't begin with an HTTP head. `places` are the places of the joined blocks, as `Parts::join` gives them; `http`
+/// says whether the origin is an HTTP response, and `own` is the value of its own `Content-Type`, empty where it has
+/// none. Each byte of the joined blocks is read at most once, to judge their digests and to find the HTTP head.
 pub fn judge_joined<S: Source, A: Allocator + Copy>(
     alloc: A,
     source: &mut S,
-    origin: &Typed<'_>,
+    http: bool,
     own: &[u8],
     places: &[Place],
 ) -> Result<Stored<A>, ReplayFault>
     ensures judged { IfHeld (S.seen source.old).holds (λ bytes. (content : Record) (joined : List ReadRecord) →
-        IsContentOn bytes content joined places.now → said origin.now ≡ reading_of content.fields →
+        IsContentOn bytes content joined places.now → http ≡ is_http_response (reading_of content.fields) →
         own.now ≡ own_type content.fields → IsJudged content joined result) }
     ensures early { IfErr result IsEarly }
     ensures reads { ReadsPlaces places.now (len_of places.now) (S.seen source.old) (S.seen source.new) }
     ensures fails { FailsBy (AreBlocksIn places.now) (out_result result) (S.seen source.old) (S.seen source.new) }
 {
     joined_has_total();
-    if is_http_response(origin) {
+    if http {
         judge_http(alloc, source, places)
     } else {
         judge_other(alloc, source, own, places)

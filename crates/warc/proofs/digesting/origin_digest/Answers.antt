@@ -1,6 +1,5 @@
-use Rattle.std.proofs.Common.{Ok, refl, sym, ap, subst, ◌∙◌}
+use Rattle.std.proofs.Common.{Ok, refl, sym, subst, ◌∙◌}
 use Rattle.warc_frame.proofs.EffectLemmas.{fails_after, fails_as, fails_more}
-use Rattle.warc_record.specs.Readings.{reading_of}
 use Rattle.warc_segment.specs.Joined.{ArePlacesOf}
 use Rattle.warc_answer.specs.declared.answer.Path.{Path}
 use Rattle.warc_reading.specs.Archive.{contents}
@@ -30,7 +29,7 @@ returns-in-Ok-digest_joined g c =
             short = is.short;
             leads = found_as is.are.records (Ok path) path at.placed refl at.there (Ok joined) whole;
             places_are = subst (λ l. ArePlacesOf bytes l joined) (sym c.deref.ensures.value) places;
-          }) (c.typed.ensures ∙ ap reading_of at.fields_are));
+          }) at.http_is);
       early = tt;
       inside = λ bytes is parts.
           let stays = found.inside bytes is parts in

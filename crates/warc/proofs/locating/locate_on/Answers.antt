@@ -1,7 +1,6 @@
-use Rattle.std.proofs.Common.{Ok, sym, ap, subst, ◌∙◌, arith}
+use Rattle.std.proofs.Common.{Ok, sym, subst, ◌∙◌, arith}
 use Rattle.std.proofs.lemmas.Result.{err_from_is_err_and}
 use Rattle.warc_frame.proofs.EffectLemmas.{fails_after, fails_more}
-use Rattle.warc_record.specs.Readings.{reading_of}
 use Rattle.warc_segment.specs.Joined.{ArePlacesOf}
 use Rattle.warc_answer.specs.Payloads.{read_record}
 use Rattle.warc_reading.specs.Archive.{contents}
@@ -43,7 +42,7 @@ returns g c = λ way leads.
               joined = joined;
               short = is.short;
               leads = found_as is.are.records (way (contents is.are.records)) c.args.path at.placed (leads.is bytes is are) at.there (Ok joined) whole;
-              head_is = c.typed.ensures ∙ ap reading_of at.fields_are;
+              http_is = at.http_is;
               places_are = subst (λ l. ArePlacesOf bytes l joined) (sym c.deref.ensures.value) places;
             });
             reads =

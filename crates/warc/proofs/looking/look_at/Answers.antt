@@ -1,9 +1,7 @@
-use Rattle.std.proofs.Common.{Ok, refl, sym, ap, subst, ◌∙◌, arith}
+use Rattle.std.proofs.Common.{Ok, refl, sym, subst, ◌∙◌, arith}
 use Rattle.std.proofs.lemmas.Result.{err_from_is_err_and}
 use Rattle.warc_frame.proofs.EffectLemmas.{fails_after, fails_more}
-use Rattle.warc_record.specs.Readings.{reading_of}
 use Rattle.warc_segment.specs.Joined.{ArePlacesOf}
-use Rattle.warc_answer.specs.Stored.{own_type}
 use Rattle.warc_answer.specs.declared.answer.Path.{Path}
 use Rattle.warc_reading.specs.Archive.{contents}
 use Rattle.warc.proofs.LookLemmas.{fault_fails, gap_looked, look_failed, look_made}
@@ -41,25 +39,25 @@ returns-in-Err g c =
             path = path;
             short = is.short;
             leads = found_as is.are.records (Ok path) path at.placed refl at.there (Ok joined) whole;
-            places_are = subst (λ l. ArePlacesOf bytes l joined) (sym c.deref.ensures.value) places;
-          }) (c.typed.ensures ∙ ap reading_of at.fields_are) (c.own_type-own.ensures ∙ ap own_type (c.fields.ensures.fields ∙ at.fields_are)));
+            places_are = subst (λ l. ArePlacesOf bytes l joined) (sym c.deref-2.ensures.value) places;
+          }) at.http_is (c.deref.ensures.value ∙ at.type_is));
       reads = λ bytes held is parts. record {
         reads =
             let at = found.told bytes held is parts in
-            then_read 0 1 1 (λ n. omega arith) is.are.records _ items c.deref.result.now _ (found.reads bytes held is parts)
-            (places_in bytes is.are.records c.args.position is.are.spelled items at c.places_are_of_records.ensures c.places_are_as_long.ensures) c.deref.ensures.value (omega arith) given.reads;
+            then_read 0 1 1 (λ n. omega arith) is.are.records _ items c.deref-2.result.now _ (found.reads bytes held is parts)
+            (places_in bytes is.are.records c.args.position is.are.spelled items at c.places_are_of_records.ensures c.places_are_as_long.ensures) c.deref-2.ensures.value (omega arith) given.reads;
         places = tt;
       };
       inside = λ bytes is parts.
           let stays = found.inside bytes is parts in
-          record { asks = then_inside bytes items c.deref.result.now (g.S.Source.seen c.args.source.now) (g.S.Source.seen c.origin_at.new.source) (g.S.Source.seen c.judge_joined.new.source) found.keeps.watched stays.asks stays.ends c.deref.ensures.value given.reads.near; ends = tt };
+          record { asks = then_inside bytes items c.deref-2.result.now (g.S.Source.seen c.args.source.now) (g.S.Source.seen c.origin_at.new.source) (g.S.Source.seen c.judge_joined.new.source) found.keeps.watched stays.asks stays.ends c.deref-2.ensures.value given.reads.near; ends = tt };
       early = given.early;
       keeps = preserves_both found.keeps (record { kept = given.reads.kept; watched = given.reads.watched });
       fails = fails_after found.keeps.kept found.fails.may
           (fails_more (λ bytes held (is, parts, within).
           let at = found.told bytes (sym found.keeps.kept ∙ held) is parts in
           let (joined, whole, places) = places_are bytes is.are.records c.args.position at.placed is.are.spelled at.there items c.places_are_of_records.ensures at.places_are in
-          record { joined = joined; short = is.short; places_are = subst (λ l. ArePlacesOf bytes l joined) (sym c.deref.ensures.value) places })
+          record { joined = joined; short = is.short; places_are = subst (λ l. ArePlacesOf bytes l joined) (sym c.deref-2.ensures.value) places })
           (fault_fails (Unit {0}) (Unit {0}) c.in-Err.fault given.fails));
     }
 
@@ -80,18 +78,18 @@ returns-in-Ok g c =
             path = path;
             short = is.short;
             leads = found_as is.are.records (Ok path) path at.placed refl at.there (Ok joined) whole;
-            places_are = subst (λ l. ArePlacesOf bytes l joined) (sym c.deref.ensures.value) places;
-          }) (c.typed.ensures ∙ ap reading_of at.fields_are) (c.own_type-own.ensures ∙ ap own_type (c.fields.ensures.fields ∙ at.fields_are)));
+            places_are = subst (λ l. ArePlacesOf bytes l joined) (sym c.deref-2.ensures.value) places;
+          }) at.http_is (c.deref.ensures.value ∙ at.type_is));
       reads = λ bytes held is parts.
           let at = found.told bytes held is parts in
           let places = places_in bytes is.are.records c.args.position is.are.spelled items at c.places_are_of_records.ensures c.places_are_as_long.ensures in
           record {
-            reads = then_read 0 1 1 (λ n. omega arith) is.are.records _ items c.deref.result.now _ (found.reads bytes held is parts) places c.deref.ensures.value (omega arith) given.reads;
+            reads = then_read 0 1 1 (λ n. omega arith) is.are.records _ items c.deref-2.result.now _ (found.reads bytes held is parts) places c.deref-2.ensures.value (omega arith) given.reads;
             places = places;
           };
       inside = λ bytes is parts.
           let stays = found.inside bytes is parts in
-          record { asks = then_inside bytes items c.deref.result.now (g.S.Source.seen c.args.source.now) (g.S.Source.seen c.origin_at.new.source) (g.S.Source.seen c.judge_joined.new.source) found.keeps.watched stays.asks stays.ends c.deref.ensures.value given.reads.near; ends = stays.ends };
+          record { asks = then_inside bytes items c.deref-2.result.now (g.S.Source.seen c.args.source.now) (g.S.Source.seen c.origin_at.new.source) (g.S.Source.seen c.judge_joined.new.source) found.keeps.watched stays.asks stays.ends c.deref-2.ensures.value given.reads.near; ends = stays.ends };
       early = tt;
       keeps = preserves_both found.keeps (record { kept = given.reads.kept; watched = given.reads.watched });
       fails = record { may = given.fails.may ∙ found.fails.may; failed = λ bytes held is. given.fails.may ∙ found.fails.may };

@@ -1,10 +1,8 @@
-use Rattle.std.proofs.Common.{Ok, sym, ap, subst, ◌∙◌, arith}
+use Rattle.std.proofs.Common.{Ok, sym, subst, ◌∙◌, arith}
 use Rattle.std.proofs.lemmas.Result.{err_from_is_err_and}
 use Rattle.warc_frame.proofs.EffectLemmas.{fails_after, fails_more}
-use Rattle.warc_record.specs.Readings.{reading_of}
-use Rattle.warc_record.specs.Seen.{said}
 use Rattle.warc_segment.specs.Joined.{ArePlacesOf}
-use Rattle.warc_answer.specs.Payloads.{is_http_response, read_record}
+use Rattle.warc_answer.specs.Payloads.{read_record}
 use Rattle.warc_answer.proofs.GiveLemmas.{early_late}
 use Rattle.warc_answer.proofs.JudgeLemmas.{body_within}
 use Rattle.warc_reading.specs.Archive.{contents}
@@ -43,7 +41,7 @@ returns g c = λ way leads.
             joined = joined;
             short = is.short;
             leads = found_as is.are.records (way (contents is.are.records)) c.args.path at.placed (leads.is bytes is are) at.there (Ok joined) whole;
-            head_is = c.typed.ensures ∙ ap reading_of at.fields_are;
+            http_is = at.http_is;
             places_are = subst (λ l. ArePlacesOf bytes l joined) (sym c.deref.ensures.value) places;
           });
       reads = λ bytes held is are.
@@ -51,7 +49,7 @@ returns g c = λ way leads.
           let places = places_in bytes is.are.records c.args.path.given is.are.spelled items at c.places_are_of_records.ensures c.places_are_as_long.ensures in
           on_path 2 is.are.records _ c.args.path (leads.is bytes is are)
           (then_read 0 2 2 (λ n. omega arith) is.are.records _ items c.deref.result.now _ (found.reads bytes held is are.parts_are) places c.deref.ensures.value
-          (body_within (is_http_response (said c.typed.result)) c.deref.result.now) given.reads);
+          (body_within c.in_ok-origin.origin.http c.deref.result.now) given.reads);
       inside = λ bytes (is, are).
           let stays = found.inside bytes is are.parts_are in
           then_inside bytes items c.deref.result.now (g.S.Source.seen c.args.source.now) (g.S.Source.seen c.origin_at.new.source) (g.S.Source.seen c.replay_joined.new.source) found.keeps.watched stays.asks stays.ends c.deref.ensures.value given.reads.near;

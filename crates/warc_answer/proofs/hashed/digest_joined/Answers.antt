@@ -1,6 +1,3 @@
-use Rattle.std.proofs.Common.{ap, ◌∙◌}
-use Rattle.warc_record.specs.Readings.{Reading}
-use Rattle.warc_answer.specs.Payloads.{is_http_response}
 use Rattle.warc_frame.proofs.EffectLemmas.{fails_more}
 use Rattle.warc_answer.proofs.GiveLemmas.{blocks_lie, places_lie}
 use Rattle.warc_answer.proofs.HashedLemmas.{digest_by_records, ok_more}
@@ -10,7 +7,7 @@ pub returns-clause-digest : goal.returns-clause-digest
 returns-clause-digest g c = λ bytes held content joined is says.
     let places = c.args.places.now in
     ok_more _ (λ digest in_. digest_by_records bytes content joined places _ c.args.algorithm digest is.places_are
-    (c.is_http_response.ensures ∙ ap (λ (h : Reading). is_http_response h) says) in_)
+    says in_)
     (c.digest_payload.ensures.digest bytes held (places_lie bytes places joined is.short is.places_are))
 
 pub returns-clause-fails : goal.returns-clause-fails

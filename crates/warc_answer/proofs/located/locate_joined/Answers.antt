@@ -2,8 +2,6 @@ use Rattle.std.proofs.Common.{sym, subst}
 use Rattle.std.proofs.lemmas.Result.{err_from_is_err_and}
 use Rattle.warc_answer.proofs.GiveLemmas.{fails_of_fault, none_out, places_lie}
 use Rattle.warc_answer.proofs.JudgeLemmas.{reads_once}
-use Rattle.warc_record.specs.Seen.{said}
-use Rattle.warc_answer.specs.Payloads.{is_http_response}
 use Rattle.warc_answer.specs.Answers.{IsAnswerOn}
 use Rattle.warc_answer.specs.Replays.{given}
 use Rattle.warc_answer.specs.declared.replay.Begun.{Begun}
@@ -26,13 +24,13 @@ returns-in_err-begun-clause-fails g c =
     rw (p.1, p.2) (fails_of_fault Begun Location c.in_err-begun.field-0.0 c.in_err-begun.ensures.fails)
 
 pub returns-in_err-begun-clause-reads : goal.returns-in_err-begun-clause-reads
-returns-in_err-begun-clause-reads g c = reads_once (is_http_response (said c.args.origin.now)) c.args.places.now c.in_err-begun.ensures.reads
+returns-in_err-begun-clause-reads g c = reads_once c.args.http c.args.places.now c.in_err-begun.ensures.reads
 
 pub returns-in-Ok-clause-reads : goal.returns-in-Ok-clause-reads
-returns-in-Ok-clause-reads g c = reads_once (is_http_response (said c.args.origin.now)) c.args.places.now c.in_ok-begun.ensures.reads
+returns-in-Ok-clause-reads g c = reads_once c.args.http c.args.places.now c.in_ok-begun.ensures.reads
 
 pub returns-in-Err-clause-reads : goal.returns-in-Err-clause-reads
-returns-in-Err-clause-reads g c = reads_once (is_http_response (said c.args.origin.now)) c.args.places.now c.in_ok-begun.ensures.reads
+returns-in-Err-clause-reads g c = reads_once c.args.http c.args.places.now c.in_ok-begun.ensures.reads
 
 pub returns-in-Ok-clause-located : goal.returns-in-Ok-clause-located
 returns-in-Ok-clause-located g c = λ bytes held records found is.

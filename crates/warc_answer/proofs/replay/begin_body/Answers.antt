@@ -1,8 +1,7 @@
-use Rattle.std.proofs.Common.{◌≡◌, ◌≤◌, length, length-drop, drop, ap, ◌∙◌, arith}
+use Rattle.std.proofs.Common.{◌≡◌, ◌≤◌, length, length-drop, drop, ap, arith}
 use Rattle.std.proofs.lemmas.Result.{err_from_is_err_and}
 use Rattle.warc_frame.specs.Record.{max_archive}
-use Rattle.warc_record.specs.Readings.{Reading}
-use Rattle.warc_answer.specs.Payloads.{is_http_response, whole_block}
+use Rattle.warc_answer.specs.Payloads.{whole_block}
 use Rattle.warc_answer.specs.Places.{len_of, text_at}
 use Rattle.warc_answer.specs.declared.body.BodyStart.{BodyStart}
 use Rattle.warc_answer.specs.declared.replay.Begun.{Begun}
@@ -14,10 +13,8 @@ returns-in_err-start-clause-refused g c =
     let p = err_from_is_err_and c.from_residual.result c.from_residual.ensures.1 in
     rw (p.1, p.2) (λ bytes held records way is told.
     let places = c.args.places.now in
-    let http : c.is_http_response.result ≡ is_http_response is.origin.head =
-    c.is_http_response.ensures ∙ ap (λ (h : Reading). is_http_response h) is.head_is in
     replay_of_none c.one_of_three.ensures bytes records way c.args.path is.origin is.joined places told
-    c.is_http_response.result c.in_err-start.field-0.0 is.leads is.places_are http
+    c.args.http c.in_err-start.field-0.0 is.leads is.places_are is.http_is
     (c.in_err-start.ensures.begun bytes held (places_lie bytes places is.joined is.short is.places_are)))
 
 pub returns-in_err-start-clause-early : goal.returns-in_err-start-clause-early
@@ -35,13 +32,11 @@ returns-clause-begun g c = λ bytes held records way is.
     let places = c.args.places.now in
     let start = c.in_ok-start.start in
     let lie = places_lie bytes places is.joined is.short is.places_are in
-    let http : c.is_http_response.result ≡ is_http_response is.origin.head =
-    c.is_http_response.ensures ∙ ap (λ (h : Reading). is_http_response h) is.head_is in
     let text : text_at places bytes ≡ whole_block is.joined = places_text bytes places is.joined is.places_are in
     let fits : len_of places ≤ max_archive =
     joined_short c.joined_has_total.ensures bytes records way c.args.path is.origin is.joined places is.short is.leads is.places_are in
     let len : c.saturating_sub.result ≡ length (drop start.skip (text_at places bytes)) =
     omega (arith, c.saturating_sub.ensures, c.total.ensures, places_len bytes places is.joined is.places_are, ap length text, length-drop start.skip (text_at places bytes)) in
-    answer_of_body bytes records way c.args.path is.origin is.joined places c.is_http_response.result start
-    c.any_truncated.result c.saturating_sub.result is.leads is.places_are http
+    answer_of_body bytes records way c.args.path is.origin is.joined places c.args.http start
+    c.any_truncated.result c.saturating_sub.result is.leads is.places_are is.http_is
     (c.in_ok-start.ensures.begun bytes held lie) c.any_truncated.ensures len

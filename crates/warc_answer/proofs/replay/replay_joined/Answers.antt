@@ -1,8 +1,6 @@
 use Rattle.std.proofs.Common.{refl, ◌∙◌}
 use Rattle.std.proofs.lemmas.Result.{err_from_is_err_and}
 use Rattle.warc_frame.proofs.EffectLemmas.{fails_after, fails_more}
-use Rattle.warc_record.specs.Seen.{said}
-use Rattle.warc_answer.specs.Payloads.{is_http_response}
 use Rattle.warc_answer.specs.declared.answer.Answer.{Answer}
 use Rattle.warc_answer.specs.declared.replay.Begun.{Begun}
 use Rattle.warc_answer.proofs.GiveLemmas.{blocks_lie, early_late, fails_of_fault, places_lie}
@@ -21,7 +19,7 @@ returns-in_err-begun-clause-late g c =
     rw (p.1, p.2) (early_late c.in_err-begun.field-0.0 (g.W.Sink.seen c.args.out.now) c.in_err-begun.ensures.early)
 
 pub returns-in_err-begun-clause-reads : goal.returns-in_err-begun-clause-reads
-returns-in_err-begun-clause-reads g c = reads_front (is_http_response (said c.args.origin.now)) c.args.places.now c.in_err-begun.ensures.reads
+returns-in_err-begun-clause-reads g c = reads_front c.args.http c.args.places.now c.in_err-begun.ensures.reads
 
 pub returns-in_err-begun-clause-fails : goal.returns-in_err-begun-clause-fails
 returns-in_err-begun-clause-fails g c =
@@ -32,13 +30,13 @@ pub returns-clause-replayed : goal.returns-clause-replayed
 returns-clause-replayed g c = λ bytes held records way is. (
   _,
   c.in_ok-begun.ensures.begun bytes held records way is,
-  c.in_ok-send_blocks.ensures.sends.out bytes _ ((reads_once (is_http_response (said c.args.origin.now)) c.args.places.now c.in_ok-begun.ensures.reads).kept ∙ held)
+  c.in_ok-send_blocks.ensures.sends.out bytes _ ((reads_once c.args.http c.args.places.now c.in_ok-begun.ensures.reads).kept ∙ held)
       (places_lie bytes c.args.places.now is.joined is.short is.places_are, refl),
 )
 
 pub returns-clause-reads : goal.returns-clause-reads
 returns-clause-reads g c =
-    reads_body (is_http_response (said c.args.origin.now)) c.args.places.now c.in_ok-begun.ensures.reads c.in_ok-send_blocks.ensures.reads
+    reads_body c.args.http c.args.places.now c.in_ok-begun.ensures.reads c.in_ok-send_blocks.ensures.reads
 
 pub returns-in_err-send_blocks-clause-replayed : goal.returns-in_err-send_blocks-clause-replayed
 returns-in_err-send_blocks-clause-replayed g c =
@@ -46,17 +44,17 @@ returns-in_err-send_blocks-clause-replayed g c =
     rw (p.1, p.2) (λ bytes held records way is. (
       _,
       c.in_ok-begun.ensures.begun bytes held records way is,
-      c.in_err-send_blocks.ensures.sends.cut bytes _ ((reads_once (is_http_response (said c.args.origin.now)) c.args.places.now c.in_ok-begun.ensures.reads).kept ∙ held)
+      c.in_err-send_blocks.ensures.sends.cut bytes _ ((reads_once c.args.http c.args.places.now c.in_ok-begun.ensures.reads).kept ∙ held)
           (places_lie bytes c.args.places.now is.joined is.short is.places_are, refl),
     ))
 
 pub returns-in_err-send_blocks-clause-reads : goal.returns-in_err-send_blocks-clause-reads
 returns-in_err-send_blocks-clause-reads g c =
-    reads_body (is_http_response (said c.args.origin.now)) c.args.places.now c.in_ok-begun.ensures.reads c.in_err-send_blocks.ensures.reads
+    reads_body c.args.http c.args.places.now c.in_ok-begun.ensures.reads c.in_err-send_blocks.ensures.reads
 
 pub returns-in_err-send_blocks-clause-fails : goal.returns-in_err-send_blocks-clause-fails
 returns-in_err-send_blocks-clause-fails g c =
     let p = err_from_is_err_and c.from_residual-in_err-send_blocks.result c.from_residual-in_err-send_blocks.ensures.1 in
     rw (p.1, p.2)
-    (fails_after (reads_once (is_http_response (said c.args.origin.now)) c.args.places.now c.in_ok-begun.ensures.reads).kept c.in_ok-begun.ensures.fails.may
+    (fails_after (reads_once c.args.http c.args.places.now c.in_ok-begun.ensures.reads).kept c.in_ok-begun.ensures.fails.may
     (fails_more (λ bytes held are. (_, (blocks_lie bytes c.args.places.now are, refl))) c.in_err-send_blocks.ensures.sends.fails))
