@@ -38,6 +38,7 @@ HashesInto (hashing.Sha512 state) by taken = (by ≡ algorithm.Sha512) × Holds5
 abbrev pub HasherHasTaken : Hasher → Algorithm → List ℕ → Type 0
 HasherHasTaken hasher by taken = HashesInto hasher.hashing by taken
 
+-- the verdict on a block by a digest, if there is one
 abbrev pub verdict_if_stated : Option (Algorithm × List ℕ) → List ℕ → Verdict
 verdict_if_stated None block = Unchecked
 verdict_if_stated (Some (by, bytes)) block = if bytes_eq bytes (block_hash by block) then Good else Bad

@@ -1,8 +1,8 @@
 //! Blocks that are hashed as they come, and compared with the digests that heads state.
-ghost use Rattle.std.specs.Prelude.{◌≡◌, ℕ, List, [], ◌++◌, is_some, if◌then◌else◌};
+ghost use Rattle.std.specs.Prelude.{◌≡◌, ℕ, List, [], ◌++◌, Some, is_some, if◌then◌else◌};
 ghost use Rattle.warc_value.specs.declared.hash.Verdict.TheVariants.{Good, Bad};
 ghost use Rattle.warc_fixity.specs.Decoded.{stated_digest};
-ghost use Rattle.warc_fixity.specs.Judged.{stated_verdict};
+ghost use Rattle.warc_fixity.specs.Judged.{digest_seen, stated_verdict, verdict_if_stated};
 
 use crate::hashing::{Digest, Hasher};
 use warc_value::Verdict;
@@ -12,6 +12,17 @@ fn verdict_if(equal: bool) -> Verdict
     ensures { result ≡ (if equal then Good else Bad) }
 {
     if equal { Verdict::Good } else { Verdict::Bad }
+}
+
+impl Digest {
+    /// The verdict on a block by this digest.
+    pub fn verdict_on(&self, block: &[u8]) -> Verdict
+        ensures { result ≡ verdict_if_stated (Some (digest_seen self.now)) block.now }
+    {
+        let mut hasher = Hasher::new(self.algorithm());
+        hasher.update(block);
+        verdict_if(self.is_same(&hasher.finish()))
+    }
 }
 
 /// One block that is hashed as its pieces come, for the digest that a value states.
@@ -69,7 +80,8 @@ impl Judge {
 pub fn stated_verdict(value: &[u8], block: &[u8]) -> Verdict
     ensures { result ≡ stated_verdict value.now block.now }
 {
-    let mut judge = Judge::new(value);
-    judge.update(block);
-    judge.verdict()
+    match Digest::stated(value) {
+        Some(digest) => digest.verdict_on(block),
+        None => Verdict::Unchecked,
+    }
 }
