@@ -1,10 +1,10 @@
 -- Blocks that wait until they are hashed.
-use Rattle.std.proofs.Common.{◌≡◌, ℕ, ◌≤◌, Bool, List, [], ◌∷◌, ◌++◌, ◌+◌, length, take, drop, slice_range, append_assoc, length-append, refl, sym, ap, ◌∙◌, arith}
+use Rattle.std.proofs.Common.{◌≡◌, ℕ, ◌≤◌, List, [], ◌∷◌, ◌++◌, ◌+◌, length, take, drop, slice_range, append_assoc, length-append, refl, sym, ap, ◌∙◌, arith}
 use Rattle.std.proofs.Math.Seq.{drop-append_seam, take-append_seam}
 use Rattle.std.proofs.lemmas.List.{length-take-le, map-append}
 use Rattle.sha1.specs.Sha1.{sha1}
-use Rattle.warc_value.specs.Digests.{is_bad}
-use Rattle.warc_checking.specs.Batch.{AreKeptIn, IsKeptIn, are_bad_in, is_bad_in, verdict_with}
+use Rattle.warc_value.specs.declared.hash.Verdict.{Verdict}
+use Rattle.warc_checking.specs.Batch.{AreKeptIn, IsKeptIn, verdict_in, verdict_with, verdicts_in}
 use Rattle.warc_checking.specs.declared.batch.Waiting.{Waiting}
 use Rattle.warc_checking.proofs.OwnFindingLemmas.{all_more, slice_behind, slice_front}
 
@@ -18,13 +18,13 @@ bytes_more used len all buf rest le is =
     ∙ take-append_seam (front ++ buf) rest
 
 -- the bytes of further blocks change nothing of the blocks that wait
-bad_stay : (blocks more : List ℕ) (ws : List Waiting) → AreKeptIn (length blocks) ws
-    → are_bad_in (blocks ++ more) ws ≡ are_bad_in blocks ws
-bad_stay blocks more [] all = refl
-bad_stay blocks more (w ∷ ws) (here, all) =
-    ap (λ l. is_bad (verdict_with w.check (sha1 l)) ∷ are_bad_in (blocks ++ more) ws)
+verdicts_stay : (blocks more : List ℕ) (ws : List Waiting) → AreKeptIn (length blocks) ws
+    → verdicts_in (blocks ++ more) ws ≡ verdicts_in blocks ws
+verdicts_stay blocks more [] all = refl
+verdicts_stay blocks more (w ∷ ws) (here, all) =
+    ap (λ l. verdict_with w.check (sha1 l) ∷ verdicts_in (blocks ++ more) ws)
     (slice_front w.start w.end blocks more here.order here.end)
-    ∙ ap (λ l. is_bad_in blocks w ∷ l) (bad_stay blocks more ws all)
+    ∙ ap (λ l. verdict_in blocks w ∷ l) (verdicts_stay blocks more ws all)
 
 kept_longer : (a b : ℕ) (ws : List Waiting) → a ≤ b → AreKeptIn a ws → AreKeptIn b ws
 kept_longer a b [] le all = tt
@@ -40,8 +40,8 @@ module _ (old new more : List ℕ) (ws : List Waiting) (is : new ≡ old ++ more
   pub kept_still : AreKeptIn (length new) ws
   kept_still = kept_longer (length old) (length new) ws (omega (arith, longer)) kept
 
-  pub bad_still : are_bad_in new ws ≡ are_bad_in old ws
-  bad_still = ap (λ l. are_bad_in l ws) is ∙ bad_stay old more ws kept
+  pub verdicts_still : verdicts_in new ws ≡ verdicts_in old ws
+  verdicts_still = ap (λ l. verdicts_in l ws) is ∙ verdicts_stay old more ws kept
 
   module _ (w : Waiting) (start : w.start ≡ length old) (end : w.end ≡ length new) where
     pub kept_more : AreKeptIn (length new) (ws ++ w ∷ [])
@@ -49,14 +49,14 @@ module _ (old new more : List ℕ) (ws : List Waiting) (is : new ≡ old ++ more
         all_more (IsKeptIn (length new)) ws w kept_still
         (record { order = omega (arith, start, end, longer); end = omega (arith, end) })
 
-    last : is_bad_in new w ≡ is_bad (verdict_with w.check (sha1 (drop (length old) new)))
+    last : verdict_in new w ≡ verdict_with w.check (sha1 (drop (length old) new))
     last =
         let here = ap (λ l. slice_range l w.start w.end) is ∙ slice_behind w.start w.end old more start (end ∙ ap length is) in
         let there = ap (drop (length old)) is ∙ drop-append_seam old more in
-        ap (λ l. is_bad (verdict_with w.check (sha1 l))) (here ∙ sym there)
+        ap (λ l. verdict_with w.check (sha1 l)) (here ∙ sym there)
 
-    pub bad_more : (bad : Bool) → is_bad (verdict_with w.check (sha1 (drop (length old) new))) ≡ bad
-        → are_bad_in new (ws ++ w ∷ []) ≡ are_bad_in old ws ++ bad ∷ []
-    bad_more bad found =
-        map-append (is_bad_in new) ws (w ∷ []) ∙ ap (λ l. l ++ is_bad_in new w ∷ []) bad_still
-        ∙ ap (λ b. are_bad_in old ws ++ b ∷ []) (last ∙ found)
+    pub verdicts_more : (verdict : Verdict) → verdict_with w.check (sha1 (drop (length old) new)) ≡ verdict
+        → verdicts_in new (ws ++ w ∷ []) ≡ verdicts_in old ws ++ verdict ∷ []
+    verdicts_more verdict found =
+        map-append (verdict_in new) ws (w ∷ []) ∙ ap (λ l. l ++ verdict_in new w ∷ []) verdicts_still
+        ∙ ap (λ v. verdicts_in old ws ++ v ∷ []) (last ∙ found)

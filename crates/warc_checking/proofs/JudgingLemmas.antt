@@ -3,6 +3,8 @@ use Rattle.std.proofs.Common.{◌≡◌, ℕ, zero, suc, ◌+◌, ◌-◌, ◌<�
 use Rattle.std.specs.Prelude.{IfSome}
 use Rattle.std.proofs.lemmas.List.{drop-append-le, length-drop, length-take-le, map-append, take-append-drop, take-append-le}
 use Rattle.warc_field.specs.Area.{Pair}
+use Rattle.warc_value.specs.Digests.{is_bad}
+use Rattle.warc_value.specs.declared.hash.Verdict.{Verdict}
 use Rattle.warc_record.specs.Findings.{SeenFinding, findings_of}
 use Rattle.warc_frame.specs.Reading.{Head, any_fields, head_of}
 use Rattle.warc_quick.specs.PlainFindings.{AreFindings, all_plain}
@@ -17,48 +19,48 @@ found_by_none : (fs : List Found) → each_found_by fs [] ≡ fs
 found_by_none [] = refl
 found_by_none (f ∷ fs) = refl
 
-each_more : (fs : List Found) (bads : List Bool) (f : Found) (bad : Bool) → length fs ≡ length bads
-    → each_found_by (fs ++ f ∷ []) (bads ++ bad ∷ []) ≡ each_found_by fs bads ++ found_by f bad ∷ []
-each_more [] [] f bad same = refl
-each_more [] (b ∷ bs) f bad same = absurd (omega (arith, same))
-each_more (x ∷ xs) [] f bad same = absurd (omega (arith, same))
-each_more (x ∷ xs) (b ∷ bs) f bad same = ap (λ l. found_by x b ∷ l) (each_more xs bs f bad (omega (arith, same)))
+each_more : (fs : List Found) (vs : List Verdict) (f : Found) (v : Verdict) → length fs ≡ length vs
+    → each_found_by (fs ++ f ∷ []) (vs ++ v ∷ []) ≡ each_found_by fs vs ++ found_by f (is_bad v) ∷ []
+each_more [] [] f v same = refl
+each_more [] (w ∷ ws) f v same = absurd (omega (arith, same))
+each_more (x ∷ xs) [] f v same = absurd (omega (arith, same))
+each_more (x ∷ xs) (w ∷ ws) f v same = ap (λ l. found_by x (is_bad w) ∷ l) (each_more xs ws f v (omega (arith, same)))
 
 -- one more record waits
-pub settled_more : (found : List Found) (bads : List Bool) (f : Found) (bad : Bool) → length bads ≤ length found
-    → settled (found ++ f ∷ []) (bads ++ bad ∷ []) ≡ settled found bads ++ found_by f bad ∷ []
-settled_more found bads f bad le =
-    let n = length found - length bads in
-    let first : length (found ++ f ∷ []) - length (bads ++ bad ∷ []) ≡ n =
-    omega (arith, length-append found (f ∷ []), length-append bads (bad ∷ [])) in
-    let waiting : length (drop n found) ≡ length bads = omega (arith, length-drop n found, le) in
-    ap (λ k. take k (found ++ f ∷ []) ++ each_found_by (drop k (found ++ f ∷ [])) (bads ++ bad ∷ [])) first
-    ∙ ap (λ l. l ++ each_found_by (drop n (found ++ f ∷ [])) (bads ++ bad ∷ [])) (take-append-le n found (f ∷ []) (omega arith))
-    ∙ ap (λ l. take n found ++ each_found_by l (bads ++ bad ∷ [])) (drop-append-le n found (f ∷ []) (omega arith))
-    ∙ ap (λ l. take n found ++ l) (each_more (drop n found) bads f bad waiting)
-    ∙ sym (append_assoc (take n found) (each_found_by (drop n found) bads) (found_by f bad ∷ []))
+pub settled_more : (found : List Found) (vs : List Verdict) (f : Found) (v : Verdict) → length vs ≤ length found
+    → settled (found ++ f ∷ []) (vs ++ v ∷ []) ≡ settled found vs ++ found_by f (is_bad v) ∷ []
+settled_more found vs f v le =
+    let n = length found - length vs in
+    let first : length (found ++ f ∷ []) - length (vs ++ v ∷ []) ≡ n =
+    omega (arith, length-append found (f ∷ []), length-append vs (v ∷ [])) in
+    let waiting : length (drop n found) ≡ length vs = omega (arith, length-drop n found, le) in
+    ap (λ k. take k (found ++ f ∷ []) ++ each_found_by (drop k (found ++ f ∷ [])) (vs ++ v ∷ [])) first
+    ∙ ap (λ l. l ++ each_found_by (drop n (found ++ f ∷ [])) (vs ++ v ∷ [])) (take-append-le n found (f ∷ []) (omega arith))
+    ∙ ap (λ l. take n found ++ each_found_by l (vs ++ v ∷ [])) (drop-append-le n found (f ∷ []) (omega arith))
+    ∙ ap (λ l. take n found ++ l) (each_more (drop n found) vs f v waiting)
+    ∙ sym (append_assoc (take n found) (each_found_by (drop n found) vs) (found_by f (is_bad v) ∷ []))
 
-each_len : (fs : List Found) (bads : List Bool) → length (each_found_by fs bads) ≡ length fs
-each_len [] bads = refl
+each_len : (fs : List Found) (vs : List Verdict) → length (each_found_by fs vs) ≡ length fs
+each_len [] vs = refl
 each_len (f ∷ fs) [] = refl
-each_len (f ∷ fs) (b ∷ bs) = ap (λ n. suc n) (each_len fs bs)
+each_len (f ∷ fs) (v ∷ vs) = ap (λ n. suc n) (each_len fs vs)
 
 -- marking one more record, and the last ones so far
-each_marked : (fs : List Found) (bads : List Bool) (i : ℕ) (d : Bool) → i < length bads → get_or bads i d ≡ true
-    → mark_at (each_found_by fs (take i bads)) i ≡ each_found_by fs (take (suc i) bads)
-each_marked [] bads i d lt is = refl
+each_marked : (fs : List Found) (vs : List Verdict) (i : ℕ) (d : Verdict) → i < length vs → is_bad (get_or vs i d) ≡ true
+    → mark_at (each_found_by fs (take i vs)) i ≡ each_found_by fs (take (suc i) vs)
+each_marked [] vs i d lt is = refl
 each_marked (f ∷ fs) [] i d lt is = absurd (omega (arith, lt))
-each_marked (f ∷ fs) (b ∷ bs) zero d lt is =
+each_marked (f ∷ fs) (v ∷ vs) zero d lt is =
     sym (ap (λ c. found_by f c ∷ each_found_by fs []) is ∙ ap (λ l. with_bad f ∷ l) (found_by_none fs))
-each_marked (f ∷ fs) (b ∷ bs) (suc i) d lt is = ap (λ l. found_by f b ∷ l) (each_marked fs bs i d (omega (arith, lt)) is)
+each_marked (f ∷ fs) (v ∷ vs) (suc i) d lt is = ap (λ l. found_by f (is_bad v) ∷ l) (each_marked fs vs i d (omega (arith, lt)) is)
 
-each_left : (fs : List Found) (bads : List Bool) (i : ℕ) (d : Bool) → i < length bads → get_or bads i d ≡ false
-    → each_found_by fs (take i bads) ≡ each_found_by fs (take (suc i) bads)
-each_left [] bads i d lt is = refl
+each_left : (fs : List Found) (vs : List Verdict) (i : ℕ) (d : Verdict) → i < length vs → is_bad (get_or vs i d) ≡ false
+    → each_found_by fs (take i vs) ≡ each_found_by fs (take (suc i) vs)
+each_left [] vs i d lt is = refl
 each_left (f ∷ fs) [] i d lt is = absurd (omega (arith, lt))
-each_left (f ∷ fs) (b ∷ bs) zero d lt is =
+each_left (f ∷ fs) (v ∷ vs) zero d lt is =
     sym (ap (λ c. found_by f c ∷ each_found_by fs []) is ∙ ap (λ l. f ∷ l) (found_by_none fs))
-each_left (f ∷ fs) (b ∷ bs) (suc i) d lt is = ap (λ l. found_by f b ∷ l) (each_left fs bs i d (omega (arith, lt)) is)
+each_left (f ∷ fs) (v ∷ vs) (suc i) d lt is = ap (λ l. found_by f (is_bad v) ∷ l) (each_left fs vs i d (omega (arith, lt)) is)
 
 mark_behind : (before after : List Found) (i place : ℕ) → place ≡ length before + i
     → mark_at (before ++ after) place ≡ before ++ mark_at after i
@@ -67,29 +69,29 @@ mark_behind (x ∷ xs) after i zero is = absurd (omega (arith, is))
 mark_behind (x ∷ xs) after i (suc place) is = ap (λ l. x ∷ l) (mark_behind xs after i place (omega (arith, is)))
 
 -- the records before a place, and those after it, of which the first ones are marked
-abbrev pub marked_from : List Found → ℕ → List Bool → List Found
-marked_from found place bads = take place found ++ each_found_by (drop place found) bads
+abbrev pub marked_from : List Found → ℕ → List Verdict → List Found
+marked_from found place verdicts = take place found ++ each_found_by (drop place found) verdicts
 
 pub marked_first : (found : List Found) (place : ℕ) → marked_from found place [] ≡ found
 marked_first found place = ap (λ l. take place found ++ l) (found_by_none (drop place found)) ∙ take-append-drop place found
 
-pub marked_more : (found : List Found) (place i : ℕ) (bads : List Bool) (d : Bool) → place ≤ length found → i < length bads
-    → get_or bads i d ≡ true → mark_at (marked_from found place (take i bads)) (place + i) ≡ marked_from found place (take (i + 1) bads)
-marked_more found place i bads d le lt is =
-    mark_behind (take place found) (each_found_by (drop place found) (take i bads)) i (place + i) (omega (arith, length-take-le place found le))
-    ∙ ap (λ l. take place found ++ l) (each_marked (drop place found) bads i d lt is)
-    ∙ ap (λ n. marked_from found place (take n bads)) (sym (add-one i))
+pub marked_more : (found : List Found) (place i : ℕ) (vs : List Verdict) (d : Verdict) → place ≤ length found → i < length vs
+    → is_bad (get_or vs i d) ≡ true → mark_at (marked_from found place (take i vs)) (place + i) ≡ marked_from found place (take (i + 1) vs)
+marked_more found place i vs d le lt is =
+    mark_behind (take place found) (each_found_by (drop place found) (take i vs)) i (place + i) (omega (arith, length-take-le place found le))
+    ∙ ap (λ l. take place found ++ l) (each_marked (drop place found) vs i d lt is)
+    ∙ ap (λ n. marked_from found place (take n vs)) (sym (add-one i))
 
-pub marked_left : (found : List Found) (place i : ℕ) (bads : List Bool) (d : Bool) → i < length bads → get_or bads i d ≡ false
-    → marked_from found place (take i bads) ≡ marked_from found place (take (i + 1) bads)
-marked_left found place i bads d lt is =
-    ap (λ l. take place found ++ l) (each_left (drop place found) bads i d lt is)
-    ∙ ap (λ n. marked_from found place (take n bads)) (sym (add-one i))
+pub marked_left : (found : List Found) (place i : ℕ) (vs : List Verdict) (d : Verdict) → i < length vs → is_bad (get_or vs i d) ≡ false
+    → marked_from found place (take i vs) ≡ marked_from found place (take (i + 1) vs)
+marked_left found place i vs d lt is =
+    ap (λ l. take place found ++ l) (each_left (drop place found) vs i d lt is)
+    ∙ ap (λ n. marked_from found place (take n vs)) (sym (add-one i))
 
-pub marked_len : (found : List Found) (place : ℕ) (bads : List Bool) → length (marked_from found place bads) ≡ length found
-marked_len found place bads =
-    length-append (take place found) (each_found_by (drop place found) bads)
-    ∙ ap (λ k. length (take place found) + k) (each_len (drop place found) bads)
+pub marked_len : (found : List Found) (place : ℕ) (vs : List Verdict) → length (marked_from found place vs) ≡ length found
+marked_len found place vs =
+    length-append (take place found) (each_found_by (drop place found) vs)
+    ∙ ap (λ k. length (take place found) + k) (each_len (drop place found) vs)
     ∙ sym (length-append (take place found) (drop place found)) ∙ ap length (take-append-drop place found)
 
 -- nothing waits
@@ -122,12 +124,12 @@ pub same_fields : (text : List ℕ) (a b : Head) → head_of any_fields text ≡
 same_fields text a b one other = let same : a ≡ b = cc in ap (λ (h : Head). h.fields) same
 
 -- the findings of one more record
-pub shown_one : (old new : List Found) (bads more : List Bool) (f : Found) (bad : Bool) (found : List SeenFinding)
-    → new ≡ old ++ f ∷ [] → more ≡ bads ++ bad ∷ [] → length bads ≤ length old → all_of (found_by f bad) ≡ found
-    → all_shown new more ≡ all_shown old bads ++ found ∷ []
-shown_one old new bads more f bad found new_is more_is le is =
-    ap (all_shown new) more_is ∙ ap (λ l. all_shown l (bads ++ bad ∷ [])) new_is ∙ ap (map all_of) (settled_more old bads f bad le)
-    ∙ map-append all_of (settled old bads) (found_by f bad ∷ []) ∙ ap (λ g. all_shown old bads ++ g ∷ []) is
+pub shown_one : (old new : List Found) (vs more : List Verdict) (f : Found) (v : Verdict) (found : List SeenFinding)
+    → new ≡ old ++ f ∷ [] → more ≡ vs ++ v ∷ [] → length vs ≤ length old → all_of (found_by f (is_bad v)) ≡ found
+    → all_shown new more ≡ all_shown old vs ++ found ∷ []
+shown_one old new vs more f v found new_is more_is le is =
+    ap (all_shown new) more_is ∙ ap (λ l. all_shown l (vs ++ v ∷ [])) new_is ∙ ap (map all_of) (settled_more old vs f v le)
+    ∙ map-append all_of (settled old vs) (found_by f (is_bad v) ∷ []) ∙ ap (λ g. all_shown old vs ++ g ∷ []) is
 
 pub if_ok : {X E : Type 0} (r : Result X E) (P : Type 0) → P → IfOk r (λ x. P)
 if_ok (Ok x) P is = is

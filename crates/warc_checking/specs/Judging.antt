@@ -2,6 +2,8 @@
 -- clause cites them.
 use Rattle.std.specs.Prelude.{◌≡◌, ℕ, ◌-◌, ◌++◌, Bool, true, false, List, [], ◌∷◌, length, map, take, drop}
 use Rattle.warc_field.specs.Area.{Pair}
+use Rattle.warc_value.specs.Digests.{is_bad}
+use Rattle.warc_value.specs.declared.hash.Verdict.{Verdict}
 use Rattle.warc_record.specs.Findings.{SeenFinding, findings_of}
 use Rattle.warc_checking.specs.OwnFindings.{Found, all_of, with_bad}
 
@@ -10,19 +12,19 @@ abbrev pub found_by : Found → Bool → Found
 found_by f true = with_bad f
 found_by f false = f
 
-abbrev pub each_found_by : List Found → List Bool → List Found
-each_found_by [] bads = []
+abbrev pub each_found_by : List Found → List Verdict → List Found
+each_found_by [] verdicts = []
 each_found_by (f ∷ fs) [] = f ∷ fs
-each_found_by (f ∷ fs) (bad ∷ bads) = found_by f bad ∷ each_found_by fs bads
+each_found_by (f ∷ fs) (v ∷ vs) = found_by f (is_bad v) ∷ each_found_by fs vs
 
--- what records show, by whether the digests of the last ones differ
-abbrev pub settled : List Found → List Bool → List Found
-settled found bads = take (length found - length bads) found
-    ++ each_found_by (drop (length found - length bads) found) bads
+-- what records show, by the verdicts on the blocks of the last ones
+abbrev pub settled : List Found → List Verdict → List Found
+settled found verdicts = take (length found - length verdicts) found
+    ++ each_found_by (drop (length found - length verdicts) found) verdicts
 
 -- their findings
-abbrev pub all_shown : List Found → List Bool → List (List SeenFinding)
-all_shown found bads = map all_of (settled found bads)
+abbrev pub all_shown : List Found → List Verdict → List (List SeenFinding)
+all_shown found verdicts = map all_of (settled found verdicts)
 
 -- one more record was added, with these fields and a block of this length; whatever its digest is, it shows what such a
 -- record shows

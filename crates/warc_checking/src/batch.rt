@@ -1,12 +1,12 @@
 //! Blocks that wait until they are hashed, several at a time and side by side.
-ghost use Rattle.std.specs.Prelude.{◌≡◌, ◌↔◌, ℕ, ◌+◌, ◌++◌, ◌^◌, ◌<◌, ◌≤◌, true, false, Bool, List, [], ◌∷◌, IfOk, OnOk, OnErr, length, map, take, drop};
+ghost use Rattle.std.specs.Prelude.{◌≡◌, ◌↔◌, ℕ, ◌+◌, ◌++◌, ◌^◌, ◌<◌, ◌≤◌, true, false, List, [], ◌∷◌, IfOk, OnOk, OnErr, length, map, take, drop};
 ghost use Rattle.sha1.specs.Sha1.{sha1};
-ghost use Rattle.warc_value.specs.Digests.{is_bad, verdict_of};
+ghost use Rattle.warc_value.specs.Digests.{verdict_of};
 ghost use Rattle.warc_frame.specs.Effects.{FailsBy, HasRange, ReadsRange};
 ghost use Rattle.warc_frame.specs.Seen.{IfHeld};
 ghost use Rattle.warc_digest.specs.Judging.{judged_len};
 ghost use Rattle.warc_reading.specs.Rereading.{reread_result};
-ghost use Rattle.warc_checking.specs.Batch.{AreKeptIn, are_bad_in, digest_in, verdict_with};
+ghost use Rattle.warc_checking.specs.Batch.{AreKeptIn, digest_in, verdict_with, verdicts_in};
 
 use std::alloc::{AllocError, Allocator};
 use std::marker::Model;
@@ -17,7 +17,11 @@ use warc_reading::RereadFault;
 use warc_value::{Verdict, Wanted, digest};
 
 /// How many blocks wait at most.
-pub(crate) const MAX_WAITING: usize = 64;
+pub const MAX_WAITING: usize = 64;
+
+/// How many bytes a read asks for, if the blocks among them go to a batch: 1 MiB. A record that a read cuts is hashed
+/// alone, so few are cut.
+pub const PIECE_LEN: usize = 1_048_576;
 
 /// How many bytes of blocks are kept at most: 1 MiB.
 const MAX_KEPT: usize = 1_048_576;
@@ -133,14 +137,24 @@ impl<A: Allocator> Blocks<A> {
 
 /// How a block is judged.
 #[derive(Clone, Copy)]
-enum BlockCheck {
+pub enum BlockCheck {
     /// Its verdict is known.
     Known(Verdict),
-    /// Its digest is compared with this one.
+    /// Its SHA-1 is compared with this one.
     Compare([u8; DIGEST_LEN]),
 }
 
 impl BlockCheck {
+    /// By the digest that is wanted.
+    pub fn of(wanted: &Wanted) -> BlockCheck
+        ensures { (block : List ℕ) → verdict_with result (sha1 block) ≡ verdict_of wanted.now block }
+    {
+        match wanted {
+            Wanted::Sha1(digest) => BlockCheck::Compare(*digest),
+            Wanted::Unchecked => BlockCheck::Known(Verdict::Unchecked),
+        }
+    }
+
     /// The verdict on the block by its digest.
     fn verdict(&self, digest: &[u8; DIGEST_LEN]) -> Verdict
         ensures { result ≡ verdict_with self.now digest.now }
@@ -158,20 +172,20 @@ impl BlockCheck {
     }
 }
 
-/// Keeps a block that is in memory if it has to be hashed and there is room. A longer one is judged at once.
+/// Keeps a block that is in memory if it has to be hashed and there is room. A longer one is judged at once. Returns
+/// how it is judged by what is kept of it.
 fn keep_block<A: Allocator>(
-    wanted: &Wanted,
+    check: BlockCheck,
     block: &[u8],
     blocks: &mut Blocks<A>,
 ) -> Result<BlockCheck, AllocError>
     ensures more { (more : List ℕ) × (blocks.new ≡ blocks.old ++ more) }
-    ensures verdict { IfOk result (λ check. verdict_with check (sha1 (drop (length blocks.old) blocks.new))
-        ≡ verdict_of wanted.now block.now) }
+    ensures verdict { IfOk result (λ kept. verdict_with kept (sha1 (drop (length blocks.old) blocks.new))
+        ≡ verdict_with check (sha1 block.now)) }
 {
-    let Wanted::Sha1(wanted) = wanted else {
-        return Ok(BlockCheck::Known(Verdict::Unchecked));
-    };
-    let check = BlockCheck::Compare(*wanted);
+    if let BlockCheck::Known(_) = check {
+        return Ok(check);
+    }
     if !blocks.fits(block.len() as u64) {
         return Ok(BlockCheck::Known(check.verdict(&digest(block))));
     }
@@ -220,33 +234,24 @@ struct Waiting {
     end: usize,
 }
 
-impl Waiting {
-    /// Whether the digest of its block differs from the one that is wanted.
-    fn is_bad(&self, digest: &[u8; DIGEST_LEN]) -> bool
-        ensures { result ≡ is_bad (verdict_with self.now.check digest.now) }
-    {
-        self.check.verdict(digest).is_bad()
-    }
-}
-
 /// Adds a block that is in memory to those that wait. If memory is refused, none is added.
 fn add_block<A: Allocator>(
     waiting: &mut Vec<Waiting, A>,
     blocks: &mut Blocks<A>,
-    wanted: &Wanted,
+    check: BlockCheck,
     block: &[u8],
 ) -> Result<(), AllocError>
     requires { AreKeptIn (length blocks.old) waiting.old.items }
     ensures kept { AreKeptIn (length blocks.new) waiting.new.items }
-    ensures ok { OnOk result (are_bad_in blocks.new waiting.new.items
-        ≡ are_bad_in blocks.old waiting.old.items ++ is_bad (verdict_of wanted.now block.now) ∷ []) }
-    ensures err { OnErr result (are_bad_in blocks.new waiting.new.items
-        ≡ are_bad_in blocks.old waiting.old.items) }
+    ensures ok { OnOk result (verdicts_in blocks.new waiting.new.items
+        ≡ verdicts_in blocks.old waiting.old.items ++ verdict_with check (sha1 block.now) ∷ []) }
+    ensures err { OnErr result (verdicts_in blocks.new waiting.new.items
+        ≡ verdicts_in blocks.old waiting.old.items) }
     ensures count { length waiting.new.items ≤ length waiting.old.items + 1 }
 {
     waiting.reserve(1)?;
     let start = blocks.len();
-    let check = keep_block(wanted, block, blocks)?;
+    let check = keep_block(check, block, blocks)?;
     waiting.push_reserved(Waiting {
         check,
         start,
@@ -268,12 +273,12 @@ fn add_read_block<S: Source, A: Allocator>(
     requires buf { 0 < length buf.old }
     requires kept { AreKeptIn (length blocks.old) waiting.old.items }
     ensures kept { AreKeptIn (length blocks.new) waiting.new.items }
-    ensures added { IfHeld (S.seen source.old).holds (λ bytes. OnOk result (are_bad_in blocks.new waiting.new.items
-        ≡ are_bad_in blocks.old waiting.old.items ++ is_bad (verdict_of wanted.now (take len (drop at bytes))) ∷ [])) }
-    ensures more { OnOk result ((bad : Bool) × (are_bad_in blocks.new waiting.new.items
-        ≡ are_bad_in blocks.old waiting.old.items ++ bad ∷ [])) }
-    ensures err { OnErr result (are_bad_in blocks.new waiting.new.items
-        ≡ are_bad_in blocks.old waiting.old.items) }
+    ensures added { IfHeld (S.seen source.old).holds (λ bytes. OnOk result (verdicts_in blocks.new waiting.new.items
+        ≡ verdicts_in blocks.old waiting.old.items ++ verdict_of wanted.now (take len (drop at bytes)) ∷ [])) }
+    ensures more { OnOk result ((verdict : Verdict) × (verdicts_in blocks.new waiting.new.items
+        ≡ verdicts_in blocks.old waiting.old.items ++ verdict ∷ [])) }
+    ensures err { OnErr result (verdicts_in blocks.new waiting.new.items
+        ≡ verdicts_in blocks.old waiting.old.items) }
     ensures count { length waiting.new.items ≤ length waiting.old.items + 1 }
     ensures reads { ReadsRange at (judged_len wanted.now len) (S.seen source.old) (S.seen source.new) }
     ensures fails { FailsBy (HasRange at len) (reread_result result) (S.seen source.old) (S.seen source.new) }
@@ -306,25 +311,24 @@ fn take_messages<'a>(waiting: &[Waiting], blocks: &'a [u8], messages: &mut [&'a 
     }
 }
 
-/// Writes to its place whether the digest of each block that waits differs from the one that is wanted.
-fn compare_each(waiting: &[Waiting], digests: &[[u8; DIGEST_LEN]], bad: &mut [bool])
+/// Writes the verdict on each block that waits to its place, by the digests of all.
+fn compare_each(waiting: &[Waiting], digests: &[[u8; DIGEST_LEN]], verdicts: &mut [Verdict])
     requires digests { length digests.now ≡ length waiting.now }
-    requires places { length bad.old ≡ length waiting.now }
+    requires places { length verdicts.old ≡ length waiting.now }
     ensures { (blocks : List ℕ) → digests.now ≡ map (digest_in blocks) waiting.now →
-        bad.new ≡ are_bad_in blocks waiting.now }
+        verdicts.new ≡ verdicts_in blocks waiting.now }
 {
     'comparing: for i in 0..waiting.len() {
-        bad[i] = waiting[i].is_bad(&digests[i]);
+        verdicts[i] = waiting[i].check.verdict(&digests[i]);
     }
 }
 
-/// Hashes the blocks that wait, side by side, and writes to its place whether the digest of each differs from the one
-/// that is wanted.
-fn judge_each(waiting: &[Waiting], blocks: &[u8], bad: &mut [bool])
+/// Hashes the blocks that wait, side by side, and writes the verdict on each to its place.
+fn judge_each(waiting: &[Waiting], blocks: &[u8], verdicts: &mut [Verdict])
     requires kept { AreKeptIn (length blocks.now) waiting.now }
     requires few { length waiting.now ≤ MAX_WAITING }
-    requires places { length bad.old ≡ length waiting.now }
-    ensures { bad.new ≡ are_bad_in blocks.now waiting.now }
+    requires places { length verdicts.old ≡ length waiting.now }
+    ensures { verdicts.new ≡ verdicts_in blocks.now waiting.now }
 {
     let none: &[u8] = &[];
     let mut messages = [none; MAX_WAITING];
@@ -333,32 +337,33 @@ fn judge_each(waiting: &[Waiting], blocks: &[u8], bad: &mut [bool])
     let digests = &mut digests[..waiting.len()];
     take_messages(waiting, blocks, messages);
     digest_each(messages, digests);
-    compare_each(waiting, digests, bad)
+    compare_each(waiting, digests, verdicts)
 }
 
-/// Blocks that wait until they are hashed side by side. Contracts see of each whether its digest differs from the one
-/// that is wanted.
+/// Blocks that wait until they are hashed side by side. Contracts see the verdict on each. At most `MAX_WAITING` wait,
+/// and 1 MiB of their bytes at most is kept; that memory stays for the next blocks when they are judged.
 #[derive(Drop)]
-pub(crate) struct Batch<A: Allocator> {
+pub struct Batch<A: Allocator> {
     waiting: Vec<Waiting, A>,
     blocks: Blocks<A>,
 }
 
 impl<A: Allocator> Model for Batch<A> {
-    ghost use Rattle.std.specs.Prelude.{◌≤◌, Bool, List, length};
-    ghost use Rattle.warc_checking.specs.Batch.{AreKeptIn, are_bad_in};
+    ghost use Rattle.std.specs.Prelude.{◌≤◌, List, length};
+    ghost use Rattle.warc_value.specs.declared.hash.Verdict.{Verdict as Found};
+    ghost use Rattle.warc_checking.specs.Batch.{AreKeptIn, verdicts_in};
     ghost use Rattle.warc_checking.specs.declared.batch.TheConstants.{MAX_WAITING};
 
-    ghost Value = { List Bool };
+    ghost Value = { List Found };
 
-    ghost view = { λ b. are_bad_in b.blocks b.waiting.items };
+    ghost view = { λ b. verdicts_in b.blocks b.waiting.items };
 
     ghost invariant = { λ b. AreKeptIn (length b.blocks) b.waiting.items × (length b.waiting.items ≤ MAX_WAITING) };
 }
 
 impl<A: Allocator + Copy> Batch<A> {
     /// Of no blocks.
-    pub(crate) fn new(alloc: A) -> Batch<A>
+    pub fn new(alloc: A) -> Batch<A>
         ensures { result ≡ [] }
     {
         Batch {
@@ -369,20 +374,29 @@ impl<A: Allocator + Copy> Batch<A> {
 }
 
 impl<A: Allocator> Batch<A> {
+    /// How many blocks wait.
+    pub fn len(&self) -> usize
+        ensures count { result ≡ length self.now }
+        ensures few { result ≤ MAX_WAITING }
+    {
+        self.waiting.len()
+    }
+
     /// Whether those that wait should be judged before a block of this length is added. If not, one more may wait.
-    pub(crate) fn is_full(&self, len: u64) -> bool
+    pub fn is_full(&self, len: u64) -> bool
         ensures { result ≡ false → length self.now < MAX_WAITING }
     {
         self.waiting.len() >= MAX_WAITING || (len <= MAX_KEPT_BLOCK && !self.blocks.fits(len))
     }
 
-    /// Adds a block that is in memory. If memory is refused, none is added.
-    pub(crate) fn add(&mut self, wanted: &Wanted, block: &[u8]) -> Result<(), AllocError>
+    /// Adds a block that is in memory. It is copied if it has to be hashed. One for which there is no room, such as one
+    /// longer than 256 KiB, is judged at once. Only the allocator can refuse it, and then it isn't added.
+    pub fn add(&mut self, check: BlockCheck, block: &[u8]) -> Result<(), AllocError>
         requires { length self.old < MAX_WAITING }
-        ensures ok { OnOk result (self.new ≡ self.old ++ is_bad (verdict_of wanted.now block.now) ∷ []) }
+        ensures ok { OnOk result (self.new ≡ self.old ++ verdict_with check (sha1 block.now) ∷ []) }
         ensures err { OnErr result (self.new ≡ self.old) }
     {
-        add_block(&mut self.waiting, &mut self.blocks, wanted, block)
+        add_block(&mut self.waiting, &mut self.blocks, check, block)
     }
 
     /// Adds a block of the source, which is read now, if a digest of it can be checked. If the read fails, or memory is
@@ -398,8 +412,8 @@ impl<A: Allocator> Batch<A> {
         requires few { length self.old < MAX_WAITING }
         requires room { 0 < length buf.old }
         ensures added { IfHeld (S.seen source.old).holds (λ bytes.
-            OnOk result (self.new ≡ self.old ++ is_bad (verdict_of wanted.now (take len (drop at bytes))) ∷ [])) }
-        ensures more { OnOk result ((bad : Bool) × (self.new ≡ self.old ++ bad ∷ [])) }
+            OnOk result (self.new ≡ self.old ++ verdict_of wanted.now (take len (drop at bytes)) ∷ [])) }
+        ensures more { OnOk result ((verdict : Verdict) × (self.new ≡ self.old ++ verdict ∷ [])) }
         ensures err { OnErr result (self.new ≡ self.old) }
         ensures reads { ReadsRange at (judged_len wanted.now len) (S.seen source.old) (S.seen source.new) }
         ensures fails { FailsBy (HasRange at len) (reread_result result) (S.seen source.old) (S.seen source.new) }
@@ -415,26 +429,10 @@ impl<A: Allocator> Batch<A> {
         )
     }
 
-    /// Adds a block whose verdict is known. If memory is refused, none is added.
-    pub(crate) fn add_known(&mut self, verdict: Verdict) -> Result<(), AllocError>
-        requires { length self.old < MAX_WAITING }
-        ensures ok { OnOk result (self.new ≡ self.old ++ is_bad verdict ∷ []) }
-        ensures err { OnErr result (self.new ≡ self.old) }
-    {
-        self.waiting.reserve(1)?;
-        let end = self.blocks.len();
-        self.waiting.push_reserved(Waiting {
-            check: BlockCheck::Known(verdict),
-            start: end,
-            end,
-        });
-        Ok(())
-    }
-
-    /// Hashes the blocks that wait, side by side, writes of each whether its digest differs from the one that is
-    /// wanted, and returns how many they are. Then none waits. It takes no memory.
-    pub(crate) fn judge(&mut self, bad: &mut [bool; MAX_WAITING]) -> usize
-        ensures bad { take result bad.new ≡ self.old }
+    /// Hashes the blocks that wait, side by side, writes the verdicts on them, in their order, and returns how many
+    /// they are. Then none waits. It takes no memory.
+    pub fn judge(&mut self, verdicts: &mut [Verdict; MAX_WAITING]) -> usize
+        ensures verdicts { take result verdicts.new ≡ self.old }
         ensures count { result ≡ length self.old }
         ensures few { result ≤ MAX_WAITING }
         ensures none { self.new ≡ [] }
@@ -443,7 +441,7 @@ impl<A: Allocator> Batch<A> {
         judge_each(
             self.waiting.as_slice(),
             self.blocks.bytes(),
-            &mut bad[..count],
+            &mut verdicts[..count],
         );
         self.waiting.clear();
         self.blocks.clear();

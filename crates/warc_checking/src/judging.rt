@@ -17,7 +17,7 @@ ghost use Rattle.warc_checking.specs.Judged.{own_findings};
 ghost use Rattle.warc_checking.specs.Judging.{IsOneMore, all_shown, settled};
 ghost use Rattle.warc_checking.specs.OwnFindings.{Found, all_of};
 
-use crate::batch::{Batch, MAX_WAITING};
+use crate::batch::{Batch, BlockCheck, MAX_WAITING, PIECE_LEN};
 use crate::own_findings::OwnFindings;
 use std::alloc::{AllocError, Allocator};
 use std::marker::Model;
@@ -28,17 +28,14 @@ use warc_reading::{BlockDigest, Keep, RereadFault, Row, good_head_in, reread_tex
 use warc_record::GoodHead;
 use warc_value::{Verdict, Wanted};
 
-/// How many bytes a read asks for: 1 MiB. A record that a read cuts is hashed alone, so few are cut.
-const PIECE: usize = 1_048_576;
-
-/// Marks of the last records, one for each of these, whether the digest differs.
-fn mark_last<A: Allocator>(findings: &mut OwnFindings<A>, bad: &[bool])
-    requires { length bad.now ≤ length findings.old }
-    ensures { findings.new ≡ settled findings.old bad.now }
+/// Marks of the last records, one for each of these verdicts, whether the digest differs.
+fn mark_last<A: Allocator>(findings: &mut OwnFindings<A>, verdicts: &[Verdict])
+    requires { length verdicts.now ≤ length findings.old }
+    ensures { findings.new ≡ settled findings.old verdicts.now }
 {
-    let first = findings.len() - bad.len();
-    'marking: for i in 0..bad.len() {
-        if bad[i] {
+    let first = findings.len() - verdicts.len();
+    'marking: for i in 0..verdicts.len() {
+        if verdicts[i].is_bad() {
             findings.mark(first + i);
         }
     }
@@ -51,9 +48,9 @@ fn settle<A: Allocator>(findings: &mut OwnFindings<A>, batch: &mut Batch<A>)
     ensures same { findings.new ≡ settled findings.old batch.old }
     ensures none { batch.new ≡ [] }
 {
-    let mut bad = [false; MAX_WAITING];
-    let count = batch.judge(&mut bad);
-    mark_last(findings, &bad[..count]);
+    let mut verdicts = [Verdict::Unchecked; MAX_WAITING];
+    let count = batch.judge(&mut verdicts);
+    mark_last(findings, &verdicts[..count]);
 }
 
 /// The same, if no further block of this length should wait.
@@ -153,7 +150,7 @@ fn add_in_place<A: Allocator + Copy>(
 {
     let count = findings.len();
     add_plain_head(alloc, found, findings)?;
-    match batch.add(&found.head.wanted(), found.block) {
+    match batch.add(BlockCheck::of(&found.head.wanted()), found.block) {
         Ok(()) => Ok(()),
         Err(refused) => {
             // What was added is taken back, which takes no memory.
@@ -181,7 +178,7 @@ fn add_known<A: Allocator + Copy>(
 {
     let count = findings.len();
     findings.add(alloc, fields, block_len)?;
-    match batch.add_known(verdict) {
+    match batch.add(BlockCheck::Known(verdict), b"") {
         Ok(()) => Ok(()),
         Err(refused) => {
             // What was added is taken back, which takes no memory.
@@ -395,6 +392,6 @@ impl<A: Allocator + Copy> Keep<A> for Judging<A> {
     }
 
     fn piece_len() -> usize {
-        PIECE
+        PIECE_LEN
     }
 }

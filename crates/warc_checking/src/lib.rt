@@ -10,6 +10,7 @@ mod own_findings;
 mod used_ids;
 mod writing;
 
+pub use batch::{Batch, BlockCheck, MAX_WAITING, PIECE_LEN};
 pub use check::{Rejudged, check_rows, judge_again};
 pub use judging::Judging;
 pub use own_findings::OwnFindings;

@@ -1,16 +1,15 @@
 use Rattle.std.proofs.Common.{rules, ◌≡◌, ◌++◌, [], ◌∷◌, ap, ◌∙◌}
-use Rattle.warc_value.specs.Digests.{is_bad}
-use Rattle.warc_checking.specs.Batch.{are_bad_in}
+use Rattle.warc_checking.specs.Batch.{verdicts_in}
 use Rattle.warc_checking.specs.declared.batch.Waiting.{Waiting}
-use Rattle.warc_checking.proofs.BatchLemmas.{bad_more, bad_still, kept_more}
+use Rattle.warc_checking.proofs.BatchLemmas.{kept_more, verdicts_more, verdicts_still}
 use Rattle.warc_checking.proofs.batch.add_block.Goals as goal
 
 pub returns-in_err-check-clause-err : goal.returns-in_err-check-clause-err
 returns-in_err-check-clause-err g c =
     let (more, is) = c.keep_block.ensures.more in
     let items : c.reserve.new.self.items ≡ c.args.waiting.now.items = search rules in
-    let same : are_bad_in c.keep_block.new.blocks c.reserve.new.self.items ≡ are_bad_in c.args.blocks.now c.args.waiting.now.items =
-    ap (are_bad_in c.keep_block.new.blocks) items ∙ bad_still _ _ more _ is c.requires in
+    let same : verdicts_in c.keep_block.new.blocks c.reserve.new.self.items ≡ verdicts_in c.args.blocks.now c.args.waiting.now.items =
+    ap (verdicts_in c.keep_block.new.blocks) items ∙ verdicts_still _ _ more _ is c.requires in
     search rules
 
 pub returns-clause-kept : goal.returns-clause-kept
@@ -25,5 +24,5 @@ returns-clause-ok g c =
     let (more, is) = c.keep_block.ensures.more in
     let one : Waiting = record { check = c.in_ok-check.check; start = c.len-start.result; end = c.len.result } in
     let items : c.push_reserved.new.self.items ≡ c.args.waiting.now.items ++ one ∷ [] = search rules in
-    ap (are_bad_in c.keep_block.new.blocks) items
-    ∙ bad_more _ _ more _ is c.requires one c.len-start.ensures c.len.ensures _ (ap is_bad c.in_ok-check.ensures.verdict)
+    ap (verdicts_in c.keep_block.new.blocks) items
+    ∙ verdicts_more _ _ more _ is c.requires one c.len-start.ensures c.len.ensures _ c.in_ok-check.ensures.verdict

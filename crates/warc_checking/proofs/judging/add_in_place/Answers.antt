@@ -10,7 +10,7 @@ returns-in-Ok-clause-ok g c = λ p start next.
     let one = c.in_ok-add_plain_head.ensures.ok p start next in
     let fields = p.content.fields in
     let block = c.args.found.now.block.now in
-    let bad = ap (λ w. is_bad (verdict_of w block)) (c.wanted.ensures ∙ sym next.says.wanted)
+    let bad = ap is_bad (c.of.ensures block) ∙ ap (λ w. is_bad (verdict_of w block)) (c.wanted.ensures ∙ sym next.says.wanted)
     ∙ ap (λ l. is_bad (verdict_of (digest_wanted fields) l)) next.block_is in
     shown_one _ _ _ _ one.found _ _ one.new_is c.in-Ok.ensures.ok c.requires.last
     (one.shows _ ∙ ap (λ b. findings_of fields (length p.content.block) b false) bad)
