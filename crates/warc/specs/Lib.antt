@@ -34,3 +34,4 @@ pub mod Taking
 pub mod PayloadVerdicts
 pub mod PayloadText
 pub mod PayloadStates
+pub mod Waiting

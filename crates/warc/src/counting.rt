@@ -1,6 +1,7 @@
 //! How many records of an archive are of a kind, have a verdict, or are marked as truncated.
 ghost use Rattle.std.specs.Prelude.{◌≡◌, ◌≤◌, [], ◌∷◌, ◌++◌, if◌then◌else◌, length, take, OnErr, OnOk};
 ghost use Rattle.warc.specs.Counting.{tally_of, is_counted, is_kind, is_verdict, verdict_at, verdict_tally};
+ghost use Rattle.warc.specs.Waiting.{with_last};
 
 use crate::bodies::is_capture;
 use std::alloc::{AllocError, Allocator};
@@ -114,6 +115,15 @@ impl<A: Allocator> Verdicts<A> {
     {
         self.list.push(verdict)?;
         Ok(())
+    }
+
+    /// Writes these over the last verdicts.
+    pub(crate) fn replace_last(&mut self, verdicts: &[Verdict])
+        requires { length verdicts.now ≤ length self.old }
+        ensures { self.new ≡ with_last self.old verdicts.now }
+    {
+        let first = self.list.len() - verdicts.len();
+        self.list[first..].copy_from_slice(verdicts);
     }
 
     /// Keeps the first `count` verdicts.

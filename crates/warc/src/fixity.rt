@@ -1,17 +1,22 @@
 //! How the blocks of an archive compare with the digests that their heads state.
-ghost use Rattle.std.specs.Prelude.{◌≡◌, ◌∷◌, ◌++◌, true, false, [], codes, OnErr, OnOk, map};
+ghost use Rattle.std.specs.Prelude.{◌≡◌, ◌∷◌, ◌++◌, ◌<◌, ℕ, List, true, false, [], codes, length, OnErr, OnOk, map};
+ghost use Rattle.sha1.specs.Sha1.{sha1};
 ghost use Rattle.warc_frame.specs.Effects.{Puts, SendsText};
 ghost use Rattle.warc_reading.specs.Opening.{Opens, source_left, without_source};
+ghost use Rattle.warc_checking.specs.Batch.{verdict_with};
 ghost use Rattle.warc.specs.Counting.{verdict_at};
 ghost use Rattle.warc.specs.Fixity.{IsDigested, counts_line, counts_of, digest_at, digest_kept, fixity_text, stated_on};
 ghost use Rattle.warc.specs.Fixity.{unless_good, verdict_line, verdict_text};
+ghost use Rattle.warc.specs.Waiting.{kept_values};
 
+use crate::block_verdicts::BlockVerdicts;
 use crate::counting::Verdicts;
 use crate::row::shown_as;
-use crate::stated::{StatedBlock, digest_value, plain_stated};
+use crate::stated::{StatedBlock, digest_value, plain_check};
 use itoa::Buffer;
 use std::alloc::{AllocError, Allocator, Global};
 use std::marker::Model;
+use warc_checking::{BlockCheck, PIECE_LEN};
 use warc_frame::{Fault, OutBuffer, OutFault, SendFault, Sink, Source, put_columns};
 use warc_quick::{QuickHead, QuickRecord};
 use warc_reading::{Keep, Opened, Row};
@@ -28,22 +33,6 @@ pub struct Counts {
     pub unchecked: usize,
 }
 
-/// How each block compares with its digest, and the value of each digest by which a block isn't good.
-#[derive(Drop)]
-struct Digests<A: Allocator> {
-    verdicts: Verdicts<A>,
-    values: Vec<Vec<u8, A>, A>,
-}
-
-impl<A: Allocator> Model for Digests<A> {
-    ghost use Rattle.std.specs.Prelude.{map};
-    ghost use Rattle.warc.specs.Fixity.{Judgements};
-
-    ghost Value = { Judgements };
-
-    ghost view = { λ d. record { verdicts = d.verdicts; digests = map (λ v. v.items) d.values.items } };
-}
-
 /// A text, unless a block is good.
 fn unless_good(verdict: Verdict, text: &[u8]) -> &[u8]
     ensures { result.now ≡ unless_good verdict text.now }
@@ -54,31 +43,44 @@ fn unless_good(verdict: Verdict, text: &[u8]) -> &[u8]
     }
 }
 
-impl<A: Allocator + Copy> Digests<A> {
-    /// Of no records.
-    fn new(alloc: A) -> Digests<A>
-        ensures verdicts { result.verdicts ≡ [] }
-        ensures digests { result.digests ≡ [] }
-    {
-        Digests {
-            verdicts: Verdicts::new(alloc),
-            values: Vec::new(alloc),
-        }
+/// A text, unless a block is known to be good.
+fn unless_known_good(check: BlockCheck, text: &[u8]) -> &[u8]
+    ensures { (digest : List ℕ) → unless_good (verdict_with check digest) result.now
+        ≡ unless_good (verdict_with check digest) text.now }
+{
+    match check {
+        BlockCheck::Known(verdict) => unless_good(verdict, text),
+        BlockCheck::Compare(_) => text,
     }
+}
 
-    /// Adds how the next block compares with its digest, and the value of that digest unless the block is good. If
-    /// memory is refused, nothing is added.
-    fn add(&mut self, alloc: A, verdict: Verdict, value: &[u8]) -> Result<(), AllocError>
-        ensures ok { OnOk result ((self.new.verdicts ≡ self.old.verdicts ++ verdict ∷ [])
-            × (self.new.digests ≡ self.old.digests ++ unless_good verdict value.now ∷ [])) }
-        ensures err { OnErr result (self.new ≡ self.old) }
-    {
-        self.values.reserve(1)?;
-        let value = unless_good(verdict, value).to_vec(alloc)?;
-        self.verdicts.push(verdict)?;
-        self.values.push_reserved(value);
-        Ok(())
+/// The value at a position, empty past the end.
+fn value_at<A: Allocator>(values: &[Vec<u8, A>], position: usize) -> &[u8]
+    ensures { result.now ≡ digest_at (map (λ v. v.items) values.now) position }
+{
+    match values.get(position) {
+        Some(value) => value.as_slice(),
+        None => b"",
     }
+}
+
+/// How each block compares with its digest, and the value of each digest by which a block isn't good.
+#[derive(Drop)]
+struct Digests<A: Allocator> {
+    verdicts: Verdicts<A>,
+    values: Vec<Vec<u8, A>, A>,
+}
+
+impl<A: Allocator> Model for Digests<A> {
+    ghost use Rattle.std.specs.Prelude.{◌≡◌, length, map};
+    ghost use Rattle.warc.specs.Fixity.{Judgements};
+    ghost use Rattle.warc.specs.Waiting.{judgements};
+
+    ghost Value = { Judgements };
+
+    ghost view = { λ d. judgements d.verdicts (map (λ v. v.items) d.values.items) };
+
+    ghost invariant = { λ d. length d.verdicts ≡ length d.values.items };
 }
 
 impl<A: Allocator> Digests<A> {
@@ -105,14 +107,141 @@ impl<A: Allocator> Digests<A> {
     fn at(&self, position: usize) -> &[u8]
         ensures { result.now ≡ digest_at self.now.digests position }
     {
-        match self.values.get(position) {
-            Some(value) => value.as_slice(),
-            None => b"",
+        unless_good(self.verdicts.at(position), value_at(&self.values, position))
+    }
+}
+
+/// Lets go the values from a position on by which blocks are known to be good.
+fn forget_good<A: Allocator + Copy>(
+    alloc: A,
+    verdicts: &BlockVerdicts<A>,
+    values: &mut [Vec<u8, A>],
+    first: usize,
+)
+    ensures same { kept_values verdicts.now (map (λ v. v.items) values.new)
+        ≡ kept_values verdicts.now (map (λ v. v.items) values.old) }
+    ensures count { length values.new ≡ length values.old }
+{
+    'forgetting: for position in first..values.len() {
+        if verdicts.is_good(position) {
+            values[position] = Vec::new(alloc);
         }
     }
 }
 
-impl<A: Allocator + Copy> Keep<A> for Digests<A> {
+/// Hashes the blocks that wait, and lets go the values by which they are good. It takes no memory.
+fn settle<A: Allocator + Copy>(alloc: A, verdicts: &mut BlockVerdicts<A>, values: &mut [Vec<u8, A>])
+    ensures verdicts { verdicts.new ≡ verdicts.old }
+    ensures values { kept_values verdicts.old (map (λ v. v.items) values.new)
+        ≡ kept_values verdicts.old (map (λ v. v.items) values.old) }
+    ensures count { length values.new ≡ length values.old }
+{
+    let first = verdicts.first_waiting();
+    verdicts.settle();
+    forget_good(alloc, verdicts, values, first);
+}
+
+/// Adds a block, and the value of its digest unless the block is known to be good. If memory is refused, nothing is
+/// added.
+fn add_digest<A: Allocator + Copy>(
+    alloc: A,
+    verdicts: &mut BlockVerdicts<A>,
+    values: &mut Vec<Vec<u8, A>, A>,
+    check: BlockCheck,
+    block: &[u8],
+    value: &[u8],
+) -> Result<(), AllocError>
+    requires { length verdicts.old ≡ length values.old.items }
+    ensures count { length verdicts.new ≡ length values.new.items }
+    ensures verdict { OnOk result (verdicts.new ≡ verdicts.old ++ verdict_with check (sha1 block.now) ∷ []) }
+    ensures value { OnOk result (kept_values verdicts.new (map (λ v. v.items) values.new.items)
+        ≡ kept_values verdicts.old (map (λ v. v.items) values.old.items)
+        ++ unless_good (verdict_with check (sha1 block.now)) value.now ∷ []) }
+    ensures err { OnErr result ((verdicts.new ≡ verdicts.old) × (values.new.items ≡ values.old.items)) }
+{
+    values.reserve(1)?;
+    let value = unless_known_good(check, value).to_vec(alloc)?;
+    verdicts.add(check, block)?;
+    values.push_reserved(value);
+    Ok(())
+}
+
+/// The same while the source is read. The last blocks wait until they are hashed, and so do the values of their
+/// digests.
+#[derive(Drop)]
+struct WaitingDigests<A: Allocator> {
+    verdicts: BlockVerdicts<A>,
+    values: Vec<Vec<u8, A>, A>,
+}
+
+impl<A: Allocator> Model for WaitingDigests<A> {
+    ghost use Rattle.std.specs.Prelude.{◌≡◌, length, map};
+    ghost use Rattle.warc.specs.Fixity.{Judgements};
+    ghost use Rattle.warc.specs.Waiting.{judgements};
+
+    ghost Value = { Judgements };
+
+    ghost view = { λ d. judgements d.verdicts (map (λ v. v.items) d.values.items) };
+
+    ghost invariant = { λ d. length d.verdicts ≡ length d.values.items };
+}
+
+impl<A: Allocator + Copy> WaitingDigests<A> {
+    /// Of no records.
+    fn new(alloc: A) -> WaitingDigests<A>
+        ensures verdicts { result.verdicts ≡ [] }
+        ensures digests { result.digests ≡ [] }
+    {
+        WaitingDigests {
+            verdicts: BlockVerdicts::new(alloc),
+            values: Vec::new(alloc),
+        }
+    }
+
+    /// Adds how the next block compares with its digest, and the value of that digest unless the block is good. If
+    /// memory is refused, nothing is added.
+    fn add(
+        &mut self,
+        alloc: A,
+        check: BlockCheck,
+        block: &[u8],
+        value: &[u8],
+    ) -> Result<(), AllocError>
+        ensures ok { OnOk result ((self.new.verdicts ≡ self.old.verdicts ++ verdict_with check (sha1 block.now) ∷ [])
+            × (self.new.digests
+            ≡ self.old.digests ++ unless_good (verdict_with check (sha1 block.now)) value.now ∷ [])) }
+        ensures err { OnErr result (self.new ≡ self.old) }
+    {
+        if self.verdicts.is_full(block.len() as u64) {
+            settle(alloc, &mut self.verdicts, &mut self.values);
+        }
+        add_digest(
+            alloc,
+            &mut self.verdicts,
+            &mut self.values,
+            check,
+            block,
+            value,
+        )
+    }
+
+    /// What is found of all records. The blocks that wait are hashed first. It takes no memory.
+    fn into_digests(self, alloc: A) -> Digests<A>
+        ensures { result ≡ self }
+    {
+        let WaitingDigests {
+            mut verdicts,
+            mut values,
+        } = self;
+        settle(alloc, &mut verdicts, &mut values);
+        Digests {
+            verdicts: verdicts.into_verdicts(),
+            values,
+        }
+    }
+}
+
+impl<A: Allocator + Copy> Keep<A> for WaitingDigests<A> {
     ghost keeps = { λ d records. (d.verdicts ≡ map stated_on records) × (d.digests ≡ map digest_kept records) };
 
     type Block = StatedBlock;
@@ -132,7 +261,8 @@ impl<A: Allocator + Copy> Keep<A> for Digests<A> {
         _block_len: u64,
         block: StatedBlock,
     ) -> Result<(), AllocError> {
-        self.add(alloc, block.verdict(), digest_value(head.fields()))
+        let check = BlockCheck::Known(block.verdict());
+        self.add(alloc, check, b"", digest_value(head.fields()))
     }
 
     fn keep_plain(
@@ -142,12 +272,16 @@ impl<A: Allocator + Copy> Keep<A> for Digests<A> {
         found: &QuickRecord<'_>,
         _block_start: u64,
     ) -> Result<(), AllocError> {
-        self.add(alloc, plain_stated(found), found.head.digest)
+        self.add(alloc, plain_check(found), found.block, found.head.digest)
     }
 
     fn truncate(&mut self, count: usize) {
         self.verdicts.truncate(count);
         self.values.truncate(count);
+    }
+
+    fn piece_len() -> usize {
+        PIECE_LEN
     }
 }
 
@@ -290,14 +424,19 @@ impl<S: Source, A: Allocator> Fixity<S, A> {
 }
 
 impl<S: Source, A: Allocator + Copy> Fixity<S, A> {
-    /// Reads the source as a listing is read, and keeps beside the rows the values of the digests by which blocks
-    /// aren't good.
+    /// Reads the source as a listing is read, in larger pieces, and keeps beside the rows the values of the digests by
+    /// which blocks aren't good.
     pub fn open(alloc: A, source: S) -> Result<Fixity<S, A>, (Fault, S)>
         ensures { Opens IsDigested (S.seen source) (S.seen (source_left (λ a. a.listing.source) result))
             (without_source (λ a. a) result) }
     {
-        match Opened::open(alloc, source, Digests::new(alloc)) {
-            Ok(opened) => Ok(Fixity { opened }),
+        match Opened::open(alloc, source, WaitingDigests::new(alloc)) {
+            Ok(Opened { source, rows, kept }) => {
+                let kept = kept.into_digests(alloc);
+                Ok(Fixity {
+                    opened: Opened { source, rows, kept },
+                })
+            }
             Err(refused) => Err(refused),
         }
     }

@@ -2,6 +2,7 @@
 #![tactic(auto)]
 
 mod archives;
+mod block_verdicts;
 mod blocks;
 mod bodies;
 mod capture_line;

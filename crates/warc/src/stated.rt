@@ -1,16 +1,19 @@
 //! The verdict on a block by the digest that its head states, whatever the algorithm.
 ghost use Rattle.std.specs.Prelude.{◌≡◌, ℕ, ◌<◌, List, [], ◌++◌, length, take, drop, IfOk, OnOk};
+ghost use Rattle.sha1.specs.Sha1.{sha1};
 ghost use Rattle.warc_field.specs.Area.{Pair};
 ghost use Rattle.warc_frame.specs.Effects.{FailsBy, HasRange, ReadsRange, read_result};
 ghost use Rattle.warc_frame.specs.Seen.{IfHeld};
 ghost use Rattle.warc_fixity.specs.Judged.{JudgeHasTaken, stated_verdict};
 ghost use Rattle.warc_reading.specs.Judging.{IsNextPlain};
 ghost use Rattle.warc_reading.specs.Row.{Placed};
+ghost use Rattle.warc_checking.specs.Batch.{verdict_with};
 ghost use Rattle.warc.specs.Fixity.{digest_value, stated_on};
 
 use std::alloc::Allocator;
+use warc_checking::BlockCheck;
 use warc_field::Fields;
-use warc_fixity::{Judge, stated_verdict};
+use warc_fixity::{Digest, Judge, stated_verdict};
 use warc_frame::{ReadFault, Source, names, read_range};
 use warc_quick::QuickRecord;
 use warc_reading::TakeBlock;
@@ -66,11 +69,24 @@ impl TakeBlock for StatedBlock {
     }
 }
 
-/// How the block of a record that was read in place compares with the digest that its head states.
-pub(crate) fn plain_stated(found: &QuickRecord<'_>) -> Verdict
-    ensures { (p : Placed) (start : ℕ) → IsNextPlain p found.now start → result ≡ stated_on p }
+/// How a block that is in memory is judged by the digest that a value states: by its SHA-1, which isn't computed yet,
+/// or at once.
+fn stated_check(value: &[u8], block: &[u8]) -> BlockCheck
+    ensures { verdict_with result (sha1 block.now) ≡ stated_verdict value.now block.now }
 {
-    stated_verdict(found.head.digest, found.block)
+    match Digest::stated(value) {
+        Some(Digest::Sha1(digest)) => BlockCheck::Compare(digest),
+        Some(digest) => BlockCheck::Known(digest.verdict_on(block)),
+        None => BlockCheck::Known(Verdict::Unchecked),
+    }
+}
+
+/// The same for the block of a record that was read in place, and the digest that its head states.
+pub(crate) fn plain_check(found: &QuickRecord<'_>) -> BlockCheck
+    ensures { (p : Placed) (start : ℕ) → IsNextPlain p found.now start →
+        verdict_with result (sha1 found.now.block.now) ≡ stated_on p }
+{
+    stated_check(found.head.digest, found.block)
 }
 
 /// Adds `len` bytes at an offset of the source to what is judged. They are read in pieces as long as `scratch` at most.

@@ -1,18 +1,22 @@
 //! What an archive holds: how many records of which kind, how many bytes, and from when to when.
 ghost use Rattle.std.specs.Prelude.{◌≡◌, ◌∷◌, ◌++◌, true, false, [], OnErr, OnOk, map, option_map, if◌then◌else◌};
+ghost use Rattle.sha1.specs.Sha1.{sha1};
 ghost use Rattle.std.specs.List.{concat};
 ghost use Rattle.warc_frame.specs.Effects.{Puts, SendsText};
 ghost use Rattle.warc_index.specs.Captures.{is_earlier};
 ghost use Rattle.warc_reading.specs.Opening.{Opens, source_left, without_source};
+ghost use Rattle.warc_checking.specs.Batch.{verdict_with};
 ghost use Rattle.warc.specs.Fixity.{stated_on};
 ghost use Rattle.warc.specs.Summary.{IsDateOf, IsEndOf, IsSummarized, IsSummaryOf, has_segment_number, is_nearer, is_numbered, number_line, summary_numbers};
 ghost use Rattle.warc.specs.Summary.{segmented_count, shown_date, summary_text, text_line};
 
+use crate::block_verdicts::BlockVerdicts;
 use crate::counting::{Counted, Verdicts, count, one_if};
-use crate::stated::{StatedBlock, plain_stated};
+use crate::stated::{StatedBlock, plain_check};
 use itoa::Buffer;
 use std::alloc::{AllocError, Allocator, Global};
 use std::marker::Model;
+use warc_checking::{BlockCheck, PIECE_LEN};
 use warc_field::Fields;
 use warc_frame::{Fault, OutBuffer, OutFault, SendFault, Sink, Source, names, put_columns};
 use warc_quick::{QuickHead, QuickRecord};
@@ -61,32 +65,7 @@ impl<A: Allocator> Model for RecordFlags<A> {
     ghost view = { λ s. record { segmented = s.segmented.items; verdicts = s.verdicts } };
 }
 
-impl<A: Allocator + Copy> RecordFlags<A> {
-    /// Of no records.
-    fn new(alloc: A) -> RecordFlags<A>
-        ensures segmented { result.segmented ≡ [] }
-        ensures verdicts { result.verdicts ≡ [] }
-    {
-        RecordFlags {
-            segmented: Vec::new(alloc),
-            verdicts: Verdicts::new(alloc),
-        }
-    }
-}
-
 impl<A: Allocator> RecordFlags<A> {
-    /// Adds those of the next record. If memory is refused, none is added.
-    fn add(&mut self, segmented: bool, verdict: Verdict) -> Result<(), AllocError>
-        ensures ok { OnOk result ((self.new.segmented ≡ self.old.segmented ++ segmented ∷ [])
-            × (self.new.verdicts ≡ self.old.verdicts ++ verdict ∷ [])) }
-        ensures err { OnErr result (self.new ≡ self.old) }
-    {
-        self.segmented.reserve(1)?;
-        self.verdicts.push(verdict)?;
-        self.segmented.push_reserved(segmented);
-        Ok(())
-    }
-
     /// How many records are segments.
     fn segmented_count(&self) -> usize
         ensures { result ≡ segmented_count self.now.segmented }
@@ -109,7 +88,59 @@ pub(crate) fn has_segment_number<A: Allocator>(fields: &Fields<A>) -> bool
     }
 }
 
-impl<A: Allocator + Copy> Keep<A> for RecordFlags<A> {
+/// The same while the source is read. The last blocks wait until they are hashed.
+#[derive(Drop)]
+struct WaitingFlags<A: Allocator> {
+    segmented: Vec<bool, A>,
+    verdicts: BlockVerdicts<A>,
+}
+
+impl<A: Allocator> Model for WaitingFlags<A> {
+    ghost use Rattle.warc.specs.Summary.{Flags};
+
+    ghost Value = { Flags };
+
+    ghost view = { λ s. record { segmented = s.segmented.items; verdicts = s.verdicts } };
+}
+
+impl<A: Allocator + Copy> WaitingFlags<A> {
+    /// Of no records.
+    fn new(alloc: A) -> WaitingFlags<A>
+        ensures segmented { result.segmented ≡ [] }
+        ensures verdicts { result.verdicts ≡ [] }
+    {
+        WaitingFlags {
+            segmented: Vec::new(alloc),
+            verdicts: BlockVerdicts::new(alloc),
+        }
+    }
+}
+
+impl<A: Allocator> WaitingFlags<A> {
+    /// Adds those of the next record. If memory is refused, none is added.
+    fn add(&mut self, segmented: bool, check: BlockCheck, block: &[u8]) -> Result<(), AllocError>
+        ensures ok { OnOk result ((self.new.segmented ≡ self.old.segmented ++ segmented ∷ [])
+            × (self.new.verdicts ≡ self.old.verdicts ++ verdict_with check (sha1 block.now) ∷ [])) }
+        ensures err { OnErr result (self.new ≡ self.old) }
+    {
+        self.segmented.reserve(1)?;
+        self.verdicts.add(check, block)?;
+        self.segmented.push_reserved(segmented);
+        Ok(())
+    }
+
+    /// Those of all records. The blocks that wait are hashed first. It takes no memory.
+    fn into_flags(self) -> RecordFlags<A>
+        ensures { result ≡ self }
+    {
+        RecordFlags {
+            segmented: self.segmented,
+            verdicts: self.verdicts.into_verdicts(),
+        }
+    }
+}
+
+impl<A: Allocator + Copy> Keep<A> for WaitingFlags<A> {
     ghost keeps = { λ s records. (s.segmented ≡ map is_numbered records) × (s.verdicts ≡ map stated_on records) };
 
     type Block = StatedBlock;
@@ -129,7 +160,8 @@ impl<A: Allocator + Copy> Keep<A> for RecordFlags<A> {
         _block_len: u64,
         block: StatedBlock,
     ) -> Result<(), AllocError> {
-        self.add(has_segment_number(head.fields()), block.verdict())
+        let check = BlockCheck::Known(block.verdict());
+        self.add(has_segment_number(head.fields()), check, b"")
     }
 
     fn keep_plain(
@@ -139,12 +171,17 @@ impl<A: Allocator + Copy> Keep<A> for RecordFlags<A> {
         found: &QuickRecord<'_>,
         _block_start: u64,
     ) -> Result<(), AllocError> {
-        self.add(false, plain_stated(found))
+        // A head that is alone says nothing of segments.
+        self.add(false, plain_check(found), found.block)
     }
 
     fn truncate(&mut self, count: usize) {
         self.segmented.truncate(count);
         self.verdicts.truncate(count);
+    }
+
+    fn piece_len() -> usize {
+        PIECE_LEN
     }
 }
 
@@ -375,13 +412,18 @@ impl<S: Source, A: Allocator> Summarized<S, A> {
 }
 
 impl<S: Source, A: Allocator + Copy> Summarized<S, A> {
-    /// Reads the source as a listing is read, and keeps beside the rows which records are segments.
+    /// Reads the source as a listing is read, in larger pieces, and keeps beside the rows which records are segments.
     pub fn open(alloc: A, source: S) -> Result<Summarized<S, A>, (Fault, S)>
         ensures { Opens IsSummarized (S.seen source) (S.seen (source_left (λ a. a.listing.source) result))
             (without_source (λ a. a) result) }
     {
-        match Opened::open(alloc, source, RecordFlags::new(alloc)) {
-            Ok(opened) => Ok(Summarized { opened }),
+        match Opened::open(alloc, source, WaitingFlags::new(alloc)) {
+            Ok(Opened { source, rows, kept }) => {
+                let kept = kept.into_flags();
+                Ok(Summarized {
+                    opened: Opened { source, rows, kept },
+                })
+            }
             Err(refused) => Err(refused),
         }
     }

@@ -2,7 +2,7 @@ use Rattle.std.proofs.Common.{ap, take, ◌∙◌}
 use Rattle.std.proofs.lemmas.List.{take-map}
 use Rattle.warc.specs.Fixity.{stated_on}
 use Rattle.warc.specs.Summary.{Flags, is_numbered}
-use Rattle.warc.proofs.summary.RecordFlagsKeep.truncate.Goals as goal
+use Rattle.warc.proofs.summary.WaitingFlagsKeep.truncate.Goals as goal
 
 pub returns : goal.returns
 returns g c = λ records is. (
