@@ -17,7 +17,8 @@ use Rattle.warc_value.specs.Dates.{Instant, is_before}
 use Rattle.warc_index.specs.Captures.{is_earlier}
 use Rattle.warc_reading.specs.Row.{Placed, Row}
 use Rattle.warc.specs.Fixity.{stated_on}
-use Rattle.warc.specs.Summary.{Flags, IsEndOf, IsEndRow, has_segment_number, is_numbered, instant_at, is_nearer, number_line, shown_date, summary_numbers, summary_text, text_line}
+use Rattle.warc.specs.Summary.{Flags, IsEndRow, has_segment_number, is_numbered, instant_at, is_nearer, number_line, shown_date, summary_numbers, summary_text, text_line}
+use Rattle.warc.specs.Tallies.{IsEndSoFar, IsEndUpTo, nearest}
 use Rattle.warc.specs.declared.summary.Dated.{Dated}
 use Rattle.warc.specs.declared.summary.End.{End}
 use Rattle.warc.specs.declared.summary.Summary.{Summary}
@@ -61,24 +62,7 @@ passes (Some a) (Some b) (Some c) e f = passes_before a b c e f
 
 -- ---- the row at an end
 
--- of the rows before place n the one at a position is the first, or the last
-pub record IsFirstUpTo (rows : List Row) (n position : ℕ) (row : Row) : Type 0 where
-  pub at : slice_get rows position ≡ Some row
-  pub low : position < n
-  pub none : (q : ℕ) (r : Row) → slice_get rows q ≡ Some r → q < n → is_earlier (instant_at r) (instant_at row) ≡ false
-  pub before : (q : ℕ) (r : Row) → slice_get rows q ≡ Some r → q < position → is_earlier (instant_at row) (instant_at r) ≡ true
-
-pub record IsLastUpTo (rows : List Row) (n position : ℕ) (row : Row) : Type 0 where
-  pub at : slice_get rows position ≡ Some row
-  pub low : position < n
-  pub none : (q : ℕ) (r : Row) → slice_get rows q ≡ Some r → q < n → is_earlier (instant_at row) (instant_at r) ≡ false
-  pub behind : (q : ℕ) (r : Row) → slice_get rows q ≡ Some r → q < n → position < q → is_earlier (instant_at r) (instant_at row) ≡ true
-
-abbrev pub IsEndUpTo : End → List Row → ℕ → ℕ → Row → Type 0
-IsEndUpTo First rows n position row = IsFirstUpTo rows n position row
-IsEndUpTo Last rows n position row = IsLastUpTo rows n position row
-
-same_at : (rows : List Row) (q n : ℕ) (r row : Row) → q ≡ n → slice_get rows q ≡ Some r → slice_get rows n ≡ Some row → r ≡ row
+pub same_at : (rows : List Row) (q n : ℕ) (r row : Row) → q ≡ n → slice_get rows q ≡ Some r → slice_get rows n ≡ Some row → r ≡ row
 same_at rows q n r row z e f = cc
 
 not_earlier_at : (rows : List Row) (q n : ℕ) (r row : Row) → q ≡ n → slice_get rows q ≡ Some r → slice_get rows n ≡ Some row → (o : Option Instant) → is_earlier (instant_at row) o ≡ false → is_earlier (instant_at r) o ≡ false
@@ -174,6 +158,22 @@ end_turns end rows row best n is_best is_next at here dated is was r same =
           (best, subst P (sym (ap (λ (d : Dated). d.position) q)) (end_stays rows row n is_best.position best at end is (near_same end is_next.instant (instant_at row) is_best.instant (instant_at best) dated was ∙ e)), ap (λ (d : Dated). d.instant) q ∙ was)
     ] refl same
 
+pub end_there : (end : End) (rows : List Row) (n p : ℕ) (row : Row) → IsEndUpTo end rows n p row → slice_get rows p ≡ Some row
+end_there First rows n p row is = is.at
+end_there Last rows n p row is = is.at
+
+-- one turn, if there may be none so far
+pub end_next : (end : End) (rows : List Row) (row : Row) (n : ℕ) (best : Option Dated) (next : Dated) → slice_get rows n ≡ Some row → next.position ≡ n → next.instant ≡ instant_at row
+    → IsEndSoFar end rows n best → (r : Dated) → r ≡ nearest end best next → IsEndSoFar end rows (n + 1) (Some r)
+end_next end rows row n None next at here dated none r same =
+    let P : Dated → Type 0 = λ d. IsEndSoFar end rows (n + 1) (Some d) in
+    let Q : ℕ → Type 0 = λ m. IsEndUpTo end rows (m + 1) m row in
+    let first : slice_get rows 0 ≡ Some row = ap (slice_get rows) (sym none) ∙ at in
+    let R : ℕ → Type 0 = λ m. IsEndUpTo end rows (n + 1) m row in
+    subst P (sym same) (row, subst R (sym here) (subst Q (sym none) (end_begins rows row end first)), dated)
+end_next end rows row n (Some best) next at here dated (found, is, was) r same =
+    end_turns end rows row found n best next at here dated is was r same
+
 pub is_there : {X : Type 0} (xs : List X) (i : ℕ) → i < length xs → slice_get xs i ≡ None → ⊥
 is_there [] i lt e = absurd (omega (arith, lt))
 is_there (x ∷ xs) i lt e = let some : slice_get (x ∷ xs) i ≡ Some (get_or (x ∷ xs) i x) = slice_get-get_or (x ∷ xs) i x lt in cc
@@ -193,11 +193,6 @@ end_whole Last rows n p row past is = record {
 pub empty_rows : (rows : List Row) → slice_get rows 0 ≡ None → rows ≡ []
 empty_rows [] e = refl
 empty_rows (r ∷ rs) e = cc
-
-pub no_row : (end : End) (rows : List Row) (position : ℕ) → IsEndOf end rows position → slice_get rows position ≡ None → rows ≡ []
-no_row end [] position is none = refl
-no_row First (r ∷ rs) position is none = let found = is (λ e. cc) in let at = found.1.at in cc
-no_row Last (r ∷ rs) position is none = let found = is (λ e. cc) in let at = found.1.at in cc
 
 -- ---- the lines
 

@@ -7,8 +7,6 @@ use Rattle.warc_record.specs.declared.types.Kind.{Kind}
 use Rattle.warc_record.specs.declared.types.Kind.TheVariants.{Warcinfo, Response, Resource, Request, Metadata, Revisit, Conversion, Continuation, Other}
 use Rattle.warc_index.specs.Captures.{is_capture}
 use Rattle.warc_reading.specs.Row.{Row}
-use Rattle.warc.specs.declared.counting.Counted.{Counted}
-use Rattle.warc.specs.declared.counting.Counted.TheVariants as counted
 
 -- whether two kinds are the same, and two verdicts
 abbrev pub is_kind : Kind → Kind → Bool
@@ -29,14 +27,16 @@ is_verdict Bad Bad = true
 is_verdict Unchecked Unchecked = true
 is_verdict _ _ = false
 
--- whether a row is one of those that are counted
-abbrev pub is_counted : Counted → Row → Bool
-is_counted (counted.Kind kind) row = is_kind kind (kind_named row.kind)
-is_counted counted.Capture row = is_capture (kind_named row.kind)
-is_counted counted.Truncated row = row.is_truncated
+-- whether a row is that of a record of a kind, and of a capture
+abbrev pub is_of : Kind → Row → Bool
+is_of kind row = is_kind kind (kind_named row.kind)
 
-abbrev pub tally_of : Counted → List Row → ℕ
-tally_of what rows = length (filter (is_counted what) rows)
+abbrev pub is_of_capture : Row → Bool
+is_of_capture row = is_capture (kind_named row.kind)
+
+-- how many rows pass a test
+abbrev pub tally_of : (Row → Bool) → List Row → ℕ
+tally_of test rows = length (filter test rows)
 
 -- how many verdicts are this one, and which one is at a position; past the end it is as if nothing could be checked
 abbrev pub verdict_tally : Verdict → List Verdict → ℕ

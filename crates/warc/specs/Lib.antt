@@ -29,6 +29,7 @@ pub mod Selecting
 pub mod Standing
 pub mod Standings
 pub mod Summary
+pub mod Tallies
 pub mod TakeText
 pub mod Taking
 pub mod PayloadVerdicts

@@ -1,5 +1,5 @@
 -- What an archive holds, in numbers and dates, and the lines that say so. This project's own notion.
-use Rattle.std.specs.Prelude.{◌≡◌, ◌≢◌, ℕ, ◌<◌, Bool, true, false, not, List, [], ◌∷◌, ◌++◌, length, map, filter, slice_get, codes, decimal, Option, Some, is_some, option_map, unwrap_or, MatchOption}
+use Rattle.std.specs.Prelude.{◌≡◌, ℕ, ◌<◌, Bool, true, false, not, List, [], ◌∷◌, ◌++◌, length, map, filter, slice_get, codes, decimal, Option, Some, is_some, option_map, unwrap_or, MatchOption}
 use Rattle.std.specs.List.{flat_map}
 use Rattle.warc_field.specs.Area.{Pair}
 use Rattle.warc_value.specs.Dates.{Instant, instant_of}
@@ -11,9 +11,8 @@ use Rattle.warc_record.specs.declared.types.Kind.TheVariants.{Warcinfo, Response
 use Rattle.warc_index.specs.Captures.{is_earlier}
 use Rattle.warc_reading.specs.Archive.{Contents, IsArchiveOf}
 use Rattle.warc_reading.specs.Row.{Placed, Row}
-use Rattle.warc.specs.Counting.{tally_of, verdict_tally}
+use Rattle.warc.specs.Counting.{is_of, is_of_capture, tally_of, verdict_tally}
 use Rattle.warc.specs.Fixity.{stated_on}
-use Rattle.warc.specs.declared.counting.Counted.TheVariants as counted
 use Rattle.warc.specs.declared.summary.End.{End}
 use Rattle.warc.specs.declared.summary.End.TheVariants.{First, Last}
 use Rattle.warc.specs.declared.summary.Summary.{Summary}
@@ -68,10 +67,6 @@ abbrev pub IsEndRow : End → List Row → ℕ → Row → Type 0
 IsEndRow First rows position row = IsFirstRow rows position row
 IsEndRow Last rows position row = IsLastRow rows position row
 
--- the position is that of the row at an end, unless there are no rows
-abbrev pub IsEndOf : End → List Row → ℕ → Type 0
-IsEndOf end rows position = (rows ≢ []) → (row : Row) × IsEndRow end rows position row
-
 -- the date of the row at an end, as it is written; there is none exactly where there are no rows
 abbrev pub IsDateOf : End → List Row → Option (List ℕ) → Type 0
 IsDateOf end rows date =
@@ -83,20 +78,20 @@ IsDateOf end rows date =
 pub record IsSummaryOf (rows : List Row) (flags : Flags) (s : Summary) : Type 0 where
   pub records : s.records ≡ length rows
   pub bytes : (bytes : List ℕ) → IsArchiveOf bytes rows → s.bytes ≡ length bytes
-  pub warcinfo : s.warcinfo ≡ tally_of (counted.Kind Warcinfo) rows
-  pub response : s.response ≡ tally_of (counted.Kind Response) rows
-  pub resource : s.resource ≡ tally_of (counted.Kind Resource) rows
-  pub request : s.request ≡ tally_of (counted.Kind Request) rows
-  pub metadata : s.metadata ≡ tally_of (counted.Kind Metadata) rows
-  pub revisit : s.revisit ≡ tally_of (counted.Kind Revisit) rows
-  pub conversion : s.conversion ≡ tally_of (counted.Kind Conversion) rows
-  pub continuation : s.continuation ≡ tally_of (counted.Kind Continuation) rows
-  pub other : s.other ≡ tally_of (counted.Kind Other) rows
-  pub captures : s.captures ≡ tally_of counted.Capture rows
+  pub warcinfo : s.warcinfo ≡ tally_of (is_of Warcinfo) rows
+  pub response : s.response ≡ tally_of (is_of Response) rows
+  pub resource : s.resource ≡ tally_of (is_of Resource) rows
+  pub request : s.request ≡ tally_of (is_of Request) rows
+  pub metadata : s.metadata ≡ tally_of (is_of Metadata) rows
+  pub revisit : s.revisit ≡ tally_of (is_of Revisit) rows
+  pub conversion : s.conversion ≡ tally_of (is_of Conversion) rows
+  pub continuation : s.continuation ≡ tally_of (is_of Continuation) rows
+  pub other : s.other ≡ tally_of (is_of Other) rows
+  pub captures : s.captures ≡ tally_of is_of_capture rows
   pub good : s.good ≡ verdict_tally Good flags.verdicts
   pub bad : s.bad ≡ verdict_tally Bad flags.verdicts
   pub unchecked : s.unchecked ≡ verdict_tally Unchecked flags.verdicts
-  pub truncated : s.truncated ≡ tally_of counted.Truncated rows
+  pub truncated : s.truncated ≡ tally_of (λ row. row.is_truncated) rows
   pub segmented_is : s.segmented ≡ segmented_count flags.segmented
   pub first : IsDateOf First rows (option_map (λ d. d.now) s.first_date)
   pub last : IsDateOf Last rows (option_map (λ d. d.now) s.last_date)

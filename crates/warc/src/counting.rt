@@ -1,42 +1,11 @@
-//! How many records of an archive are of a kind, have a verdict, or are marked as truncated.
+//! How many records of an archive have a verdict.
 ghost use Rattle.std.specs.Prelude.{◌≡◌, ◌≤◌, [], ◌∷◌, ◌++◌, if◌then◌else◌, length, take, OnErr, OnOk};
-ghost use Rattle.warc.specs.Counting.{tally_of, is_counted, is_kind, is_verdict, verdict_at, verdict_tally};
+ghost use Rattle.warc.specs.Counting.{is_verdict, verdict_at, verdict_tally};
 ghost use Rattle.warc.specs.Waiting.{with_last};
 
-use crate::bodies::is_capture;
 use std::alloc::{AllocError, Allocator};
 use std::marker::Model;
-use warc_reading::{Row, Rows};
-use warc_record::Kind;
 use warc_value::Verdict;
-
-/// What is counted.
-#[derive(Clone, Copy)]
-pub(crate) enum Counted {
-    /// Records of a kind.
-    Kind(Kind),
-    /// Records that are captures.
-    Capture,
-    /// Records that are marked as truncated.
-    Truncated,
-}
-
-/// Whether a kind is another.
-fn is_kind(one: Kind, other: Kind) -> bool
-    ensures { result ≡ is_kind one other }
-{
-    match one {
-        Kind::Warcinfo => matches!(other, Kind::Warcinfo),
-        Kind::Response => matches!(other, Kind::Response),
-        Kind::Resource => matches!(other, Kind::Resource),
-        Kind::Request => matches!(other, Kind::Request),
-        Kind::Metadata => matches!(other, Kind::Metadata),
-        Kind::Revisit => matches!(other, Kind::Revisit),
-        Kind::Conversion => matches!(other, Kind::Conversion),
-        Kind::Continuation => matches!(other, Kind::Continuation),
-        Kind::Other => matches!(other, Kind::Other),
-    }
-}
 
 /// Whether a verdict is another.
 pub(crate) fn is_verdict(one: Verdict, other: Verdict) -> bool
@@ -49,38 +18,12 @@ pub(crate) fn is_verdict(one: Verdict, other: Verdict) -> bool
     }
 }
 
-/// Whether a record is one of those that are counted.
-fn is_counted(what: Counted, row: &Row<'_>) -> bool
-    ensures { result ≡ is_counted what row.now }
-{
-    match what {
-        Counted::Kind(kind) => is_kind(kind, Kind::named(row.kind)),
-        Counted::Capture => is_capture(row.kind),
-        Counted::Truncated => row.is_truncated,
-    }
-}
-
 /// One where a test holds, and else nothing.
 pub(crate) fn one_if(test: bool) -> usize
     ensures value { result ≡ (if test then 1 else 0) }
     ensures most { result ≤ 1 }
 {
     if test { 1 } else { 0 }
-}
-
-/// How many of the rows are counted.
-pub(crate) fn count<A: Allocator>(what: Counted, rows: &Rows<A>) -> usize
-    ensures value { result ≡ tally_of what rows.now }
-    ensures most { result ≤ length rows.now }
-{
-    let mut count = 0usize;
-    'counting: for position in 0..rows.len() {
-        let Some(row) = rows.get(position) else {
-            unreachable!()
-        };
-        count += one_if(is_counted(what, &row));
-    }
-    count
 }
 
 /// How the blocks of records compare with the digests that their heads ask for, in the order of the records.

@@ -1,17 +1,20 @@
 //! What an archive holds: how many records of which kind, how many bytes, and from when to when.
-ghost use Rattle.std.specs.Prelude.{◌≡◌, ◌∷◌, ◌++◌, true, false, [], OnErr, OnOk, map, option_map, if◌then◌else◌};
+ghost use Rattle.std.specs.Prelude.{◌≡◌, ◌+◌, ◌-◌, ◌^◌, ◌<◌, ◌≤◌, ◌∷◌, ◌++◌, ℕ, true, false, [], OnErr, OnOk, length, map, option_map, slice_index, slice_set, if◌then◌else◌};
 ghost use Rattle.sha1.specs.Sha1.{sha1};
 ghost use Rattle.std.specs.List.{concat};
 ghost use Rattle.warc_frame.specs.Effects.{Puts, SendsText};
+ghost use Rattle.warc_record.specs.Table.{column_of};
 ghost use Rattle.warc_index.specs.Captures.{is_earlier};
 ghost use Rattle.warc_reading.specs.Opening.{Opens, source_left, without_source};
 ghost use Rattle.warc_checking.specs.Batch.{verdict_with};
 ghost use Rattle.warc.specs.Fixity.{stated_on};
-ghost use Rattle.warc.specs.Summary.{IsDateOf, IsEndOf, IsSummarized, IsSummaryOf, has_segment_number, is_nearer, is_numbered, number_line, summary_numbers};
+ghost use Rattle.warc.specs.Summary.{IsDateOf, IsSummarized, IsSummaryOf, has_segment_number, is_nearer, is_numbered, number_line, summary_numbers};
 ghost use Rattle.warc.specs.Summary.{segmented_count, shown_date, summary_text, text_line};
+ghost use Rattle.warc.specs.Tallies.{IsEndSoFar, IsTalliedTo, nearest};
 
 use crate::block_verdicts::BlockVerdicts;
-use crate::counting::{Counted, Verdicts, count, one_if};
+use crate::bodies::is_capture;
+use crate::counting::{Verdicts, one_if};
 use crate::stated::{StatedBlock, plain_check};
 use itoa::Buffer;
 use std::alloc::{AllocError, Allocator, Global};
@@ -220,46 +223,93 @@ struct Dated {
     instant: Option<Moment>,
 }
 
-/// The nearer one to an end, of the nearest so far and the next record.
-fn nearer(end: End, best: Dated, next: Dated) -> Dated
-    ensures { result ≡ (if is_nearer end next.instant best.instant then next else best) }
+/// The nearest one to an end, of the nearest so far, if there is one, and the next record.
+fn nearest(end: End, best: Option<Dated>, next: &Dated) -> Dated
+    ensures { result ≡ nearest end best next.now }
 {
-    if is_nearer(end, next.instant, best.instant) {
-        next
-    } else {
-        best
+    match best {
+        Some(best) if !is_nearer(end, next.instant, best.instant) => best,
+        _ => *next,
     }
 }
 
-/// The position of the record at an end; of no records it is 0.
-fn position_at<A: Allocator>(end: End, rows: &Rows<A>) -> usize
-    ensures { IsEndOf end rows.now result }
+/// How many kinds there are.
+const KINDS: usize = 9;
+
+/// The place of a kind among all.
+fn place_of(kind: Kind) -> usize
+    ensures value { result ≡ column_of kind }
+    ensures within { result < KINDS }
 {
-    let Some(first) = rows.get(0) else {
-        return 0;
-    };
-    let mut best = Dated {
-        position: 0,
-        instant: read_date(first.date),
-    };
-    'finding: for position in 1..rows.len() {
-        let Some(row) = rows.get(position) else {
-            unreachable!()
-        };
-        let next = Dated {
-            position,
-            instant: read_date(row.date),
-        };
-        best = nearer(end, best, next);
+    match kind {
+        Kind::Warcinfo => 0,
+        Kind::Response => 1,
+        Kind::Resource => 2,
+        Kind::Request => 3,
+        Kind::Metadata => 4,
+        Kind::Revisit => 5,
+        Kind::Conversion => 6,
+        Kind::Continuation => 7,
+        Kind::Other => 8,
     }
-    best.position
+}
+
+/// What is counted of rows, and those of them at the ends.
+#[derive(Clone, Copy)]
+struct Tally {
+    kinds: [usize; KINDS],
+    captures: usize,
+    truncated: usize,
+    first: Option<Dated>,
+    last: Option<Dated>,
+}
+
+/// Counts the row at a position with those before it.
+fn add_row<A: Allocator>(tally: &mut Tally, rows: &Rows<A>, position: usize)
+    requires there { position < length rows.now }
+    requires few { length rows.now < 2 ^ 64 }
+    requires before { IsTalliedTo rows.now position tally.old }
+    ensures { IsTalliedTo rows.now (position + 1) tally.new }
+{
+    let Some(row) = rows.get(position) else {
+        unreachable!()
+    };
+    let next = Dated {
+        position,
+        instant: read_date(row.date),
+    };
+    let first = nearest(End::First, tally.first, &next);
+    let last = nearest(End::Last, tally.last, &next);
+    tally.kinds[place_of(Kind::named(row.kind))] += 1;
+    tally.captures += one_if(is_capture(row.kind));
+    tally.truncated += one_if(row.is_truncated);
+    tally.first = Some(first);
+    tally.last = Some(last);
+}
+
+/// What is counted of all rows, in one pass.
+fn tally_rows<A: Allocator>(rows: &Rows<A>) -> Tally
+    ensures { IsTalliedTo rows.now (length rows.now) result }
+{
+    let mut tally = Tally {
+        kinds: [0; KINDS],
+        captures: 0,
+        truncated: 0,
+        first: None,
+        last: None,
+    };
+    'counting: for position in 0..rows.len() {
+        add_row(&mut tally, rows, position);
+    }
+    tally
 }
 
 /// The date of the record at an end, as it is written.
-fn date_at<A: Allocator>(end: End, rows: &Rows<A>) -> Option<&[u8]>
-    ensures { IsDateOf end rows.now (option_map (λ d. d.now) result) }
+fn date_of<A: Allocator>(rows: &Rows<A>, best: Option<Dated>) -> Option<&[u8]>
+    ensures { (end : End) → IsEndSoFar end rows.now (length rows.now) best
+        → IsDateOf end rows.now (option_map (λ d. d.now) result) }
 {
-    let row = rows.get(position_at(end, rows))?;
+    let row = rows.get(best?.position)?;
     Some(row.date)
 }
 
@@ -380,26 +430,28 @@ impl<S: Source, A: Allocator> Summarized<S, A> {
     {
         let rows = &self.opened.rows;
         let flags = &self.opened.kept;
+        let tally = tally_rows(rows);
+        let kinds = tally.kinds;
         Summary {
             records: rows.len(),
             bytes: rows.end(),
-            warcinfo: count(Counted::Kind(Kind::Warcinfo), rows),
-            response: count(Counted::Kind(Kind::Response), rows),
-            resource: count(Counted::Kind(Kind::Resource), rows),
-            request: count(Counted::Kind(Kind::Request), rows),
-            metadata: count(Counted::Kind(Kind::Metadata), rows),
-            revisit: count(Counted::Kind(Kind::Revisit), rows),
-            conversion: count(Counted::Kind(Kind::Conversion), rows),
-            continuation: count(Counted::Kind(Kind::Continuation), rows),
-            other: count(Counted::Kind(Kind::Other), rows),
-            captures: count(Counted::Capture, rows),
+            warcinfo: kinds[place_of(Kind::Warcinfo)],
+            response: kinds[place_of(Kind::Response)],
+            resource: kinds[place_of(Kind::Resource)],
+            request: kinds[place_of(Kind::Request)],
+            metadata: kinds[place_of(Kind::Metadata)],
+            revisit: kinds[place_of(Kind::Revisit)],
+            conversion: kinds[place_of(Kind::Conversion)],
+            continuation: kinds[place_of(Kind::Continuation)],
+            other: kinds[place_of(Kind::Other)],
+            captures: tally.captures,
             good: flags.verdicts.count(Verdict::Good),
             bad: flags.verdicts.count(Verdict::Bad),
             unchecked: flags.verdicts.count(Verdict::Unchecked),
-            truncated: count(Counted::Truncated, rows),
+            truncated: tally.truncated,
             segmented: flags.segmented_count(),
-            first_date: date_at(End::First, rows),
-            last_date: date_at(End::Last, rows),
+            first_date: date_of(rows, tally.first),
+            last_date: date_of(rows, tally.last),
         }
     }
 
