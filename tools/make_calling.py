@@ -16,10 +16,10 @@ from shared import TOP, matched, read
 
 PAGE = "crates/warc/CALLING.md"
 SOURCES = (
-    "warc/src/archives",
-    "warc/src/reader",
+    "warc/src/archive",
+    "warc/src/listing",
     "warc_reading/src/iterating",
-    "warc/src/checking",
+    "warc/src/checked",
     "warc/src/fixity",
     "warc/src/payloads",
     "warc/src/stated",

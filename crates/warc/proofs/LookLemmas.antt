@@ -40,9 +40,9 @@ use Rattle.warc.specs.Looking.{AsksWithin, IsLook, IsSent, Judges, Looks, ReadsO
 use Rattle.warc.specs.Origins.{IsOriginFound}
 use Rattle.warc.specs.Outcomes.{GivesStoredAt, CaptureSeen, IsOutcome, JudgesAt, StoredAnswer, judged_seen, origin_on}
 use Rattle.warc.specs.Replaying.{IsOnPath, ReadsPath, path_reads}
-use Rattle.warc.specs.declared.bodies.Found.TheVariants.{Capture}
+use Rattle.warc.specs.declared.body.Found.TheVariants.{Capture}
 use Rattle.warc.specs.declared.fault.BodyFault.TheVariants.{NoRecord, NoCapture, Replay}
-use Rattle.warc.specs.declared.looking.Look.{Look}
+use Rattle.warc.specs.declared.stored.Look.{Look}
 use Rattle.warc.specs.declared.outcome.Outcome.{Outcome}
 use Rattle.warc.proofs.BodyLemmas.{below_there, capture_there, none_there, other_there}
 use Rattle.warc.proofs.OriginLemmas.{early_sent, read_less, then_read}

@@ -19,7 +19,7 @@ use Rattle.warc_reading.proofs.ReadLemmas.{reads_block_of, reads_head_of}
 use Rattle.warc.specs.Fixity.{digest_value, stated_on}
 use Rattle.warc.specs.PayloadStates.{AreKnown, IsOriginDigest, algorithm_for}
 use Rattle.warc.specs.PayloadVerdicts.{IsOwnVerdict, payload_verdict}
-use Rattle.warc.specs.declared.digesting.Known.{Known}
+use Rattle.warc.specs.declared.digests.Known.{Known}
 use Rattle.warc.specs.declared.payload.PayloadVerdict.{PayloadVerdict}
 use Rattle.warc.proofs.CaptureLemmas.{appended}
 

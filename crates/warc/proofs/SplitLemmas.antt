@@ -29,7 +29,7 @@ use Rattle.warc_frame.specs.Effects.{ReadsOnly}
 use Rattle.warc_frame.specs.Seen.{IsInRange, SeenSource}
 use Rattle.warc.specs.Forms.{split_text}
 use Rattle.warc.specs.Segments.{AreSegmentTexts, IsCutOf, IsCuttable, IsSegmentText}
-use Rattle.warc.specs.declared.copying.Copied.{Copied}
+use Rattle.warc.specs.declared.forms.Copied.{Copied}
 use Rattle.warc.specs.declared.segments.Cut.{Cut}
 use Rattle.warc_reading.specs.Rereading.{IsHeadReadOf}
 use Rattle.warc.proofs.EmitLemmas.{Begins, InTurn}

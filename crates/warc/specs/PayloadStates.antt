@@ -27,10 +27,10 @@ use Rattle.warc.specs.Looking.{AsksWithin}
 use Rattle.warc.specs.Origins.{ArePartsOf, IsRecordAt}
 use Rattle.warc.specs.PayloadVerdicts.{AreJudgedPayloads, IsJudgedPayload, IsOwnVerdict, IsRevisitVerdict, PayloadJudgements, payload_value}
 use Rattle.warc.specs.Replaying.{AsksInside}
-use Rattle.warc.specs.declared.comparing.Compared.{Compared}
-use Rattle.warc.specs.declared.comparing.Holder.{Holder}
-use Rattle.warc.specs.declared.comparing.Holder.TheVariants.{Itself, Origin, Nobody}
-use Rattle.warc.specs.declared.digesting.Known.{Known}
+use Rattle.warc.specs.declared.comparison.Compared.{Compared}
+use Rattle.warc.specs.declared.comparison.Holder.{Holder}
+use Rattle.warc.specs.declared.comparison.Holder.TheVariants.{Itself, Origin, Nobody}
+use Rattle.warc.specs.declared.digests.Known.{Known}
 use Rattle.warc.specs.declared.fault.TakeFault.{TakeFault}
 use Rattle.warc.specs.declared.fault.TakeFault.TheVariants.{Read, Memory}
 use Rattle.warc.specs.declared.payload.PayloadVerdict.{PayloadVerdict}

@@ -5,7 +5,7 @@ ghost use Rattle.warc_checking.specs.Batch.{verdict_with};
 ghost use Rattle.warc.specs.Counting.{verdict_at};
 ghost use Rattle.warc.specs.Waiting.{with_last};
 
-use crate::counting::{Verdicts, is_verdict};
+use crate::counts::{Verdicts, is_verdict};
 use std::alloc::{AllocError, Allocator};
 use std::marker::Model;
 use warc_checking::{Batch, BlockCheck, MAX_WAITING};

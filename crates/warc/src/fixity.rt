@@ -10,7 +10,7 @@ ghost use Rattle.warc.specs.Fixity.{unless_good, verdict_line, verdict_text};
 ghost use Rattle.warc.specs.Waiting.{kept_values};
 
 use crate::block_verdicts::BlockVerdicts;
-use crate::counting::Verdicts;
+use crate::counts::Verdicts;
 use crate::row::shown_as;
 use crate::stated::{StatedBlock, digest_value, plain_check};
 use itoa::Buffer;

@@ -2,9 +2,9 @@
 ghost use Rattle.std.specs.Prelude.{◌≡◌};
 ghost use Rattle.warc.specs.Outcomes.{GivesStoredAt, JudgesAt, answer_seen};
 
-use crate::bodies::{Found, find};
+use crate::body::{Found, find};
 use crate::fault::BodyFault;
-use crate::looking::{judge_origin, send_origin};
+use crate::stored::{judge_origin, send_origin};
 use std::alloc::{Allocator, Global};
 use warc_answer::laws::paths_end_inside;
 use warc_answer::{Path, Reason, ReplayFault, Stored};

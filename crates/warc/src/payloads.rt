@@ -7,9 +7,9 @@ ghost use Rattle.warc.specs.PayloadStates.{JudgesMorePayloads};
 ghost use Rattle.warc.specs.PayloadText.{are_verified, is_payload_verdict, is_verified, payload_counts, payload_line, payload_line_if, payload_tally, payloads_text};
 ghost use Rattle.warc.specs.PayloadVerdicts.{JudgesPayloads, payload_verdict_at, value_shown};
 
-use crate::comparing::compare_at;
-use crate::counting::{is_verdict, one_if};
-use crate::digesting::KnownDigests;
+use crate::comparison::compare_at;
+use crate::counts::{is_verdict, one_if};
+use crate::digests::KnownDigests;
 use crate::fixity::{Counts, put_counts, verdict_text};
 use crate::payload::{PayloadVerdict, Unjudged, payload_value, plain_verdict, reason_of};
 use crate::row::shown_as;

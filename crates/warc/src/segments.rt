@@ -11,7 +11,7 @@ ghost use Rattle.warc_frame.specs.Seen.{IfHeld, IsInRange};
 ghost use Rattle.warc.specs.Forms.{split_text};
 ghost use Rattle.warc.specs.Segments.{AreSegmentTexts, IsCuttable, IsSegmentText};
 
-use crate::copying::{Copied, put_copied};
+use crate::forms::{Copied, put_copied};
 use std::alloc::{AllocError, Allocator};
 use warc_digest::{digest_range, judge_range};
 use warc_field::Fields;

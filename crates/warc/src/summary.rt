@@ -13,8 +13,8 @@ ghost use Rattle.warc.specs.Summary.{segmented_count, shown_date, summary_text, 
 ghost use Rattle.warc.specs.Tallies.{IsEndSoFar, IsTalliedTo, nearest};
 
 use crate::block_verdicts::BlockVerdicts;
-use crate::bodies::is_capture;
-use crate::counting::{Verdicts, one_if};
+use crate::body::is_capture;
+use crate::counts::{Verdicts, one_if};
 use crate::stated::{StatedBlock, plain_check};
 use itoa::Buffer;
 use std::alloc::{AllocError, Allocator, Global};

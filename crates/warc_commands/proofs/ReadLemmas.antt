@@ -28,7 +28,7 @@ use Rattle.warc.specs.Selected.{HasBytesOf}
 use Rattle.warc.specs.Selecting.{IsInAnyRecord, at_positions}
 use Rattle.warc.proofs.SelectLemmas.{all_at, has_bytes}
 use Rattle.warc.proofs.SelectionLaws.{selection_short}
-use Rattle.warc.specs.declared.copying.Form.{Form}
+use Rattle.warc.specs.declared.forms.Form.{Form}
 use Rattle.warc.specs.declared.part.Part.{Part}
 use Rattle.warc.specs.declared.part.Part.TheVariants.{Head, Block}
 use Rattle.warc.proofs.FrontLemmas.{front_begins}

@@ -3,7 +3,7 @@ use Rattle.std.specs.Prelude.{Result}
 use Rattle.warc_index.specs.declared.unfound.Unfound.{Unfound}
 use Rattle.warc_answer.specs.declared.answer.Path.{Path}
 use Rattle.warc.specs.Finding.{IsFoundAt}
-use Rattle.warc.specs.declared.bodies.Found.TheVariants.{Capture}
+use Rattle.warc.specs.declared.body.Found.TheVariants.{Capture}
 use Rattle.warc.proofs.LookLemmas.{judges_failed, judges_made, judges_no_capture, judges_no_path, judges_no_record}
 use Rattle.warc.proofs.outcome.judge_at.Goals as goal
 

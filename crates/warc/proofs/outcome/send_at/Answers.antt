@@ -3,7 +3,7 @@ use Rattle.std.specs.Prelude.{Result}
 use Rattle.warc_index.specs.declared.unfound.Unfound.{Unfound}
 use Rattle.warc_answer.specs.declared.answer.Path.{Path}
 use Rattle.warc.specs.Finding.{IsFoundAt}
-use Rattle.warc.specs.declared.bodies.Found.TheVariants.{Capture}
+use Rattle.warc.specs.declared.body.Found.TheVariants.{Capture}
 use Rattle.warc.proofs.LookLemmas.{gives_failed, gives_none, gives_other, gives_stored, gives_unfound}
 use Rattle.warc.proofs.outcome.send_at.Goals as goal
 
