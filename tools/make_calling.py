@@ -16,14 +16,14 @@ from shared import TOP, matched, read
 
 PAGE = "crates/warc/CALLING.md"
 SOURCES = (
-    "warc/src/archive",
-    "warc/src/listing",
+    "warc/src/opened/archive",
+    "warc/src/opened/listing",
     "warc_reading/src/iterating",
-    "warc/src/checked",
-    "warc/src/fixity",
-    "warc/src/payloads",
-    "warc/src/stated",
-    "warc/src/summary",
+    "warc/src/opened/checked",
+    "warc/src/opened/fixity",
+    "warc/src/opened/payloads",
+    "warc/src/record/stated",
+    "warc/src/opened/summary",
 )
 CALLER = (
     ("rust", "crates/example_page/src/page.rt"),

@@ -26,7 +26,7 @@ use Rattle.warc.specs.Laws.{AreSpelledBy, MigrationKeepsAnswers, NoFaultWhereSpe
 use Rattle.warc_reading.specs.Opening.{RefusesBy, faults_after}
 use Rattle.warc_reading.specs.Row.{Placed, Row}
 use Rattle.warc.specs.Taking.{IsTaken}
-use Rattle.warc.specs.declared.forms.Form.TheVariants.{Canonical, Converted}
+use Rattle.warc.specs.declared.rewrite.forms.Form.TheVariants.{Canonical, Converted}
 use Rattle.suites_archives_migration.specs.Migration.{IsMigrationOf, IsUnopened}
 use Rattle.suites_archives_migration.specs.Opened.{IsRefused}
 use Rattle.suites_archives_migration.specs.RoundTrip.{plan_of_draft}

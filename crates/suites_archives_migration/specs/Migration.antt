@@ -11,7 +11,7 @@ use Rattle.warc_reading.specs.Archive.{IsArchiveOf, contents}
 use Rattle.warc.specs.Forms.{texts_as}
 use Rattle.warc_reading.specs.Indexed.{Archived, IsIndexed}
 use Rattle.warc_reading.specs.Row.{Row}
-use Rattle.warc.specs.declared.forms.Form.TheVariants.{Converted}
+use Rattle.warc.specs.declared.rewrite.forms.Form.TheVariants.{Converted}
 use Rattle.suites_archives_migration.specs.Opened.{IsRefused}
 use Rattle.suites_archives_migration.specs.declared.migration.MoveFault.{MoveFault}
 use Rattle.suites_archives_migration.specs.declared.migration.MoveFault.TheVariants.{Refused, Unwritten, Unopened}

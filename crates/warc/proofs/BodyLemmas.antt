@@ -27,7 +27,7 @@ use Rattle.warc.specs.Bodies.{GivesBodyAt, IsCaptureAt, IsOtherAt}
 use Rattle.warc.specs.Finding.{IsCaptureRow, IsFoundAt, IsOtherRow}
 use Rattle.warc.specs.Replaying.{ReplaysOn}
 use Rattle.warc.specs.Standing.{LeadsTo}
-use Rattle.warc.specs.declared.body.Found.TheVariants.{Capture}
+use Rattle.warc.specs.declared.replay.body.Found.TheVariants.{Capture}
 use Rattle.warc.specs.declared.fault.BodyFault.TheVariants.{NoRecord, NoCapture, Replay}
 use Rattle.warc.proofs.ReplayLemmas.{in_list, path_by_links, reads_nothing}
 use Rattle.warc.proofs.TakeLemmas.{absent}

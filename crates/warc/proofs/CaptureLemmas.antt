@@ -30,7 +30,7 @@ use Rattle.warc.specs.Listing.{shown}
 use Rattle.warc.specs.Capturing.{AreSlots, AreSoFar, IsIndexedAt, JudgesNext, Remembers}
 use Rattle.warc.specs.Outcomes.{CaptureSeen, IsOutcome, judged_seen, origin_on, outcome_seen}
 use Rattle.warc.specs.Replaying.{AsksInside}
-use Rattle.warc.specs.declared.outcome.Outcome.{Outcome}
+use Rattle.warc.specs.declared.replay.outcome.Outcome.{Outcome}
 use Rattle.warc.proofs.ReplayLemmas.{asks_both, path_by_links}
 
 -- what is found in a list with one more element

@@ -26,8 +26,8 @@ use Rattle.warc.specs.Fixity.{digest_at}
 use Rattle.warc.specs.PayloadStates.{AreKnown, IsComparedAt, IsPathDigest, algorithm_for, take_fault}
 use Rattle.warc.specs.PayloadVerdicts.{AreJudgedPayloads, GivesPayload, IsJudgedPayload, IsPayloadJudged, IsRevisitVerdict, IsVerdictByKind, PayloadJudgements, payload_value, payload_verdict_at, revisit_verdict, value_shown}
 use Rattle.warc.specs.Replaying.{AsksInside}
-use Rattle.warc.specs.declared.digests.Known.{Known}
-use Rattle.warc.specs.declared.payload.PayloadVerdict.{PayloadVerdict}
+use Rattle.warc.specs.declared.record.digests.Known.{Known}
+use Rattle.warc.specs.declared.record.payload.PayloadVerdict.{PayloadVerdict}
 
 -- ---- of one record
 

@@ -24,7 +24,7 @@ use Rattle.warc_reading.proofs.PlaceLemmas.{HeadsAreRead, checkable_archive}
 use Rattle.warc_reading.proofs.PlacedLemmas.{content_at, row_has}
 use Rattle.warc.specs.Origins.{FindsOrigin}
 use Rattle.warc.specs.PayloadStates.{AreKnown, DigestsOrigin, IsKnownOf, IsOriginDigest, IsPathDigest, no_digest}
-use Rattle.warc.specs.declared.digests.Known.{Known}
+use Rattle.warc.specs.declared.record.digests.Known.{Known}
 use Rattle.warc.proofs.ReplayLemmas.{gap_is, read_all}
 
 -- an origin that isn't found, or whose blocks don't join

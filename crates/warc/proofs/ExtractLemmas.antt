@@ -21,8 +21,8 @@ use Rattle.warc_reading.specs.Row.{Placed, Row, row_of}
 use Rattle.warc_reading.specs.Placing.{IsPlacedIn}
 use Rattle.warc.specs.declared.fault.ExtractFault.{ExtractFault}
 use Rattle.warc.specs.declared.fault.ExtractFault.TheVariants.{NoRecord, Out}
-use Rattle.warc.specs.declared.part.Part.{Part}
-use Rattle.warc.specs.declared.part.Part.TheVariants.{Head, Block}
+use Rattle.warc.specs.declared.record.part.Part.{Part}
+use Rattle.warc.specs.declared.record.part.Part.TheVariants.{Head, Block}
 use Rattle.warc_reading.proofs.PlacedLemmas.{placed}
 use Rattle.warc_reading.proofs.StandLemmas.{written}
 use Rattle.warc.proofs.TakeLemmas.{absent}

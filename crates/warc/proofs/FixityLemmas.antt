@@ -9,7 +9,7 @@ use Rattle.warc_value.specs.declared.hash.Verdict.TheVariants.{Good, Bad, Unchec
 use Rattle.warc.specs.Fixity.{Digested, Judgements, counts_line, counts_of, digest_kept, digest_value, fixity_line, fixity_lines, fixity_text, stated_on, unless_good, verdict_line, verdict_text}
 use Rattle.warc.specs.Listing.{shown}
 use Rattle.warc.proofs.LineLemmas.{lines_front}
-use Rattle.warc.specs.declared.fixity.Counts.{Counts}
+use Rattle.warc.specs.declared.opened.fixity.Counts.{Counts}
 
 four : (a b c d : List ℕ) → concat ((a ++ 9 ∷ []) ∷ (b ++ 9 ∷ []) ∷ (c ++ 9 ∷ []) ∷ (d ++ 10 ∷ []) ∷ []) ≡ join_with_byte 9 (a ∷ b ∷ c ∷ d ∷ []) ++ 10 ∷ []
 four a b c d = simp append_assoc

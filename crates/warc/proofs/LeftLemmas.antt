@@ -11,8 +11,8 @@ use Rattle.warc_index.specs.Walks.{walk}
 use Rattle.warc_reading.specs.Indexed.{indexed_record}
 use Rattle.warc_reading.specs.Archive.{IsArchiveOf}
 use Rattle.warc_reading.specs.Row.{Placed, Row}
-use Rattle.warc.specs.declared.remainder.Standing.{Standing}
-use Rattle.warc.specs.declared.remainder.Standing.TheVariants.{Open, Named, Left, Kept, Touched, Untouched}
+use Rattle.warc.specs.declared.rewrite.remainder.Standing.{Standing}
+use Rattle.warc.specs.declared.rewrite.remainder.Standing.TheVariants.{Open, Named, Left, Kept, Touched, Untouched}
 use Rattle.warc.specs.Closing.{AreWithout, NeedsOneOf}
 use Rattle.warc.specs.Closure.{records_read}
 use Rattle.warc.specs.Marks.{AreWhere, IsSegmentAt, pieces_of}

@@ -16,7 +16,7 @@ use Rattle.warc_reading.specs.Row.{Row}
 use Rattle.warc.specs.Finding.{IsFoundAt, IsOtherRow}
 use Rattle.warc_frame.specs.Effects.{Preserves}
 use Rattle.warc.specs.Locating.{LocatesAt, LocatesOn}
-use Rattle.warc.specs.declared.body.Found.TheVariants.{Capture}
+use Rattle.warc.specs.declared.replay.body.Found.TheVariants.{Capture}
 use Rattle.warc.specs.declared.fault.BodyFault.TheVariants.{NoRecord, NoCapture, Replay}
 use Rattle.warc.proofs.BodyLemmas.{capture_there, none_there, other_there}
 use Rattle.warc.proofs.ReplayLemmas.{path_by_links, reads_nothing}

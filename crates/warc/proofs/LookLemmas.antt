@@ -40,10 +40,10 @@ use Rattle.warc.specs.Looking.{AsksWithin, IsLook, IsSent, Judges, Looks, ReadsO
 use Rattle.warc.specs.Origins.{IsOriginFound}
 use Rattle.warc.specs.Outcomes.{GivesStoredAt, CaptureSeen, IsOutcome, JudgesAt, StoredAnswer, judged_seen, origin_on}
 use Rattle.warc.specs.Replaying.{IsOnPath, ReadsPath, path_reads}
-use Rattle.warc.specs.declared.body.Found.TheVariants.{Capture}
+use Rattle.warc.specs.declared.replay.body.Found.TheVariants.{Capture}
 use Rattle.warc.specs.declared.fault.BodyFault.TheVariants.{NoRecord, NoCapture, Replay}
-use Rattle.warc.specs.declared.stored.Look.{Look}
-use Rattle.warc.specs.declared.outcome.Outcome.{Outcome}
+use Rattle.warc.specs.declared.replay.stored.Look.{Look}
+use Rattle.warc.specs.declared.replay.outcome.Outcome.{Outcome}
 use Rattle.warc.proofs.BodyLemmas.{below_there, capture_there, none_there, other_there}
 use Rattle.warc.proofs.OriginLemmas.{early_sent, read_less, then_read}
 use Rattle.warc.proofs.ReplayLemmas.{gap_is, path_by_links, read_all, reads_nothing, then_inside}

@@ -14,8 +14,8 @@ use Rattle.warc_record.specs.declared.readings.SegmentNumber.{SegmentNumber}
 use Rattle.warc_record.specs.declared.readings.SegmentNumber.TheVariants.{Absent, Number, Bad}
 use Rattle.warc_reading.proofs.PlacedLemmas.{take_one}
 use Rattle.warc_segment.specs.Series.{AreMembersAt, IsMemberAt, Member, Piece, member_of, numbered, series_of}
-use Rattle.warc.specs.declared.needs.Mark.{Mark}
-use Rattle.warc.specs.declared.needs.Mark.TheVariants.{Segment}
+use Rattle.warc.specs.declared.rewrite.needs.Mark.{Mark}
+use Rattle.warc.specs.declared.rewrite.needs.Mark.TheVariants.{Segment}
 use Rattle.warc.specs.Marks.{mark_in, marks_needed, IsMarked, AreTaken, IsSegmentBy, MarksSegments, TakesSeries}
 use Rattle.warc.proofs.MarkedWayLemmas.{set_here, set_there}
 

@@ -5,8 +5,8 @@ use Rattle.std.proofs.lemmas.List.{get_or-set_same, get_or-set_other, length-set
 use Rattle.std.proofs.lemmas.List.Elements.{Contains-append_left, Contains-push, Contains-push_cases}
 use Rattle.std.proofs.lemmas.List.Sums.{sum_by-set}
 use Rattle.std.proofs.lemmas.Bool.{cases_eq}
-use Rattle.warc.specs.declared.needs.Mark.{Mark}
-use Rattle.warc.specs.declared.needs.Mark.TheVariants.{Free, Needed, Segment}
+use Rattle.warc.specs.declared.rewrite.needs.Mark.{Mark}
+use Rattle.warc.specs.declared.rewrite.needs.Mark.TheVariants.{Free, Needed, Segment}
 use Rattle.warc.specs.Marks.{mark_in, marks_needed, is_free, IsMarked, IsReached, AreMarked, AreMarkedBut, HasNoSegment}
 
 -- ---- one mark more

@@ -15,8 +15,8 @@ use Rattle.warc_answer.specs.declared.answer.ReplayFault.TheVariants.{Reason, Ou
 use Rattle.warc_reading.specs.Archive.{AreGood, contents}
 use Rattle.warc.specs.Forms.{record_as, texts_as}
 use Rattle.warc.specs.Laws.{MigrationKeepsAnswers, MigrationKeepsReplays, WrittenOpensAsSame, WrittenSpells}
-use Rattle.warc.specs.declared.forms.Form.{Form}
-use Rattle.warc.specs.declared.forms.Form.TheVariants.{Canonical, Converted}
+use Rattle.warc.specs.declared.rewrite.forms.Form.{Form}
+use Rattle.warc.specs.declared.rewrite.forms.Form.TheVariants.{Canonical, Converted}
 use Rattle.warc_reading.proofs.StreamLemmas.{spells_all}
 
 -- what is written in a form is what is rendered of the records in that form

@@ -18,8 +18,8 @@ use Rattle.warc_answer.specs.Payloads.{read_record}
 use Rattle.warc_reading.specs.Archive.{IsArchiveOf}
 use Rattle.warc_reading.specs.Indexed.{indexed_record, placed_record}
 use Rattle.warc_reading.specs.Row.{Placed, Row}
-use Rattle.warc.specs.declared.needs.Mark.{Mark}
-use Rattle.warc.specs.declared.needs.Mark.TheVariants.{Free, Segment}
+use Rattle.warc.specs.declared.rewrite.needs.Mark.{Mark}
+use Rattle.warc.specs.declared.rewrite.needs.Mark.TheVariants.{Free, Segment}
 use Rattle.warc.specs.Closure.{records_read}
 use Rattle.warc.specs.Closing.{AreWithNeeded, ComesTo, IsNeeded, IsSegmentOf}
 use Rattle.warc.specs.Marks.{AreMarked, AreTakenOf, AreWhere, HasNoSegment, IsMarked, IsReached, IsSegmentAt, marks_needed, mark_in, pieces_of}

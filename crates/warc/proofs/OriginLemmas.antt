@@ -35,7 +35,7 @@ use Rattle.warc_reading.specs.declared.rereading.RereadFault.{RereadFault}
 use Rattle.warc_reading.specs.declared.rereading.RereadFault.TheVariants.{Read, Memory}
 use Rattle.warc.specs.Looking.{ArePlacesIn}
 use Rattle.warc.specs.Origins.{IsOriginAt, IsOriginBy, IsOriginFound, IsOriginOf, IsPlacedBy, IsUnjoined, place_in, placed_by}
-use Rattle.warc.specs.declared.origin.Origin.{Origin}
+use Rattle.warc.specs.declared.replay.origin.Origin.{Origin}
 use Rattle.warc.specs.Replaying.{IsJoined, IsOfOrigin, IsOnPath, origin_joined, path_reads, reads_of}
 use Rattle.warc.proofs.ReplayLemmas.{found_as, gap_is, places_are, places_for, reads_of_head}
 use Rattle.warc.proofs.WholeLemmas.{same_head}

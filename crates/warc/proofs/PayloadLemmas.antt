@@ -19,8 +19,8 @@ use Rattle.warc_reading.proofs.ReadLemmas.{reads_block_of, reads_head_of}
 use Rattle.warc.specs.Fixity.{digest_value, stated_on}
 use Rattle.warc.specs.PayloadStates.{AreKnown, IsOriginDigest, algorithm_for}
 use Rattle.warc.specs.PayloadVerdicts.{IsOwnVerdict, payload_verdict}
-use Rattle.warc.specs.declared.digests.Known.{Known}
-use Rattle.warc.specs.declared.payload.PayloadVerdict.{PayloadVerdict}
+use Rattle.warc.specs.declared.record.digests.Known.{Known}
+use Rattle.warc.specs.declared.record.payload.PayloadVerdict.{PayloadVerdict}
 use Rattle.warc.proofs.CaptureLemmas.{appended}
 
 -- one more digest is known

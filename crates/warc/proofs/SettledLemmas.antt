@@ -5,8 +5,8 @@ use Rattle.std.proofs.lemmas.Bool.{cases_lt}
 use Rattle.std.proofs.lemmas.List.{get_or_past, length-set}
 use Rattle.std.proofs.lemmas.List.Sums.{sum_by-set}
 use Rattle.warc_index.specs.Walks.{walk}
-use Rattle.warc.specs.declared.remainder.Standing.{Standing}
-use Rattle.warc.specs.declared.remainder.Standing.TheVariants.{Open, Named, Left, Kept, Touched, Untouched}
+use Rattle.warc.specs.declared.rewrite.remainder.Standing.{Standing}
+use Rattle.warc.specs.declared.rewrite.remainder.Standing.TheVariants.{Open, Named, Left, Kept, Touched, Untouched}
 use Rattle.warc.specs.Standings.{AreSettled, IsKeptAt, IsLeftAt, IsOnWay, IsOpen, LeadsToLeft, LeavesWay, Settles, WalksOn, needs_none, is_left, is_open, standing_at}
 use Rattle.warc.proofs.StandingLemmas.{put_cases, put_here}
 

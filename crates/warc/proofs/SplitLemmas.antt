@@ -29,8 +29,8 @@ use Rattle.warc_frame.specs.Effects.{ReadsOnly}
 use Rattle.warc_frame.specs.Seen.{IsInRange, SeenSource}
 use Rattle.warc.specs.Forms.{split_text}
 use Rattle.warc.specs.Segments.{AreSegmentTexts, IsCutOf, IsCuttable, IsSegmentText}
-use Rattle.warc.specs.declared.forms.Copied.{Copied}
-use Rattle.warc.specs.declared.segments.Cut.{Cut}
+use Rattle.warc.specs.declared.rewrite.forms.Copied.{Copied}
+use Rattle.warc.specs.declared.rewrite.segments.Cut.{Cut}
 use Rattle.warc_reading.specs.Rereading.{IsHeadReadOf}
 use Rattle.warc.proofs.EmitLemmas.{Begins, InTurn}
 use Rattle.warc_frame.proofs.EffectLemmas.{reads_within}

@@ -9,8 +9,8 @@ use Rattle.warc_record.specs.Readings.{Reading}
 use Rattle.warc_record.specs.declared.readings.SegmentNumber.TheVariants.{Number}
 use Rattle.warc_segment.specs.Series.{AreMembersAt, IsMemberAt, Piece, series_of}
 use Rattle.warc_reading.proofs.PlacedLemmas.{take_one}
-use Rattle.warc.specs.declared.remainder.Standing.{Standing}
-use Rattle.warc.specs.declared.remainder.Standing.TheVariants.{Open, Named, Touched, Untouched}
+use Rattle.warc.specs.declared.rewrite.remainder.Standing.{Standing}
+use Rattle.warc.specs.declared.rewrite.remainder.Standing.TheVariants.{Open, Named, Touched, Untouched}
 use Rattle.warc.specs.Marks.{IsSegmentBy}
 use Rattle.warc.specs.Standings.{AreMemos, HasNamed, IsNamedAt, JudgesSeries, KeepsMemo, NamesAll, memo_of, standing_at}
 use Rattle.warc.proofs.MarkLemmas.{none_at, same_id}

@@ -19,10 +19,10 @@ use Rattle.warc_reading.specs.Row.{Placed, Row}
 use Rattle.warc.specs.Fixity.{stated_on}
 use Rattle.warc.specs.Summary.{Flags, IsEndRow, has_segment_number, is_numbered, instant_at, is_nearer, number_line, shown_date, summary_numbers, summary_text, text_line}
 use Rattle.warc.specs.Tallies.{IsEndSoFar, IsEndUpTo, nearest}
-use Rattle.warc.specs.declared.summary.Dated.{Dated}
-use Rattle.warc.specs.declared.summary.End.{End}
-use Rattle.warc.specs.declared.summary.Summary.{Summary}
-use Rattle.warc.specs.declared.summary.End.TheVariants.{First, Last}
+use Rattle.warc.specs.declared.opened.summary.Dated.{Dated}
+use Rattle.warc.specs.declared.opened.summary.End.{End}
+use Rattle.warc.specs.declared.opened.summary.Summary.{Summary}
+use Rattle.warc.specs.declared.opened.summary.End.TheVariants.{First, Last}
 
 -- ---- the order of instants
 

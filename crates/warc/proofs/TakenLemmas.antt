@@ -21,8 +21,8 @@ use Rattle.warc_reading.proofs.PlacedLemmas.{placed, take_one}
 use Rattle.warc_reading.proofs.ReadLemmas.{one_row}
 use Rattle.warc_answer.specs.Seen.{IsEarly}
 use Rattle.warc_answer.specs.declared.answer.ReplayFault.TheVariants.{Out}
-use Rattle.warc.specs.declared.needs.Mark.{Mark}
-use Rattle.warc.specs.declared.needs.Mark.TheVariants.{Free}
+use Rattle.warc.specs.declared.rewrite.needs.Mark.{Mark}
+use Rattle.warc.specs.declared.rewrite.needs.Mark.TheVariants.{Free}
 use Rattle.warc.specs.Marks.{mark_in, marks_needed, IsMarked, AreTakenOf, HasNoSegment, IsSegmentAt, IsSegmentBy, TakesSeries, pieces_of}
 use Rattle.warc.proofs.MarkLemmas.{member_not_first}
 

@@ -25,9 +25,9 @@ use Rattle.warc_frame.specs.declared.fault.OutFault.{OutFault}
 use Rattle.warc.specs.Forms.{IsOutputOf, text_as}
 use Rattle.warc_frame.specs.Seen.{SeenSource}
 use Rattle.warc_reading.specs.Row.{Placed, Row, row_of}
-use Rattle.warc.specs.declared.forms.Copied.{Copied}
-use Rattle.warc.specs.declared.forms.Form.{Form}
-use Rattle.warc.specs.declared.forms.Form.TheVariants.{Canonical, Converted}
+use Rattle.warc.specs.declared.rewrite.forms.Copied.{Copied}
+use Rattle.warc.specs.declared.rewrite.forms.Form.{Form}
+use Rattle.warc.specs.declared.rewrite.forms.Form.TheVariants.{Canonical, Converted}
 use Rattle.warc.proofs.EmitLemmas.{Begins, InTurn}
 use Rattle.warc_frame.proofs.EffectLemmas.{fails_more}
 use Rattle.warc_reading.proofs.GoodLemmas.{accepted}

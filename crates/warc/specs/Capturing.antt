@@ -20,7 +20,7 @@ use Rattle.warc.specs.Looking.{AsksWithin}
 use Rattle.warc.specs.Origins.{ArePartsOf, IsRecordAt}
 use Rattle.warc.specs.Outcomes.{CaptureSeen, IsOutcome, judged_seen, outcome_seen}
 use Rattle.warc.specs.Replaying.{AsksInside}
-use Rattle.warc.specs.declared.outcome.Outcome.{Outcome}
+use Rattle.warc.specs.declared.replay.outcome.Outcome.{Outcome}
 
 -- these are the outcomes of the captures at the positions, in their order
 pub record AreOutcomes (records : List Record) (positions : List ℕ) (captures : List CaptureSeen) : Type 0 where

@@ -10,9 +10,9 @@ use Rattle.warc_reading.specs.Archive.{contents}
 use Rattle.warc_reading.specs.Rereading.{HasHead, IsHeadReadOf, IsHeadText}
 use Rattle.warc.specs.Forms.{read_len, split_len, split_text, text_as}
 use Rattle.warc_reading.specs.Row.{Placed, Row, row_of}
-use Rattle.warc.specs.declared.forms.Copied.{Copied}
-use Rattle.warc.specs.declared.output.Replacement.{Replacement}
-use Rattle.warc.specs.declared.output.Replacement.TheVariants.{As, Split}
+use Rattle.warc.specs.declared.rewrite.forms.Copied.{Copied}
+use Rattle.warc.specs.declared.rewrite.output.Replacement.{Replacement}
+use Rattle.warc.specs.declared.rewrite.output.Replacement.TheVariants.{As, Split}
 
 -- the text of a record whose block is copied, where the bytes have the block
 pub record IsCopy {A : Type 0} (c : Copied A) (bytes text : List ℕ) : Type 0 where

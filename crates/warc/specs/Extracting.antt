@@ -11,7 +11,7 @@ use Rattle.warc_reading.specs.Row.{Placed, row_of}
 use Rattle.warc.specs.Parts.{IsGiven, ReadsPart, extract_result, part_text}
 use Rattle.warc.specs.declared.fault.ExtractFault.{ExtractFault}
 use Rattle.warc.specs.declared.fault.ExtractFault.TheVariants.{NoRecord}
-use Rattle.warc.specs.declared.part.Part.TheVariants.{Block}
+use Rattle.warc.specs.declared.record.part.Part.TheVariants.{Block}
 
 -- the position of the first record of any kind with the id that a text holds
 abbrev pub position_with : List Placed → List ℕ → Option ℕ

@@ -7,8 +7,8 @@ use Rattle.warc_segment.specs.Kept.{Kept as Parts}
 use Rattle.warc_answer.specs.Answers.{path_from}
 use Rattle.warc_reading.specs.Indexed.{AreOf, indexed_record}
 use Rattle.warc_reading.specs.Row.{Placed, Row}
-use Rattle.warc.specs.declared.body.Found.{Found}
-use Rattle.warc.specs.declared.body.Found.TheVariants.{NoRecord, NoCapture, Capture}
+use Rattle.warc.specs.declared.replay.body.Found.{Found}
+use Rattle.warc.specs.declared.replay.body.Found.TheVariants.{NoRecord, NoCapture, Capture}
 
 -- a row of a capture is at the position
 pub record IsCaptureRow (rows : List Row) (position : ℕ) : Type 0 where

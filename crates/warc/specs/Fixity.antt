@@ -12,7 +12,7 @@ use Rattle.warc_reading.specs.Archive.{Contents, IsArchiveOf}
 use Rattle.warc_reading.specs.Row.{Placed, Row}
 use Rattle.warc.specs.Counting.{verdict_at, verdict_tally}
 use Rattle.warc.specs.Listing.{shown}
-use Rattle.warc.specs.declared.fixity.Counts.{Counts}
+use Rattle.warc.specs.declared.opened.fixity.Counts.{Counts}
 
 -- the value that states the digest of a block, empty where no field does
 abbrev pub digest_value : List Pair → List ℕ

@@ -12,8 +12,8 @@ use Rattle.warc_write.specs.Rendering.{canonical_texts}
 use Rattle.warc_reading.specs.Archive.{IsArchiveOf, contents}
 use Rattle.warc_reading.specs.Placing.{IsInAnyRow}
 use Rattle.warc_reading.specs.Row.{Row}
-use Rattle.warc.specs.declared.forms.Form.{Form}
-use Rattle.warc.specs.declared.forms.Form.TheVariants.{Canonical, Converted}
+use Rattle.warc.specs.declared.rewrite.forms.Form.{Form}
+use Rattle.warc.specs.declared.rewrite.forms.Form.TheVariants.{Canonical, Converted}
 
 -- a record in a form: as it is, or as one of WARC 1.1
 abbrev pub record_as : Form → Record → Record

@@ -21,8 +21,8 @@ use Rattle.warc.specs.Forms.{record_as, texts_as}
 use Rattle.warc.specs.Listing.{listing}
 use Rattle.warc.specs.Selecting.{AreOthers, ArePositions, at_positions, selected_text}
 use Rattle.warc_reading.specs.Row.{Placed, Row, row_of}
-use Rattle.warc.specs.declared.forms.Form.{Form}
-use Rattle.warc.specs.declared.forms.Form.TheVariants.{Canonical, Converted}
+use Rattle.warc.specs.declared.rewrite.forms.Form.{Form}
+use Rattle.warc.specs.declared.rewrite.forms.Form.TheVariants.{Canonical, Converted}
 
 -- these good records are spelled by the bytes
 pub record AreSpelledBy (bytes : List ℕ) (records : List Record) : Type 0 where

@@ -24,7 +24,7 @@ use Rattle.warc_reading.specs.Row.{Placed, Row}
 use Rattle.warc.specs.Origins.{ArePartsOf, IsRecordAt, StaysInside}
 use Rattle.warc.specs.Outcomes.{IsFrontAt, judged_seen, stored_text}
 use Rattle.warc.specs.Replaying.{IsOfOrigin, origin_joined, reads_of}
-use Rattle.warc.specs.declared.stored.Look.{Look}
+use Rattle.warc.specs.declared.replay.stored.Look.{Look}
 
 -- what is stored of the origin at a position, and the places of what is joined; a reason, or nothing where a read or a
 -- growth of the memory failed

@@ -18,8 +18,8 @@ use Rattle.warc.specs.Selecting.{ArePositions}
 use Rattle.warc_answer.specs.Seen.{IsEarly}
 use Rattle.warc_answer.specs.declared.answer.ReplayFault.TheVariants.{Out}
 use Rattle.warc.specs.Origins.{ArePartsOf}
-use Rattle.warc.specs.declared.needs.Mark.{Mark}
-use Rattle.warc.specs.declared.needs.Mark.TheVariants.{Free, Needed, Segment}
+use Rattle.warc.specs.declared.rewrite.needs.Mark.{Mark}
+use Rattle.warc.specs.declared.rewrite.needs.Mark.TheVariants.{Free, Needed, Segment}
 
 -- the mark of a position; one beyond the table is free
 abbrev pub mark_in : List Mark → ℕ → Mark

@@ -22,7 +22,7 @@ use Rattle.warc_reading.specs.Archive.{IsArchiveOf, contents}
 use Rattle.warc_reading.specs.Indexed.{placed_record}
 use Rattle.warc_reading.specs.Row.{Placed, Row}
 use Rattle.warc.specs.Replaying.{IsOfOrigin, reads_of}
-use Rattle.warc.specs.declared.origin.Origin.{Origin}
+use Rattle.warc.specs.declared.replay.origin.Origin.{Origin}
 
 -- the place that a row and the digest that a head asks for say
 abbrev pub place_in : Row → Wanted → Place

@@ -26,8 +26,8 @@ use Rattle.warc.specs.Bodies.{IsCaptureAt, IsEarlyAt, IsOtherAt, IsSilentAt}
 use Rattle.warc.specs.Replaying.{AsksInside, IsIndexedBy, ReadsPath}
 use Rattle.warc.specs.declared.fault.BodyFault.{BodyFault}
 use Rattle.warc.specs.declared.fault.BodyFault.TheVariants.{NoRecord, NoCapture, Replay}
-use Rattle.warc.specs.declared.outcome.Outcome.{Outcome}
-use Rattle.warc.specs.declared.outcome.StoredAt.{StoredAt}
+use Rattle.warc.specs.declared.replay.outcome.Outcome.{Outcome}
+use Rattle.warc.specs.declared.replay.outcome.StoredAt.{StoredAt}
 
 -- what contracts see of what is stored, or of a reason
 abbrev pub judged_seen : {A : Type 0} → Result (Stored A) Why → Result StoredBody Why

@@ -11,8 +11,8 @@ use Rattle.warc_reading.specs.Archive.{IsArchiveOf}
 use Rattle.warc_reading.specs.Row.{Placed, Row}
 use Rattle.warc.specs.declared.fault.ExtractFault.{ExtractFault}
 use Rattle.warc.specs.declared.fault.ExtractFault.TheVariants.{NoRecord, Out}
-use Rattle.warc.specs.declared.part.Part.{Part}
-use Rattle.warc.specs.declared.part.Part.TheVariants.{Head, Block}
+use Rattle.warc.specs.declared.record.part.Part.{Part}
+use Rattle.warc.specs.declared.record.part.Part.TheVariants.{Head, Block}
 
 -- a part of a record of an archive of these bytes: what lies from its first byte to its block, or its block
 abbrev pub part_text : Part → List ℕ → Placed → List ℕ

@@ -27,15 +27,15 @@ use Rattle.warc.specs.Looking.{AsksWithin}
 use Rattle.warc.specs.Origins.{ArePartsOf, IsRecordAt}
 use Rattle.warc.specs.PayloadVerdicts.{AreJudgedPayloads, IsJudgedPayload, IsOwnVerdict, IsRevisitVerdict, PayloadJudgements, payload_value}
 use Rattle.warc.specs.Replaying.{AsksInside}
-use Rattle.warc.specs.declared.comparison.Compared.{Compared}
-use Rattle.warc.specs.declared.comparison.Holder.{Holder}
-use Rattle.warc.specs.declared.comparison.Holder.TheVariants.{Itself, Origin, Nobody}
-use Rattle.warc.specs.declared.digests.Known.{Known}
+use Rattle.warc.specs.declared.record.comparison.Compared.{Compared}
+use Rattle.warc.specs.declared.record.comparison.Holder.{Holder}
+use Rattle.warc.specs.declared.record.comparison.Holder.TheVariants.{Itself, Origin, Nobody}
+use Rattle.warc.specs.declared.record.digests.Known.{Known}
 use Rattle.warc.specs.declared.fault.TakeFault.{TakeFault}
 use Rattle.warc.specs.declared.fault.TakeFault.TheVariants.{Read, Memory}
-use Rattle.warc.specs.declared.payload.PayloadVerdict.{PayloadVerdict}
-use Rattle.warc.specs.declared.payload.PayloadVerdict.TheVariants.{Unchecked}
-use Rattle.warc.specs.declared.payload.Unjudged.TheVariants.{Request}
+use Rattle.warc.specs.declared.record.payload.PayloadVerdict.{PayloadVerdict}
+use Rattle.warc.specs.declared.record.payload.PayloadVerdict.TheVariants.{Unchecked}
+use Rattle.warc.specs.declared.record.payload.Unjudged.TheVariants.{Request}
 
 -- the algorithm by which a payload is digested: the one of the digest that a value states, if it states one
 abbrev pub algorithm_by : List ℕ → Algorithm

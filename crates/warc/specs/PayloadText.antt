@@ -9,11 +9,11 @@ use Rattle.warc.specs.Counting.{is_verdict}
 use Rattle.warc.specs.Fixity.{counts_line, digest_at, verdict_text}
 use Rattle.warc.specs.Listing.{shown}
 use Rattle.warc.specs.PayloadVerdicts.{PayloadJudgements, payload_verdict_at}
-use Rattle.warc.specs.declared.fixity.Counts.{Counts}
-use Rattle.warc.specs.declared.payload.PayloadVerdict.{PayloadVerdict}
-use Rattle.warc.specs.declared.payload.PayloadVerdict.TheVariants.{Good, Bad, Unchecked}
-use Rattle.warc.specs.declared.payload.Unjudged.{Unjudged}
-use Rattle.warc.specs.declared.payload.Unjudged.TheVariants.{Revisit, Request, Segment, Algorithm, Head, Coded}
+use Rattle.warc.specs.declared.opened.fixity.Counts.{Counts}
+use Rattle.warc.specs.declared.record.payload.PayloadVerdict.{PayloadVerdict}
+use Rattle.warc.specs.declared.record.payload.PayloadVerdict.TheVariants.{Good, Bad, Unchecked}
+use Rattle.warc.specs.declared.record.payload.Unjudged.{Unjudged}
+use Rattle.warc.specs.declared.record.payload.Unjudged.TheVariants.{Revisit, Request, Segment, Algorithm, Head, Coded}
 
 -- what a reason is called
 abbrev pub unjudged_text : Unjudged → List ℕ

@@ -30,9 +30,9 @@ use Rattle.warc.specs.Summary.{has_segment_number}
 use Rattle.warc.specs.Taking.{take_result}
 use Rattle.warc.specs.declared.fault.TakeFault.{TakeFault}
 use Rattle.warc.specs.declared.fault.TakeFault.TheVariants.{NoRecord, Read, Memory}
-use Rattle.warc.specs.declared.payload.PayloadVerdict.{PayloadVerdict}
-use Rattle.warc.specs.declared.payload.PayloadVerdict.TheVariants.{Good, Bad, Unchecked}
-use Rattle.warc.specs.declared.payload.Unjudged.TheVariants as unjudged
+use Rattle.warc.specs.declared.record.payload.PayloadVerdict.{PayloadVerdict}
+use Rattle.warc.specs.declared.record.payload.PayloadVerdict.TheVariants.{Good, Bad, Unchecked}
+use Rattle.warc.specs.declared.record.payload.Unjudged.TheVariants as unjudged
 
 -- the value that states the digest of a payload, empty where no field does
 abbrev pub payload_value : List Pair → List ℕ

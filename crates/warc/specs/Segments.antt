@@ -9,7 +9,7 @@ use Rattle.warc_frame.specs.declared.version.Version.{Version}
 use Rattle.warc_record.specs.Blocks.{has_bad_digest}
 use Rattle.warc_write.specs.Rendering.{canonical_texts}
 use Rattle.warc_write.specs.Splitting.{segment_of}
-use Rattle.warc.specs.declared.segments.Cut.{Cut}
+use Rattle.warc.specs.declared.rewrite.segments.Cut.{Cut}
 
 -- a record of this version and these fields, with a block of this length, and a bad digest or not if the block is
 -- longer than a segment: of a shorter one it doesn't matter

@@ -17,8 +17,8 @@ use Rattle.warc_index.specs.Orders.{Indexes}
 use Rattle.warc.specs.Closing.{NeedsOneOf}
 use Rattle.warc.specs.Closure.{records_read}
 use Rattle.warc.specs.Marks.{IsSegmentAt, IsSegmentBy, pieces_of}
-use Rattle.warc.specs.declared.remainder.Standing.{Standing}
-use Rattle.warc.specs.declared.remainder.Standing.TheVariants.{Open, Named, Left, Kept, Touched, Untouched}
+use Rattle.warc.specs.declared.rewrite.remainder.Standing.{Standing}
+use Rattle.warc.specs.declared.rewrite.remainder.Standing.TheVariants.{Open, Named, Left, Kept, Touched, Untouched}
 use Rattle.warc.specs.Origins.{ArePartsOf}
 
 -- the standing of a position; one beyond the table is open

@@ -13,9 +13,9 @@ use Rattle.warc_reading.specs.Archive.{Contents, IsArchiveOf}
 use Rattle.warc_reading.specs.Row.{Placed, Row}
 use Rattle.warc.specs.Counting.{is_of, is_of_capture, tally_of, verdict_tally}
 use Rattle.warc.specs.Fixity.{stated_on}
-use Rattle.warc.specs.declared.summary.End.{End}
-use Rattle.warc.specs.declared.summary.End.TheVariants.{First, Last}
-use Rattle.warc.specs.declared.summary.Summary.{Summary}
+use Rattle.warc.specs.declared.opened.summary.End.{End}
+use Rattle.warc.specs.declared.opened.summary.End.TheVariants.{First, Last}
+use Rattle.warc.specs.declared.opened.summary.Summary.{Summary}
 
 -- whether a record has a segment number, whatever its kind
 abbrev pub has_segment_number : List Pair → Bool

@@ -6,10 +6,10 @@ use Rattle.warc_index.specs.Captures.{is_earlier}
 use Rattle.warc_reading.specs.Row.{Row}
 use Rattle.warc.specs.Counting.{is_of, is_of_capture, tally_of}
 use Rattle.warc.specs.Summary.{instant_at, is_nearer}
-use Rattle.warc.specs.declared.summary.Dated.{Dated}
-use Rattle.warc.specs.declared.summary.End.{End}
-use Rattle.warc.specs.declared.summary.End.TheVariants.{First, Last}
-use Rattle.warc.specs.declared.summary.Tally.{Tally}
+use Rattle.warc.specs.declared.opened.summary.Dated.{Dated}
+use Rattle.warc.specs.declared.opened.summary.End.{End}
+use Rattle.warc.specs.declared.opened.summary.End.TheVariants.{First, Last}
+use Rattle.warc.specs.declared.opened.summary.Tally.{Tally}
 
 -- the nearest one to an end, of the nearest so far, if there is one, and the next
 abbrev pub nearest : End → Option Dated → Dated → Dated

@@ -1,54 +1,26 @@
 //! WARC archives read as streams: their records, what is wrong with them, and what they answer.
 #![tactic(auto)]
 
-mod answer;
-mod archive;
-mod block_verdicts;
-mod body;
-mod capture_line;
-mod captures;
-mod checked;
-mod closure;
-mod comparison;
-mod counts;
-mod digests;
 mod fault;
-mod fixity;
-mod forms;
-mod head;
 pub mod laws;
-mod listing;
-mod location;
-mod needs;
-mod origin;
-mod outcome;
-mod output;
-mod part;
-mod payload;
-mod payloads;
-mod range;
-mod remainder;
+mod opened;
+mod record;
+mod replay;
+mod rewrite;
 mod row;
-mod segments;
-mod selection;
-mod stated;
-mod stored;
-mod summary;
-mod verdict;
-mod whole;
 
-pub use archive::Archive;
-pub use checked::Checked;
 pub use fault::{BodyFault, ExtractFault, TakeFault};
-pub use fixity::{Counts, Fixity};
-pub use forms::Form;
-pub use listing::{Listing, open_front};
-pub use outcome::{Outcome, StoredAt};
-pub use part::Part;
-pub use payload::{PayloadVerdict, Unjudged};
-pub use payloads::Payloads;
-pub use stated::block_verdict;
-pub use summary::{Summarized, Summary};
+pub use opened::archive::Archive;
+pub use opened::checked::Checked;
+pub use opened::fixity::{Counts, Fixity};
+pub use opened::listing::{Listing, open_front};
+pub use opened::payloads::Payloads;
+pub use opened::summary::{Summarized, Summary};
+pub use record::part::Part;
+pub use record::payload::{PayloadVerdict, Unjudged};
+pub use record::stated::block_verdict;
+pub use replay::outcome::{Outcome, StoredAt};
+pub use rewrite::forms::Form;
 
 // What the calls above take and give, so that a caller needs this crate alone.
 pub use warc_answer::{Answer, Located, Path, Reason, ReplayFault, Span, Stored};

@@ -24,7 +24,7 @@ use Rattle.warc_reading.specs.Row.{Placed, Row, row_of}
 use Rattle.warc.specs.Captures.{capture_positions, position_if}
 use Rattle.warc.specs.Capturing.{outcomes_seen}
 use Rattle.warc.specs.Outcomes.{CaptureSeen, outcome_seen}
-use Rattle.warc.specs.declared.outcome.Outcome.{Outcome}
+use Rattle.warc.specs.declared.replay.outcome.Outcome.{Outcome}
 use Rattle.warc_arguments.specs.Digits.{uri_named}
 use Rattle.warc_commands.specs.Captures.{AreListed, CapturesEnds, CountEnds, JudgesListed, LinesEnd, ListedEnds}
 use Rattle.warc_commands.specs.Devices.{Devices, devices}

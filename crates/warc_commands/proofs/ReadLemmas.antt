@@ -28,9 +28,9 @@ use Rattle.warc.specs.Selected.{HasBytesOf}
 use Rattle.warc.specs.Selecting.{IsInAnyRecord, at_positions}
 use Rattle.warc.proofs.SelectLemmas.{all_at, has_bytes}
 use Rattle.warc.proofs.SelectionLaws.{selection_short}
-use Rattle.warc.specs.declared.forms.Form.{Form}
-use Rattle.warc.specs.declared.part.Part.{Part}
-use Rattle.warc.specs.declared.part.Part.TheVariants.{Head, Block}
+use Rattle.warc.specs.declared.rewrite.forms.Form.{Form}
+use Rattle.warc.specs.declared.record.part.Part.{Part}
+use Rattle.warc.specs.declared.record.part.Part.TheVariants.{Head, Block}
 use Rattle.warc.proofs.FrontLemmas.{front_begins}
 use Rattle.warc.proofs.JoinedLemmas.{path_short}
 use Rattle.warc_reading.proofs.StandLemmas.{written}

@@ -18,7 +18,7 @@ use Rattle.warc.specs.Captures.{capture_positions, captures_text}
 use Rattle.warc.specs.Capturing.{AreOutcomes, outcomes_seen}
 use Rattle.warc.specs.Outcomes.{CaptureSeen}
 use Rattle.warc.specs.Replaying.{AsksInside}
-use Rattle.warc.specs.declared.outcome.Outcome.{Outcome}
+use Rattle.warc.specs.declared.replay.outcome.Outcome.{Outcome}
 use Rattle.std.specs.declared.vec.Vec.{Vec}
 use Rattle.warc_commands.specs.Devices.{Devices}
 use Rattle.warc_commands.specs.Program.{IsNotOpened, Tells, told_line}

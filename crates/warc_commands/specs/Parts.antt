@@ -9,7 +9,7 @@ use Rattle.warc_reading.specs.Row.{Row}
 use Rattle.warc.specs.Parts.{IsGiven, extract_result, part_text}
 use Rattle.warc.specs.declared.fault.ExtractFault.{ExtractFault}
 use Rattle.warc.specs.declared.fault.ExtractFault.TheVariants.{NoRecord}
-use Rattle.warc.specs.declared.part.Part.{Part}
+use Rattle.warc.specs.declared.record.part.Part.{Part}
 use Rattle.warc_commands.specs.Devices.{Devices}
 use Rattle.warc_commands.specs.Program.{IsBadWord, IsNotOpened, TellsIf, extract_line, extract_status}
 

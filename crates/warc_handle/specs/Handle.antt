@@ -3,7 +3,7 @@ use Rattle.std.specs.Prelude.{Bool, true, false}
 use Rattle.std.specs.Box.Ownership.{box_owns}
 use Rattle.std.specs.contracts.alloc.Global as heap
 use Rattle.std.specs.contracts.impls.GlobalAllocator.TheImpl as of_heap
-use Rattle.warc.specs.contracts.archive.Archive as archive
+use Rattle.warc.specs.contracts.opened.archive.Archive as archive
 use Rattle.warc_frame.specs.contracts.source.SliceSource as lent
 use Rattle.warc_frame.specs.contracts.source.SliceSourceSource.TheImpl as of_lent
 use base.Fml.{Fml, ftrue, fex}

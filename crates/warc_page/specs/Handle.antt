@@ -1,7 +1,7 @@
 -- What a handle owns: where it is open, a reference for good to the archive that its pointer leads to.
 use Rattle.std.specs.Prelude.{Bool, true, false, []}
 use Rattle.std.specs.contracts.prelude.RefAllocator.TheImpl as of_reference
-use Rattle.warc.specs.contracts.archive.Archive as archive
+use Rattle.warc.specs.contracts.opened.archive.Archive as archive
 use Rattle.warc_frame.specs.contracts.source.SliceSource as lent
 use Rattle.warc_frame.specs.contracts.source.SliceSourceSource.TheImpl as of_lent
 use Rattle.warc_heap.specs.contracts.heap.Heap as heap

@@ -1,0 +1,10 @@
+//! What captures give: the way to an origin, its body, where it lies, and what is stored.
+
+pub(crate) mod answer;
+pub(crate) mod body;
+pub(crate) mod capture_line;
+pub(crate) mod captures;
+pub(crate) mod location;
+pub(crate) mod origin;
+pub(crate) mod outcome;
+pub(crate) mod stored;
