@@ -4,7 +4,7 @@ use Rattle.std.proofs.lemmas.List.{length-map}
 use Rattle.warc_value.specs.Dates.{Instant}
 use Rattle.warc_frame.specs.Record.{Record}
 use Rattle.warc_index.specs.Captures.{Indexed, ChosenIsLatest, indexed_of, chosen_of}
-use Rattle.warc_index.specs.Referents.{OriginsStand, ok_then, origin_of}
+use Rattle.warc_index.specs.Referents.{OriginsAreRecords, ok_then, origin_of}
 use Rattle.warc_index.specs.declared.unfound.Unfound.{Unfound}
 use Rattle.warc_payload.specs.Laws.{AtMostOneBody, NoBodyWhereCoded, OneOfThree}
 use Rattle.warc_segment.specs.Joined.{ReadRecord, joined_records}
@@ -32,7 +32,7 @@ stands_below (y ∷ xs) (suc p) lt = stands_below xs p (omega arith)
 abbrev path_by : ℕ → Result ℕ Unfound → Result Path Unfound
 path_by chosen origin = ok_then (λ given. Ok (record { chosen = chosen; given = given })) origin
 
-from_below : OriginsStand → (all : List Indexed) (p : ℕ) → p < length all → (path : Path) → path_from all p ≡ Ok path
+from_below : OriginsAreRecords → (all : List Indexed) (p : ℕ) → p < length all → (path : Path) → path_from all p ≡ Ok path
     → path.given < length all
 from_below stand all p lt path e = by_origin (origin_of all p) refl e
   where
@@ -43,7 +43,7 @@ from_below stand all p lt path e = by_origin (origin_of all p) refl e
         (let w : Path = record { chosen = p; given = q } in let f : w ≡ path = (cc) in ap (λ (v : Path). v.given) f) in
         subst (λ (n : ℕ). n < length all) same (stand all p q lt is)
 
-path_below : ChosenIsLatest → OriginsStand → (all : List Indexed) (uri : List ℕ) (moment : Instant) (path : Path)
+path_below : ChosenIsLatest → OriginsAreRecords → (all : List Indexed) (uri : List ℕ) (moment : Instant) (path : Path)
     → path_of all uri moment ≡ Ok path → path.given < length all
 path_below latest stand all uri moment path e = by_chosen (chosen_of all uri moment) refl e
   where
@@ -88,7 +88,7 @@ as_many : (records : List Record) → length (index_of (map read_record records)
 as_many records =
     length-map (map read_record records) (λ r. indexed_of r.head) ∙ length-map records read_record
 
-pub paths_end_inside : ChosenIsLatest → OriginsStand → PathsEndInside
+pub paths_end_inside : ChosenIsLatest → OriginsAreRecords → PathsEndInside
 unfolding path_for path_at
 paths_end_inside latest stand records = (
   λ uri moment path e. subst (λ (n : ℕ). path.given < n) (as_many records)
@@ -109,7 +109,7 @@ answer_once : AtMostOneBody → NoBodyWhereCoded → (records : List Record) (fo
 unfolding IsAnswerOn
 answer_once once coded records found one other is also = on_once once coded (map read_record records) found one other is also
 
-pub answers_once : AtMostOneBody → NoBodyWhereCoded → OneOfThree → ChosenIsLatest → OriginsStand → AnswersOnce
+pub answers_once : AtMostOneBody → NoBodyWhereCoded → OneOfThree → ChosenIsLatest → OriginsAreRecords → AnswersOnce
 answers_once once coded three latest stand records uri moment =
     let found = path_for records uri moment in
     let some = answer_some three records found ((paths_end_inside latest stand records).0 uri moment) in

@@ -8,7 +8,7 @@ use crate::answer::{Reason, ReplayFault};
 use crate::blocks::{SHORT, any_bad, judge_blocks};
 use crate::replay::total;
 use warc_frame::{OutFault, PIECE, Source};
-use warc_payload::laws::{front_tells_head, front_tells_no_head};
+use warc_payload::laws::{front_has_head, front_has_no_head};
 use warc_payload::{MOST_HEAD_BYTES, body_start};
 use warc_record::{Kind, Typed};
 use warc_segment::Place;
@@ -52,8 +52,8 @@ fn start_through<S: Source>(
     requires { HasRoom (length front.old) places.now }
     ensures { FindsStart true places.now (S.seen source.old) (S.seen source.new) result }
 {
-    front_tells_head();
-    front_tells_no_head();
+    front_has_head();
+    front_has_no_head();
     let n = match judge_blocks(source, places, front) {
         Ok(Some(n)) => n,
         Ok(None) => return Err(ReplayFault::Reason(Reason::BadDigest)),

@@ -20,7 +20,7 @@ use crate::body::is_http_response;
 use crate::replay::total;
 use warc_fixity::{Algorithm, Digest, Hasher};
 use warc_frame::{PIECE, ReadFault, Source, read_range};
-use warc_payload::laws::{front_tells_head, front_tells_no_head};
+use warc_payload::laws::{front_has_head, front_has_no_head};
 use warc_payload::{MOST_HEAD_BYTES, body_start};
 use warc_record::Typed;
 use warc_segment::Place;
@@ -149,8 +149,8 @@ fn digest_through<S: Source>(
         (S.seen source.new) }
     ensures fails { FailsBy (LieIn places.now) (read_result result) (S.seen source.old) (S.seen source.new) }
 {
-    front_tells_head();
-    front_tells_no_head();
+    front_has_head();
+    front_has_no_head();
     let Some(n) = judge_blocks(source, places, front)? else {
         return Ok(None);
     };

@@ -4,7 +4,7 @@ ghost use Rattle.warc_answer.specs.Laws.{PathsEndInside, PlacesAreAsLong, Reason
 ghost use Rattle.warc_answer.specs.Hashed.{EndsAtOnePayload, HasOnePayload, PayloadIsStored};
 ghost use Rattle.warc_answer.specs.Stored.{StoredIsAnswered};
 
-use warc_index::laws::{chain_loops, chosen_is_latest, origins_stand};
+use warc_index::laws::{chain_loops, chosen_is_latest, origins_are_records};
 use warc_payload::laws::{at_most_one_body, at_most_one_head, no_body_where_coded, one_of_three};
 use warc_write::laws::converted_says_the_same;
 
@@ -17,7 +17,7 @@ pub fn answers_once()
     no_body_where_coded();
     one_of_three();
     chosen_is_latest();
-    origins_stand();
+    origins_are_records();
 }
 
 /// Converting good records changes no answer: neither bodies, positions, statuses, marks and lengths, nor reasons.
@@ -37,7 +37,7 @@ pub fn paths_end_inside()
     ensures { PathsEndInside }
 {
     chosen_is_latest();
-    origins_stand();
+    origins_are_records();
 }
 
 /// The places of blocks hold as many bytes as the blocks, one after another.

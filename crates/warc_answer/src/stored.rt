@@ -20,7 +20,7 @@ use crate::blocks::{SHORT, any_bad, judge_blocks};
 use crate::replay::{any_truncated, total};
 use std::alloc::{Allocator, Global};
 use warc_frame::{OutFault, PIECE, Source};
-use warc_payload::laws::{front_tells_head, front_tells_no_head};
+use warc_payload::laws::{front_has_head, front_has_no_head};
 use warc_payload::{HeadFault, MOST_HEAD_BYTES, StoredHead, media_type, read_head};
 use warc_segment::Place;
 use warc_segment::laws::joined_has_total;
@@ -64,8 +64,8 @@ fn head_through<S: Source, A: Allocator + Copy>(
     ensures reads { ReadsPlaces places.now (len_of places.now) (S.seen source.old) (S.seen source.new) }
     ensures fails { FailsBy (LieIn places.now) (out_result result) (S.seen source.old) (S.seen source.new) }
 {
-    front_tells_head();
-    front_tells_no_head();
+    front_has_head();
+    front_has_no_head();
     let n = match judge_blocks(source, places, front) {
         Ok(Some(n)) => n,
         Ok(None) => return Err(ReplayFault::Reason(Reason::BadDigest)),

@@ -15,7 +15,7 @@ ghost use Rattle.warc_checking.specs.OwnFindings.{all_of};
 
 use crate::judging::Judging;
 use crate::own_findings::OwnFindings;
-use crate::writing::tell_rows;
+use crate::writing::write_findings;
 use std::alloc::Allocator;
 use warc_digest::judge_range;
 use warc_field::Fields;
@@ -123,5 +123,5 @@ pub fn check_rows<S: Source, A: Allocator + Copy, W: Sink>(
         Ok(findings) => findings,
         Err(fault) => return Err(fault.after(0)),
     };
-    tell_rows(alloc, rows, &findings, out)
+    write_findings(alloc, rows, &findings, out)
 }

@@ -14,4 +14,4 @@ pub use batch::{Batch, BlockCheck, MAX_WAITING, PIECE_LEN};
 pub use check::{Rejudged, check_rows, judge_again};
 pub use judging::Judging;
 pub use own_findings::OwnFindings;
-pub use writing::tell_rows;
+pub use writing::write_findings;

@@ -121,7 +121,7 @@ fn put_rows<A: Allocator + Copy, W: Sink>(
 
 /// Writes a line for each finding of the records, in their order, or that there is no record. The result is the number
 /// of lines, up to 2^64 - 1.
-pub fn tell_rows<A: Allocator + Copy, W: Sink>(
+pub fn write_findings<A: Allocator + Copy, W: Sink>(
     alloc: A,
     rows: &Rows<A>,
     findings: &OwnFindings<A>,

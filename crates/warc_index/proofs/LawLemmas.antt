@@ -1,10 +1,10 @@
 -- The laws, for callers that cite a lemma.
 use Rattle.warc_index.specs.Captures.{ChosenIsLatest, LatestIsLast}
-use Rattle.warc_index.specs.Referents.{ChainLoops, OriginsStand}
+use Rattle.warc_index.specs.Referents.{ChainLoops, OriginsAreRecords}
 use Rattle.warc_index.specs.Walks.{LoopsWhereUnfinished}
 use Rattle.warc_index.proofs.ChoiceLemmas.{chosen_is_latest as chosen_latest, latest_is_last as latest_last}
 use Rattle.warc_index.proofs.LoopLemmas.{chain_loops as chains_loop}
-use Rattle.warc_index.proofs.OriginLemmas.{origins_stand as origin_stands}
+use Rattle.warc_index.proofs.OriginLemmas.{origins_are_records as origin_stands}
 use Rattle.warc_index.proofs.WalkLemmas.{loops_where_unfinished as loops_unfinished}
 
 pub loops_where_unfinished : LoopsWhereUnfinished
@@ -16,8 +16,8 @@ latest_is_last = latest_last
 pub chosen_is_latest : ChosenIsLatest
 chosen_is_latest = chosen_latest
 
-pub origins_stand : OriginsStand
-origins_stand = origin_stands
+pub origins_are_records : OriginsAreRecords
+origins_are_records = origin_stands
 
 pub chain_loops : ChainLoops
 chain_loops = chains_loop

@@ -3,7 +3,7 @@ use Rattle.std.proofs.Common.{◌≡◌, ℕ, zero, suc, ◌<◌, Bool, true, fa
 use Rattle.warc_index.specs.declared.unfound.Unfound.{Unfound}
 use Rattle.warc_index.specs.declared.unfound.Unfound.TheVariants.{Loop}
 use Rattle.warc_index.specs.Captures.{Indexed}
-use Rattle.warc_index.specs.Referents.{ok_then, referent_at, is_revisit_at, origin_within, OriginsStand}
+use Rattle.warc_index.specs.Referents.{ok_then, referent_at, is_revisit_at, origin_within, OriginsAreRecords}
 use Rattle.warc_index.proofs.LoopLemmas.{referent_at-below}
 
 -- from the record at p: it is the origin, or the origin of the next one is
@@ -27,5 +27,5 @@ origin_below (suc steps) all p q lt e =
     by_step steps all p q (is_revisit_at all p) (referent_at all (slice_get all p)) lt
     (λ r to. referent_at-below all (slice_get all p) r to) (λ r within is. origin_below steps all r q within is) e
 
-pub origins_stand : OriginsStand
-origins_stand all p q lt e = origin_below (length all) all p q lt e
+pub origins_are_records : OriginsAreRecords
+origins_are_records all p q lt e = origin_below (length all) all p q lt e

@@ -81,8 +81,8 @@ abbrev pub origin_of : List Indexed → ℕ → Result ℕ Unfound
 origin_of all p = origin_within (length all) all p
 
 -- the origin of a record is one of the records
-abbrev pub OriginsStand : Type 0
-OriginsStand = (all : List Indexed) (p q : ℕ) → p < length all → origin_of all p ≡ Ok q → q < length all
+abbrev pub OriginsAreRecords : Type 0
+OriginsAreRecords = (all : List Indexed) (p q : ℕ) → p < length all → origin_of all p ≡ Ok q → q < length all
 
 -- where the chain goes on from p, none if it ends or breaks
 abbrev pub next_of : List Indexed → ℕ → Option ℕ

@@ -1,6 +1,6 @@
 //! Laws over the definitions: functions that do nothing, each with a law as its contract.
 ghost use Rattle.warc_index.specs.Captures.{ChosenIsLatest, LatestIsLast};
-ghost use Rattle.warc_index.specs.Referents.{ChainLoops, OriginsStand};
+ghost use Rattle.warc_index.specs.Referents.{ChainLoops, OriginsAreRecords};
 ghost use Rattle.warc_index.specs.Texts.{KeepsTexts};
 ghost use Rattle.warc_index.specs.Walks.{LoopsWhereUnfinished};
 
@@ -21,8 +21,8 @@ pub fn chosen_is_latest()
 {}
 
 /// The origin of a record is one of the records.
-pub fn origins_stand()
-    ensures { OriginsStand }
+pub fn origins_are_records()
+    ensures { OriginsAreRecords }
 {}
 
 /// A capture has no origin for a loop exactly if the chain of referents comes back to a record that it has left.

@@ -7,7 +7,7 @@ use Rattle.httparse.proofs.GrammarLemmas.{response_unique, ReadsResponse-append}
 use Rattle.warc_payload.specs.declared.HeadInfo.{HeadInfo}
 use Rattle.warc_payload.specs.Coding.{is_coded, is_transfer_coded}
 use Rattle.warc_payload.specs.Head.{IsInfoOf, front_of}
-use Rattle.warc_payload.specs.Laws.{AtMostOneHead, AtMostOneInfo, FrontTellsHead, FrontTellsNoHead, AtMostOneBody, NoBodyWhereCoded}
+use Rattle.warc_payload.specs.Laws.{AtMostOneHead, AtMostOneInfo, FrontHasHead, FrontHasNoHead, AtMostOneBody, NoBodyWhereCoded}
 
 pub at_most_one_head : AtMostOneHead
 at_most_one_head text head other rest more x y = response_unique text head other rest more x.reads y.reads
@@ -52,9 +52,9 @@ rest_by_length : (text : List ℕ) (head : ResponseHead) (rest : List ℕ) → R
 rest_by_length text head rest reads =
     sym (ap (drop (length (print_response head))) reads.1 ∙ drop-append_seam (print_response head) rest)
 
-pub front_tells_head : FrontTellsHead
+pub front_has_head : FrontHasHead
 unfolding front_of
-front_tells_head block info head x =
+front_has_head block info head x =
     let reads : ReadsResponse block head _ = head_of_whole 65_536 block head _ x.front.reads in
     let rest : _ ≡ drop info.head_len block = rest_by_length block head _ reads ∙ ap (λ n. drop n block) (sym x.head_len) in
     record {
@@ -69,9 +69,9 @@ front_tells_head block info head x =
       transfer_coded = x.transfer_coded;
     }
 
-pub front_tells_no_head : FrontTellsNoHead
+pub front_has_no_head : FrontHasNoHead
 unfolding front_of
-front_tells_no_head block none head rest x =
+front_has_no_head block none head rest x =
     none head _ (record { reads = head_of_front 65_536 block head rest x.reads x.size; size = x.size; lines = x.lines })
 
 pub at_most_one_body : AtMostOneBody

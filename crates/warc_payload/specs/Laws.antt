@@ -16,13 +16,13 @@ AtMostOneInfo = (text : List ℕ) (info told : HeadInfo) (head other : ResponseH
     → IsInfoOf text info head → IsInfoOf text told other → info ≡ told
 
 -- a block's front has the head of the whole block
-abbrev pub FrontTellsHead : Type 0
-FrontTellsHead = (block : List ℕ) (info : HeadInfo) (head : ResponseHead)
+abbrev pub FrontHasHead : Type 0
+FrontHasHead = (block : List ℕ) (info : HeadInfo) (head : ResponseHead)
     → IsInfoOf (front_of block) info head → IsInfoOf block info head
 
 -- and that it has none
-abbrev pub FrontTellsNoHead : Type 0
-FrontTellsNoHead = (block : List ℕ) → HasNoHead (front_of block) → HasNoHead block
+abbrev pub FrontHasNoHead : Type 0
+FrontHasNoHead = (block : List ℕ) → HasNoHead (front_of block) → HasNoHead block
 
 -- a block gives at most one body, under one status
 abbrev pub AtMostOneBody : Type 0

@@ -1,6 +1,6 @@
 //! Laws over the definitions: functions that do nothing, each with a law as its contract.
 
-ghost use Rattle.warc_payload.specs.Laws.{AtMostOneHead, AtMostOneInfo, FrontTellsHead, FrontTellsNoHead, AtMostOneBody, NoBodyWhereCoded, OneOfThree};
+ghost use Rattle.warc_payload.specs.Laws.{AtMostOneHead, AtMostOneInfo, FrontHasHead, FrontHasNoHead, AtMostOneBody, NoBodyWhereCoded, OneOfThree};
 
 /// A text begins with at most one head, so the head, what follows it and all that a head says
 /// are functions of the text's bytes.
@@ -14,13 +14,13 @@ pub fn at_most_one_info()
 {}
 
 /// What is said of the first 65,536 bytes of a block is said of the whole block.
-pub fn front_tells_head()
-    ensures { FrontTellsHead }
+pub fn front_has_head()
+    ensures { FrontHasHead }
 {}
 
 /// A block whose first 65,536 bytes have no head has none.
-pub fn front_tells_no_head()
-    ensures { FrontTellsNoHead }
+pub fn front_has_no_head()
+    ensures { FrontHasNoHead }
 {}
 
 /// A block gives at most one body.

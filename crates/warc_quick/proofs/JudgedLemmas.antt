@@ -19,7 +19,7 @@ use Rattle.warc_record.specs.declared.checks.TableCheck.TheVariants.{Lacks, HasF
 use Rattle.warc_record.specs.declared.types.Kind.{Kind}
 use Rattle.warc_record.specs.declared.types.Kind.TheVariants.{Other}
 use Rattle.warc_record.specs.declared.readings.SegmentNumber.TheVariants.{Absent}
-use Rattle.warc_record.specs.Findings.{SeenFinding, Digest, SegmentNumber, IdUsed, NoContentType, Profile, BareId, NoOrigin, by_table, findings_of, findings_by, has_bad_segment, has_bare_id, has_unknown_profile, lacks_content_type, lacks_origin, not_utf8, once, stands_in_brackets}
+use Rattle.warc_record.specs.Findings.{SeenFinding, Digest, SegmentNumber, IdUsed, NoContentType, Profile, BareId, NoOrigin, by_table, findings_of, findings_by, has_bad_segment, has_bare_id, has_unknown_profile, lacks_content_type, lacks_origin, not_utf8, once, is_in_brackets}
 use Rattle.warc_record.specs.Kinds.{is_continuation, is_known, is_revisit, kind_named}
 use Rattle.warc_record.specs.Readings.{Reading, is_known_profile, kind_of, reading_of, segment_number, unless_empty}
 use Rattle.warc_record.proofs.TypedLemmas.{some_bytes}
@@ -85,7 +85,7 @@ pub no_profile : (fields : List Pair) → is_revisit (kind_of fields) ≡ false 
 no_profile fields other = rw other refl
 
 bare_id : (value : Option (List ℕ)) (text : List ℕ) → value ≡ Some text
-    → option_map_or (λ text. not (stands_in_brackets text)) value false ≡ not (stands_in_brackets text)
+    → option_map_or (λ text. not (is_in_brackets text)) value false ≡ not (is_in_brackets text)
 bare_id value text is = rw is refl
 
 -- the findings, each number in turn
@@ -137,15 +137,15 @@ module _ (fields : List Pair) (head : QuickHead) (says : Says fields head) (kind
   pub of_kind : kind_of fields ≡ kind
   of_kind = named_kind (first_value warc_type fields) ∙ ap kind_named (sym says.texts.kind) ∙ sym kind_is
 
-  bare_is : not (stands_in_brackets head.texts.id.now) ≡ has_bare_id (reading_of fields)
+  bare_is : not (is_in_brackets head.texts.id.now) ≡ has_bare_id (reading_of fields)
   bare_is =
       let said = read fields head says in
-      ap (λ t. not (stands_in_brackets t)) (id_is fields head says) ∙ sym (bare_id _ said.id_text said.id_text_is)
+      ap (λ t. not (is_in_brackets t)) (id_is fields head says) ∙ sym (bare_id _ said.id_text said.id_text_is)
 
   pub are_findings : (found : List SeenFinding) (text : List ℕ) → is_single kind ≡ true → by_table Repeats kind fields ≡ []
       → text ≡ unwrap_or (first_value warc_segment_number fields) [] → (length text == 0) ≡ true → not_utf8 fields ≡ []
       → found ≡ before_digest kind fields
-      ++ after_used kind fields head.block_len (has_unknown_profile (reading_of fields) fields) (not (stands_in_brackets head.texts.id.now))
+      ++ after_used kind fields head.block_len (has_unknown_profile (reading_of fields) fields) (not (is_in_brackets head.texts.id.now))
       → AreFindings fields head.block_len found
   unfolding findings_of
   are_findings found text single few number none utf8 is =
@@ -156,7 +156,7 @@ module _ (fields : List Pair) (head : QuickHead) (says : Says fields head) (kind
         before = before_digest (kind_of fields) fields;
         after = after_used (kind_of fields) fields head.block_len profile (has_bare_id (reading_of fields));
         found_is = is
-            ∙ ap (λ k. before_digest k fields ++ after_used k fields head.block_len profile (not (stands_in_brackets head.texts.id.now))) (sym of_kind)
+            ∙ ap (λ k. before_digest k fields ++ after_used k fields head.block_len profile (not (is_in_brackets head.texts.id.now))) (sym of_kind)
             ∙ ap (λ b. before_digest (kind_of fields) fields ++ after_used (kind_of fields) fields head.block_len profile b) bare_is;
         among = λ bad_digest used_id.
             found_by (reading_of fields) fields head.block_len bad_digest used_id single_of

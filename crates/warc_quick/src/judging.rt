@@ -16,7 +16,7 @@ use crate::plain_findings::{PlainFinding, PlainFindings};
 use crate::table::add_by_table;
 use crate::values::Values;
 use warc_frame::FieldName;
-use warc_record::{Kind, is_known_profile, stands_in_brackets};
+use warc_record::{Kind, is_in_brackets, is_known_profile};
 use warc_value::Wanted;
 
 /// Whether the kind is one of the eight, but no continuation.
@@ -68,7 +68,7 @@ fn findings_of(text: &[u8], head: &QuickHead<'_>, values: &Values<'_>) -> Option
     if !found.push_once(PlainFinding::Profile, has_profile) {
         return None;
     }
-    let is_bare = !stands_in_brackets(head.texts.id);
+    let is_bare = !is_in_brackets(head.texts.id);
     if !found.push_once(PlainFinding::BareId, is_bare) {
         return None;
     }

@@ -113,11 +113,11 @@ abbrev pub not_utf8 : List Pair → List SeenFinding
 not_utf8 fields = map (λ (field : Pair). NotUtf8 field.0) (filter is_not_utf8 fields)
 
 -- N10: the value of the id isn't between < and >
-abbrev pub stands_in_brackets : List ℕ → Bool
-stands_in_brackets value = (slice_index value 0 == 60) && (slice_index value (length value - 1) == 62)
+abbrev pub is_in_brackets : List ℕ → Bool
+is_in_brackets value = (slice_index value 0 == 60) && (slice_index value (length value - 1) == 62)
 
 abbrev pub has_bare_id : Reading → Bool
-has_bare_id reading = option_map_or (λ value. not (stands_in_brackets value)) reading.id_text false
+has_bare_id reading = option_map_or (λ value. not (is_in_brackets value)) reading.id_text false
 
 -- N11: a continuation's origin holds no id
 abbrev pub lacks_origin : Reading → List Pair → Bool

@@ -6,7 +6,7 @@ ghost use Rattle.warc_record.specs.Kinds.{is_known};
 ghost use Rattle.warc_record.specs.Readings.{kind_of, reading_of};
 ghost use Rattle.warc_frame.specs.FieldNames.{name_text};
 ghost use Rattle.warc_record.specs.Table.{rule_seen};
-ghost use Rattle.warc_record.specs.Findings.{stands, broken_rule, is_broken, by_table, once, finding_seen, finding_number, finding_field, is_bad_number, has_bad_segment, lacks_content_type, has_unknown_profile, lacks_origin, has_bare_id, stands_in_brackets, not_utf8, findings_of};
+ghost use Rattle.warc_record.specs.Findings.{stands, broken_rule, is_broken, by_table, once, finding_seen, finding_number, finding_field, is_bad_number, has_bad_segment, lacks_content_type, has_unknown_profile, lacks_origin, has_bare_id, is_in_brackets, not_utf8, findings_of};
 
 use crate::ids::bare;
 use crate::known::ByName;
@@ -290,8 +290,8 @@ fn lacks_origin<A: Allocator>(kind: Kind, fields: &ByName<'_, A>) -> bool
 }
 
 /// Whether the text begins with `<` and ends with `>`.
-pub fn stands_in_brackets(text: &[u8]) -> bool
-    ensures { result ≡ stands_in_brackets text.now }
+pub fn is_in_brackets(text: &[u8]) -> bool
+    ensures { result ≡ is_in_brackets text.now }
 {
     !text.is_empty() && text[0] == b'<' && text[text.len() - 1] == b'>'
 }
@@ -301,7 +301,7 @@ fn has_bare_id<A: Allocator>(fields: &ByName<'_, A>) -> bool
     ensures { result ≡ has_bare_id (reading_of fields.now) }
 {
     match fields.first(FieldName::RecordId) {
-        Some(id) => !stands_in_brackets(id.bytes()),
+        Some(id) => !is_in_brackets(id.bytes()),
         None => false,
     }
 }

@@ -11,7 +11,7 @@ mod readings;
 mod table;
 mod types;
 
-pub use checks::{ArchiveFacts, Finding, TableCheck, all_findings, findings, stands_in_brackets};
+pub use checks::{ArchiveFacts, Finding, TableCheck, all_findings, findings, is_in_brackets};
 pub use head::{
     GoodHead, HeadTexts, NamedPair, Reference, Segment, Typed, judge_head, type_head, wanted,
 };

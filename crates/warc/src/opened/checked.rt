@@ -9,7 +9,7 @@ ghost use Rattle.warc_checking.specs.Judged.{IsJudgedOf};
 
 use std::alloc::{Allocator, Global};
 use std::marker::Model;
-use warc_checking::{Judging, OwnFindings, tell_rows};
+use warc_checking::{Judging, OwnFindings, write_findings};
 use warc_frame::laws::head_of_spelled;
 use warc_frame::{Fault, OutFault, Sink, Source};
 use warc_reading::Opened;
@@ -81,6 +81,6 @@ impl<S: Source, A: Allocator + Copy> Checked<S, A> {
     {
         head_of_spelled();
         let rows = &self.opened.rows;
-        tell_rows(rows.allocator(), rows, &self.opened.kept, out)
+        write_findings(rows.allocator(), rows, &self.opened.kept, out)
     }
 }

@@ -10,7 +10,7 @@ returns-in-Err-clause-digest g c = λ bytes held lie.
     let text : List ℕ = text_at c.args.places.now bytes in
     let judged = some_front _ _ _ _ _ c.in-Some.is (c.in_ok-n.ensures.judged bytes held lie) in
     let same = front_is bytes c.args.places.now c.judge_blocks.new.front c.in-Some.n (length c.args.front.now) lie c.requires judged.1 in
-    no_head_digest _ text c.args.algorithm judged.0 (c.front_tells_no_head.ensures text (none_at _ text same c.in-Err.ensures.none))
+    no_head_digest _ text c.args.algorithm judged.0 (c.front_has_no_head.ensures text (none_at _ text same c.in-Err.ensures.none))
 
 pub returns-clause-digest : goal.returns-clause-digest
 returns-clause-digest g c = λ bytes held lie.
@@ -22,7 +22,7 @@ returns-clause-digest g c = λ bytes held lie.
     let same = front_is bytes c.args.places.now front n (length c.args.front.now) lie c.requires judged.1 in
     let info = c.in-Ok.info in
     let found = c.in-Ok.ensures.found in
-    let is = c.front_tells_head.ensures text info found.0 (info_at _ text info found.0 same found.1) in
+    let is = c.front_has_head.ensures text info found.0 (info_at _ text info found.0 same found.1) in
     behind_digest _ text _ info found.0 c.args.algorithm c.in_ok-digest.digest judged.0 is
     (behind_head text front n info.head_len within same (head_taken front n info found.0 within found.1))
     (c.in_ok-digest.ensures.digest bytes (c.in_ok-n.ensures.reads.kept ∙ held) lie)

@@ -30,12 +30,12 @@ returns g c =
     let can = checkable_archive c.head_of_spelled.ensures bytes _ is _ refl in
     record { can = can; found_is = c.in-Ok.ensures.judged bytes held is.are.records can } in
     record {
-      told = λ bytes held is. c.tell_rows.ensures.told bytes is.are.records (found bytes held is);
+      told = λ bytes held is. c.write_findings.ensures.told bytes is.are.records (found bytes held is);
       number = λ bytes held is.
-          IfOk-weaker c.tell_rows.result _ _ (λ n e. e ∙ counted bytes _ is) (c.tell_rows.ensures.number bytes is.are.records (found bytes held is));
-      cut = λ bytes held is. c.tell_rows.ensures.cut bytes is.are.records (found bytes held is);
+          IfOk-weaker c.write_findings.result _ _ (λ n e. e ∙ counted bytes _ is) (c.write_findings.ensures.number bytes is.are.records (found bytes held is));
+      cut = λ bytes held is. c.write_findings.ensures.cut bytes is.are.records (found bytes held is);
       reads = c.judge_rows.ensures.reads;
-      fails = fails_unread c.tell_rows.result c.tell_rows.ensures.unread c.in-Ok.ensures.fails.may;
-      cause = c.tell_rows.ensures.cause;
-      unsent = IfErr-weaker c.tell_rows.result _ _ (λ e none is. let no : false ≡ true = sym none ∙ is in absurd (cc no)) c.tell_rows.ensures.unread;
+      fails = fails_unread c.write_findings.result c.write_findings.ensures.unread c.in-Ok.ensures.fails.may;
+      cause = c.write_findings.ensures.cause;
+      unsent = IfErr-weaker c.write_findings.result _ _ (λ e none is. let no : false ≡ true = sym none ∙ is in absurd (cc no)) c.write_findings.ensures.unread;
     }

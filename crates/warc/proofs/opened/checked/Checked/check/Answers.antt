@@ -8,7 +8,7 @@ pub returns-clause-tells : goal.returns-clause-tells
 returns-clause-tells g c bytes is =
     let findings = judged_by c.head_of_spelled.ensures bytes _ is _ _ (ap (λ v. v.listing.rows) c.self.view_is) (ap (λ v. v.findings) c.self.view_is) in
     record {
-      told = c.tell_rows.ensures.told bytes is.listed.are.records findings;
-      number = IfOk-weaker c.tell_rows.result _ _ (λ n e. e ∙ counted bytes _ is.listed) (c.tell_rows.ensures.number bytes is.listed.are.records findings);
-      cut = c.tell_rows.ensures.cut bytes is.listed.are.records findings;
+      told = c.write_findings.ensures.told bytes is.listed.are.records findings;
+      number = IfOk-weaker c.write_findings.result _ _ (λ n e. e ∙ counted bytes _ is.listed) (c.write_findings.ensures.number bytes is.listed.are.records findings);
+      cut = c.write_findings.ensures.cut bytes is.listed.are.records findings;
     }

@@ -1,6 +1,6 @@
 use Rattle.std.proofs.Common.{rules, []}
 use Rattle.std.proofs.lemmas.Result.{err_from_is_err_and}
-use Rattle.warc_checking.proofs.writing.tell_rows.Goals as goal
+use Rattle.warc_checking.proofs.writing.write_findings.Goals as goal
 
 pub returns-in_err-number-clause-cut : goal.returns-in_err-number-clause-cut
 returns-in_err-number-clause-cut g c = λ bytes records findings.
