@@ -11,7 +11,8 @@ It reports, a line each, and exits with 1 where there is any:
   in one line; in a page, but for rows of tables and what a command writes (tools/wrap_pages.py breaks paragraphs); in
   tools/, bench/, packaging/ and shell/, and in Python, shell, C and Rust of tests/, collection/, python/, rust/ and c/;
 - a must-fail edit that doesn't apply (a text that isn't in its file exactly once), or that has no line `why:`;
-- a number of a paper or of a request in place of a plain name.
+- a number of a paper or of a request in place of a plain name;
+- a file of src/ that doesn't begin with `//!`, which says what is in it.
 """
 from __future__ import annotations
 
@@ -186,6 +187,12 @@ def numbers_of_papers(top: str, paths: list[str]) -> Iterator[str]:
                 yield f"{path}:{number}: {found[0]}"
 
 
+def without_head(top: str, paths: list[str]) -> Iterator[str]:
+    for path in paths:
+        if re.fullmatch(r"crates/\w+/src/.*\.rt", path) and not lines_of(top, path)[0].startswith("//! "):
+            yield path
+
+
 def main(words: list[str]) -> int:
     top = words[0] if words else os.path.join(os.path.dirname(os.path.abspath(__file__)), "..")
     paths = files(top)
@@ -197,6 +204,7 @@ def main(words: list[str]) -> int:
             ("too wide", wide_lines),
             ("bad edit", bad_edits),
             ("number of a paper", numbers_of_papers),
+            ("no first line //!", without_head),
         )
         for line in check(top, paths)
     ]

@@ -1,4 +1,19 @@
 //! WARC archives read as streams: their records, what is wrong with them, and what they answer.
+//!
+//! To read a page as of a date, open an [`Archive`] over a source of bytes, and call `replay` with the URI and the
+//! instant, which [`read_date`] reads. To list records, open a [`Listing`] and go over its `rows`; to write them anew,
+//! in segments or in part, call its `write_as`, `split` or `select`. To find what is wrong with records, open a
+//! [`Checked`] and call `check`. To compare blocks with the digests that their heads state, open a [`Fixity`]; for
+//! payloads call `payloads` of an `Archive`. To know how many records there are, and of which kinds, open a
+//! [`Summarized`].
+//!
+//! A [`Source`] gives bytes at any offset, and a [`Sink`] takes bytes. No block is kept in memory. The file CALLING.md
+//! has a whole proved caller and each contract.
+//!
+//! - `opened`: these types, each a source with the rows of its records and what is kept beside them.
+//! - `replay`: what captures give.
+//! - `rewrite`: archives written.
+//! - `record`: what one record gives.
 #![tactic(auto)]
 
 mod fault;

@@ -1,3 +1,4 @@
+//! A field area, read: its lines, and the fields that they are.
 ghost use Rattle.std.specs.Prelude.{◌≡◌, IfOk, IfErr, List, Some, None, Ok, option_map, IfSome, position, length, ◌<◌, ◌≤◌};
 ghost use Rattle.warc_field.specs.Area.{Pair, is_colon, value_of, field_of, area_of, Reads, SpellsFields, TellsBadLine, TellsWithin};
 ghost use Rattle.warc_field.specs.FaultText.{area_fault_text};

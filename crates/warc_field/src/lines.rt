@@ -1,3 +1,4 @@
+//! Lines that end with CRLF, and folds in them.
 ghost use Rattle.std.specs.Prelude.{◌≡◌, ℕ, true, false, ◌+◌, ◌<◌, ◌≤◌, [], ◌∷◌, ◌++◌, length, IfSome, IfNone, IfOk};
 ghost use Rattle.warc_field.specs.Lines.{crlf_at, lines, parts, unfolded};
 

@@ -1,3 +1,4 @@
+//! Numbers written in decimal digits.
 ghost use Rattle.std.specs.Prelude.{◌≡◌};
 ghost use Rattle.warc_field.specs.Decimal.{decimal_of};
 

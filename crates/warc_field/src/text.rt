@@ -1,3 +1,4 @@
+//! Names and values of fields: texts that are valid.
 ghost use Rattle.std.specs.Prelude.{◌≡◌, ◌≤◌, ◌-◌, ◌<◌, ◌↔◌, IsTrue, IfOk, IsOk, IsErrOf, OnOk, OnErr, length, Some, true, false};
 ghost use Rattle.std.specs.List.{list_all, prefix_len, suffix_len};
 ghost use Rattle.warc_field.specs.FaultText.{text_fault_text};

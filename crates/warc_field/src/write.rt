@@ -1,3 +1,4 @@
+//! A field area, written: each field as its canonical line.
 ghost use Rattle.std.specs.Prelude.{◌≡◌, ◌+◌, ◌^◌, ◌<◌, ◌≤◌, ◌++◌, Ok, OnOk, OnErr, IfSome, IfNone, length, vec_len, vec_capacity};
 ghost use Rattle.warc_field.specs.Area.{canonical_line, canonical_fields};
 

@@ -1,3 +1,4 @@
+//! Known digests, as values state them, and values that state none.
 use crate::{Judge, stated_verdict};
 use warc_value::Verdict;
 

@@ -1,3 +1,4 @@
+//! Where a head ends, and with which version it begins, in bytes that come in pieces.
 ghost use Rattle.std.specs.Prelude.{◌≡◌, ℕ, ◌+◌, ◌-◌, ◌<◌, ◌≤◌, ◌++◌, ◌&&◌, length, take, drop, slice_index, IfSome, IsTrue, ◌↔◌, MatchOption, None, Some};
 ghost use Rattle.warc_field.specs.Lines.{crlf_at};
 ghost use Rattle.warc_frame.specs.Reading.{empty_line, version_of, begins};

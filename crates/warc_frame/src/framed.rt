@@ -1,3 +1,4 @@
+//! A record with its block in memory, and why texts make none.
 ghost use Rattle.std.specs.Prelude.{◌≡◌, ◌+◌, ◌≤◌, Ok, Err, IfOk, IsOk, length};
 ghost use Rattle.warc_frame.specs.Record.{Record, Frames, IsFramed, framed_of, fault_kind_of, max_block, max_head};
 ghost use Rattle.warc_field.specs.Area.{canonical_fields};

@@ -1,3 +1,4 @@
+//! The records that a list of pieces spells, by the decoder.
 ghost use Rattle.std.specs.Prelude.{◌≡◌, ℕ, ◌+◌, ◌≤◌, ◌^◌, ◌++◌, List, [], ◌∷◌, length, IfOk, IfErr, OnOk, OnErr, MatchResult};
 ghost use Rattle.std.specs.List.{flat_map};
 ghost use Rattle.warc_frame.specs.Record.{Record, max_archive};

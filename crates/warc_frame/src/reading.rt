@@ -1,3 +1,4 @@
+//! A head, and the record at the front of a text, or the first reason why there is none.
 ghost use Rattle.std.specs.Prelude.{◌≡◌, ◌≢◌, ◌<◌, ◌+◌, ◌*◌, ◌≤◌, ◌⊎◌, ℕ, ◌++◌, List, [], Ok, Err, Some, None, length, take, not, nat_lt, OnOk, IfOk, IfErr, IfSome, MatchResult};
 ghost use Rattle.warc_frame.specs.declared.version.Version.{Version};
 ghost use Rattle.warc_frame.specs.Names.{content_length};

@@ -1,3 +1,4 @@
+//! The decoder: records that come in pieces of any length.
 ghost use Rattle.std.specs.Prelude.{◌≡◌, ◌≢◌, ℕ, ◌+◌, ◌-◌, ◌<◌, ◌≤◌, ◌^◌, ◌++◌, length, List, [], take, Bool, true, false, MatchResult, IfOk, OnErr, IfErr, Ok, Err, Some, None};
 ghost use Rattle.warc_frame.specs.Reading.{head_len, version_of};
 ghost use Rattle.warc_frame.specs.Told.{Told, nothing, Lies, Refuses};

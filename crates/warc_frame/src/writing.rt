@@ -1,3 +1,4 @@
+//! The canonical text of a record.
 ghost use Rattle.std.specs.Prelude.{◌≡◌, ◌+◌, ◌<◌, ◌≤◌, ◌++◌, OnOk, OnErr, length, vec_len, vec_capacity};
 ghost use Rattle.warc_field.specs.Area.{canonical_fields};
 ghost use Rattle.warc_frame.specs.VersionLine.{version_line};

@@ -1,3 +1,4 @@
+//! Known digests: of four messages at once, and of single ones.
 ghost use Rattle.std.specs.Prelude.{◌≡◌, ◌<◌, ◌++◌};
 ghost use Rattle.sha1.specs.Sha1.{sha1};
 

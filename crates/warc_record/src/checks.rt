@@ -1,3 +1,4 @@
+//! Findings: what is wrong with a record that can be read.
 ghost use Rattle.std.specs.Prelude.{◌≡◌, ◌++◌, ◌&&◌, not, nat_lt, OnOk, IfOk, map, false};
 ghost use Rattle.warc_field.specs.Area.{count_of};
 ghost use Rattle.std.specs.Option.{option_copied};

@@ -1,3 +1,4 @@
+//! What the head of a good record says, by its fields.
 ghost use Rattle.std.specs.Prelude.{◌≡◌, [], MatchResult, Some, None, true, option_and_then, option_map, unwrap_or};
 ghost use Rattle.std.specs.Option.{option_copied};
 ghost use Rattle.warc_field.specs.Area.{first_value};

@@ -1,3 +1,4 @@
+//! Ids of records, and the keys by which they are compared.
 ghost use Rattle.std.specs.Prelude.{◌≡◌, ◌∷◌, ◌==◌, IfSome, None, Some, true, length, slice_index};
 ghost use Rattle.std.specs.List.{list_any};
 ghost use Rattle.std.proofs.Common.{rules};

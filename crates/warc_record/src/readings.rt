@@ -1,3 +1,4 @@
+//! What single fields of a head say.
 ghost use Rattle.std.specs.Prelude.{◌≡◌, [], Some, unwrap_or};
 ghost use Rattle.std.specs.Option.{option_copied};
 ghost use Rattle.warc_field.specs.Area.{first_value};

@@ -1,3 +1,4 @@
+//! The field table: which fields a kind of record must have, and which it must not.
 ghost use Rattle.std.specs.Prelude.{◌≡◌, map};
 ghost use Rattle.warc_frame.specs.FieldNames.{name_text};
 ghost use Rattle.warc_record.specs.Table.{rules, rule_seen, column_of, is_among};

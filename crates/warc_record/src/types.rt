@@ -1,3 +1,4 @@
+//! The kinds of records.
 ghost use Rattle.std.specs.Prelude.{◌≡◌, find};
 ghost use Rattle.std.specs.Option.{option_map_or};
 ghost use Rattle.std.specs.Str.{str_eq_ignore_ascii_case};

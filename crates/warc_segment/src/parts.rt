@@ -1,3 +1,4 @@
+//! What is kept of continuations, and the places that join to a block.
 ghost use Rattle.std.specs.Prelude.{◌≡◌, ◌⊎◌, ◌+◌, ◌≤◌, ◌^◌, ℕ, ◌++◌, [], ◌∷◌, List, length, take, sum_by, map, Option, OnOk, OnErr, IfOk, IsSome, MatchOption, false};
 ghost use Rattle.warc_record.specs.Seen.{said};
 ghost use Rattle.warc_segment.specs.Series.{AreMembersAt, IsMemberAt, series_of};

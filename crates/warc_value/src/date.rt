@@ -1,3 +1,4 @@
+//! Dates, read as instants.
 ghost use Rattle.std.specs.Prelude.{◌≡◌, ◌<◌, ◌≤◌, ◌+◌, ◌-◌, ◌^◌, take, drop, length, codes, ◌*◌, nat_lt, is_some, true, Some, None, IsSome, IfSome, ◌↔◌, pos, ◌+ℤ◌, if◌then◌else◌};
 ghost use Rattle.std.specs.List.{list_all, zip};
 ghost use Rattle.std.specs.Char.{is_ascii_digit};

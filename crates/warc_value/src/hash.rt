@@ -1,3 +1,4 @@
+//! The SHA-1 of a block, and the verdict on it.
 ghost use Rattle.std.specs.Prelude.{◌≡◌, ◌++◌, ◌↔◌, List, ℕ, []};
 ghost use Rattle.sha1.specs.Sha1.{sha1};
 ghost use Rattle.warc_value.specs.Digests.{is_bad, wanted_digest, verdict_of};

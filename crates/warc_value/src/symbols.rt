@@ -1,3 +1,4 @@
+//! Base32, in both directions.
 ghost use Rattle.std.specs.Prelude.{◌≡◌, ◌<◌, ◌≤◌, length, unwrap_or, Some, None, IfSome, IsSome, IsNone, if◌then◌else◌};
 ghost use Rattle.std.specs.List.{list_all, flat_map};
 ghost use Rattle.warc_value.specs.Base32.{bits_of, number_of_bits, symbol_of, symbol_value, is_symbol, base32_of, decoded_of, unbase32_of};

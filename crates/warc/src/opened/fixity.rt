@@ -166,7 +166,7 @@ fn add_digest<A: Allocator + Copy>(
     Ok(())
 }
 
-/// The same while the source is read. The last blocks wait until they are hashed, and so do the values of their
+/// `Digests` while the source is read. The last blocks wait until they are hashed, and so do the values of their
 /// digests.
 #[derive(Drop)]
 struct WaitingDigests<A: Allocator> {

@@ -91,7 +91,7 @@ pub(crate) fn has_segment_number<A: Allocator>(fields: &Fields<A>) -> bool
     }
 }
 
-/// The same while the source is read. The last blocks wait until they are hashed.
+/// `RecordFlags` while the source is read. The last blocks wait until they are hashed.
 #[derive(Drop)]
 struct WaitingFlags<A: Allocator> {
     segmented: Vec<bool, A>,
