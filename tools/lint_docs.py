@@ -13,7 +13,7 @@
 - docs/PROMISES.md names the number of cases that the reports of the suites count.
 - docs/NUMBERS.md is what tools/make_numbers.py makes, and docs/FORMAT.md has the same numbers and names.
 - The exit statuses of docs/PROGRAM.md are what tools/make_statuses.py makes of the help texts.
-- crates/warc/CALLING.md is what tools/make_calling.py makes.
+- Each crates/NAME/CALLING.md is what tools/make_calling.py makes, and has at most 150 lines.
 """
 from __future__ import annotations
 
@@ -133,8 +133,7 @@ def main() -> None:
             found += missing_paths(os.path.relpath(path, TOP))
     if len(read("README.md").encode()) > MOST:
         found.append(f"README.md: more than {MOST} bytes")
-    if read(make_calling.PAGE) != make_calling.page():
-        found.append(f"{make_calling.PAGE}: run tools/make_calling.py")
+    found += make_calling.faults()
     print("\n".join(found) or "the pages are as they must be")
     sys.exit(bool(found))
 
