@@ -11,6 +11,7 @@ use std::io::{self, IsTerminal};
 use std::process::ExitCode;
 use warc_arguments::{CommandLine, Request};
 use warc_commands::run;
+use warc_frame::Sink;
 use warc_host::{Ended, ErasingSink, Host, Progress, ShownSink, hint, words};
 
 /// The exit status where a write failed.
@@ -38,6 +39,64 @@ fn request_of<'a>(line: &io::Result<CommandLine<'a>>) -> Option<Request<'a>> {
     }
 }
 
+/// Does what a command line says, and returns the exit status.
+fn status_of<'a, W: Sink, E: Sink>(
+    files: &Files<'a>,
+    line: &io::Result<CommandLine<'_>>,
+    out: &mut W,
+    err: &mut E,
+) -> u8 {
+    let (status, _) = run(files.host.rt.alloc(), files, line, out, err);
+    status
+}
+
+/// Writes lines for people after a run that ended so, and reported this on standard error.
+fn give_hints(
+    files: &Files<'_>,
+    line: &CommandLine<'_>,
+    request: &Request<'_>,
+    status: u8,
+    report: &[u8],
+) {
+    let Host {
+        rt,
+        progress,
+        reason,
+        ..
+    } = &files.host;
+    let ended = Ended {
+        status,
+        packing: progress.packing(),
+        reason: reason.get(),
+    };
+    let _ = hint(rt, line.words(), request, ended);
+    let _ = hint_answer(&files.host, request, report);
+    progress.erase();
+}
+
+/// Runs a command line over the files and the outputs of the system, and returns the exit status.
+fn run_line(
+    files: &Files<'_>,
+    line: &io::Result<CommandLine<'_>>,
+    request: Option<Request<'_>>,
+) -> u8 {
+    let Host { rt, progress, .. } = &files.host;
+    let is_text = !request.is_some_and(|it| it.command.gives_bytes());
+    let mut out = ShownSink::new(rt.stdout(), is_text && rt.stdout().is_terminal());
+    let is_terminal = rt.stderr().is_terminal();
+    let mut err = ErasingSink::new(ShownSink::new(rt.stderr(), is_terminal), progress);
+    let status = status_of(files, line, &mut out, &mut err);
+    let status = if out.end() { status } else { FAILED };
+    err.sink.end();
+    progress.erase();
+    if let (Ok(line), Some(request)) = (line, &request)
+        && (is_terminal || request.hints)
+    {
+        give_hints(files, line, request, status, err.report.as_slice());
+    }
+    status
+}
+
 /// Runs the program over the words, the files and the outputs of the system.
 pub fn run_program(rt: &HostRuntime) -> ExitCode {
     let words = words(rt);
@@ -45,10 +104,6 @@ pub fn run_program(rt: &HostRuntime) -> ExitCode {
     let request = request_of(&line);
     let progress = Progress::new(rt, request.is_some_and(|it| it.quiet));
     let reason = Cell::new(None);
-    let is_text = !request.is_some_and(|it| it.command.gives_bytes());
-    let mut out = ShownSink::new(rt.stdout(), is_text && rt.stdout().is_terminal());
-    let is_terminal = rt.stderr().is_terminal();
-    let mut err = ErasingSink::new(ShownSink::new(rt.stderr(), is_terminal), &progress);
     let files = Files {
         host: Host {
             rt,
@@ -57,21 +112,5 @@ pub fn run_program(rt: &HostRuntime) -> ExitCode {
             list: request.and_then(|it| it.command.list_path()),
         },
     };
-    let (status, _) = run(rt.alloc(), &files, &line, &mut out, &mut err);
-    let status = if out.end() { status } else { FAILED };
-    err.sink.end();
-    progress.erase();
-    if let (Ok(line), Some(request)) = (&line, &request)
-        && (is_terminal || request.hints)
-    {
-        let ended = Ended {
-            status,
-            packing: progress.packing(),
-            reason: reason.get(),
-        };
-        let _ = hint(rt, line.words(), request, ended);
-        let _ = hint_answer(&files.host, request, err.report.as_slice());
-        progress.erase();
-    }
-    ExitCode::from(status)
+    ExitCode::from(run_line(&files, &line, request))
 }
