@@ -2,7 +2,7 @@
 -- project's own notion.
 use Rattle.std.specs.Prelude.{◌≡◌, ℕ, List, [], ◌∷◌, ◌++◌, length, map, slice_get, unwrap_or, codes, decimal}
 use Rattle.std.specs.List.{enumerate_from, flat_map, join_with_byte}
-use Rattle.warc_field.specs.Area.{Pair, first_value}
+use Rattle.warc_field.specs.Area.{Pair, value_or_empty}
 use Rattle.warc_value.specs.declared.hash.Verdict.{Verdict}
 use Rattle.warc_value.specs.declared.hash.Verdict.TheVariants.{Good, Bad, Unchecked}
 use Rattle.warc_fixity.specs.Judged.{stated_verdict}
@@ -16,7 +16,7 @@ use Rattle.warc.specs.declared.opened.fixity.Counts.{Counts}
 
 -- the value that states the digest of a block, empty where no field does
 abbrev pub digest_value : List Pair → List ℕ
-digest_value fields = unwrap_or (first_value warc_block_digest fields) []
+digest_value fields = value_or_empty warc_block_digest fields
 
 -- that value where the block isn't good by it, and nothing where it is
 abbrev pub unless_good : Verdict → List ℕ → List ℕ

@@ -2,7 +2,7 @@
 -- which bytes of a coded response are digested). This project's own notion.
 use Rattle.std.specs.Prelude.{◌≡◌, ◌≢◌, ◌↔◌, ℕ, ◌<◌, List, [], length, slice_get, unwrap_or, Option, Some, None, Result, Ok, Err, IfErr, IfOk, if◌then◌else◌, ⊤}
 use Rattle.std.specs.Str.{bytes_eq}
-use Rattle.warc_field.specs.Area.{Pair, first_value}
+use Rattle.warc_field.specs.Area.{Pair, value_or_empty}
 use Rattle.warc_frame.specs.Effects.{FailsBy, Preserves}
 use Rattle.warc_frame.specs.Names.{warc_payload_digest}
 use Rattle.warc_frame.specs.Record.{Record}
@@ -36,7 +36,7 @@ use Rattle.warc.specs.declared.record.payload.Unjudged.TheVariants as unjudged
 
 -- the value that states the digest of a payload, empty where no field does
 abbrev pub payload_value : List Pair → List ℕ
-payload_value fields = unwrap_or (first_value warc_payload_digest fields) []
+payload_value fields = value_or_empty warc_payload_digest fields
 
 -- how a payload compares with a digest. Where it differs and a transfer coding was applied, nobody knows which form was
 -- digested

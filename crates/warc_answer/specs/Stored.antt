@@ -1,10 +1,10 @@
 -- What is stored of an origin, coded or not, and what is said of it. This project's own notion.
-use Rattle.std.specs.Prelude.{◌≡◌, ℕ, Bool, false, List, [], length, drop, map, slice_get, unwrap_or, Option, Some, None, Result, Ok, Err, ⊤}
+use Rattle.std.specs.Prelude.{◌≡◌, ℕ, Bool, false, List, [], length, drop, map, slice_get, Option, Some, None, Result, Ok, Err, ⊤}
 use Rattle.std.specs.Bool.{MatchBool}
 use Rattle.std.specs.List.{list_any}
 use Rattle.std.specs.Option.{option_map_or}
 use Rattle.httparse.specs.Grammar.{ResponseHead, status_code}
-use Rattle.warc_field.specs.Area.{Pair, first_value}
+use Rattle.warc_field.specs.Area.{Pair, value_or_empty}
 use Rattle.warc_frame.specs.Names.{content_type}
 use Rattle.warc_frame.specs.Record.{Record}
 use Rattle.warc_record.specs.Readings.{reading_of}
@@ -35,7 +35,7 @@ pub record StoredBody : Type 0 where
 
 -- the value of the record's own `Content-Type`, empty where it has none
 abbrev pub own_type : List Pair → List ℕ
-own_type fields = unwrap_or (first_value content_type fields) []
+own_type fields = value_or_empty content_type fields
 
 -- the joined blocks of an HTTP response are this head, and then what is stored
 pub record IsStoredBehind (block : List ℕ) (s : StoredBody) : Type 0 where

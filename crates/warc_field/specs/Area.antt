@@ -1,6 +1,6 @@
 -- The field area: the lines of a head between its version line and its empty line, and the fields that they are
 -- (WARC 1.1, 4: `named-field = field-name ":" [ field-value ]`). The first bad line is this project's own notion.
-use Rattle.std.specs.Prelude.{◌≡◌, ℕ, ◌+◌, ◌<◌, ◌≤◌, Bool, ◌==◌, List, [], ◌∷◌, ◌++◌, length, take, drop, Option, Some, None, Result, Ok, Err, option_and_then, option_map, find, count_by, position, if◌then◌else◌, true, false}
+use Rattle.std.specs.Prelude.{◌≡◌, ℕ, ◌+◌, ◌<◌, ◌≤◌, Bool, ◌==◌, List, [], ◌∷◌, ◌++◌, length, take, drop, Option, Some, None, Result, Ok, Err, option_and_then, option_map, unwrap_or, find, count_by, position, if◌then◌else◌, true, false}
 use Rattle.std.specs.List.{list_all, flat_map}
 use Rattle.warc_field.specs.declared.area.AreaFault.{AreaFault}
 use Rattle.warc_field.specs.declared.area.AreaFault.TheVariants.{Line, Memory}
@@ -14,6 +14,10 @@ Pair = List ℕ × List ℕ
 -- the value of the first field of a name
 abbrev pub first_value : List ℕ → List Pair → Option (List ℕ)
 first_value name fields = option_map (λ (field : Pair). field.1) (find (λ (field : Pair). same field.0 name) fields)
+
+-- the same value, empty if no field has the name
+abbrev pub value_or_empty : List ℕ → List Pair → List ℕ
+value_or_empty name fields = unwrap_or (first_value name fields) []
 
 -- how many fields have a name
 abbrev pub count_of : List ℕ → List Pair → ℕ

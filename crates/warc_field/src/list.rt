@@ -2,7 +2,7 @@
 ghost use Rattle.std.specs.Prelude.{◌≡◌, ◌+◌, ◌<◌, ◌≤◌, [], ◌∷◌, ◌++◌, OnOk, OnErr, length, take, true, IsTrue, ◌↔◌};
 ghost use Rattle.std.specs.Prelude.{MatchOption, Some, slice_get};
 ghost use Rattle.std.specs.Option.{option_copied};
-ghost use Rattle.warc_field.specs.Area.{count_of, first_value};
+ghost use Rattle.warc_field.specs.Area.{count_of, first_value, value_or_empty};
 ghost use Rattle.warc_field.specs.Text.{AreFields, IsField, is_name, is_value};
 
 use crate::text::{Name, Value};
@@ -147,6 +147,18 @@ impl<A: Allocator> Fields<A> {
     {
         let pair = self.pairs.iter().find(|pair| pair.0.is(name))?;
         Some(&pair.1)
+    }
+
+    /// The value of the first field of this name, empty where there is none: ASCII case doesn't matter.
+    #[tactic(auto, unfolding(crate::specs::Text::is_value))]
+    pub fn value_of(&self, name: &[u8]) -> &[u8]
+        ensures text { result.now ≡ value_or_empty name.now self.now }
+        ensures value { is_value result.now ≡ true }
+    {
+        match self.first(name) {
+            Some(value) => value.bytes(),
+            None => b"",
+        }
     }
 
     /// How many fields have this name: ASCII case doesn't matter.

@@ -1,6 +1,6 @@
 -- What a whole head says that names no other record. Which heads are read in place is this project's own choice.
-use Rattle.std.specs.Prelude.{◌≡◌, ℕ, List, [], length, None, Ok, unwrap_or}
-use Rattle.warc_field.specs.Area.{Pair, first_value}
+use Rattle.std.specs.Prelude.{◌≡◌, ℕ, List, [], length, None, Ok}
+use Rattle.warc_field.specs.Area.{Pair, value_or_empty}
 use Rattle.warc_frame.specs.Names.{content_type as type_name}
 use Rattle.warc_frame.specs.Reading.{any_fields, head_of}
 use Rattle.warc_frame.specs.declared.version.Version.{Version}
@@ -16,4 +16,4 @@ pub record IsWholeHead (text : List ℕ) (block_len : ℕ) (says : Reading) (con
       ≡ Ok (record { version = version; fields = fields; len = length text; block_len = block_len })
   pub good : head_fault fields ≡ None
   pub says_is : says ≡ reading_of fields
-  pub type_is : content_type ≡ unwrap_or (first_value type_name fields) []
+  pub type_is : content_type ≡ value_or_empty type_name fields

@@ -1,7 +1,7 @@
 -- A head that is read in place: the good head at the front of a text, and what it says (ISO 28500:2017, 4 and 5). Which
 -- heads are read so is this project's own choice.
 use Rattle.std.specs.Prelude.{◌≡◌, ℕ, ◌+◌, ◌≤◌, true, List, [], length, take, None, Ok, IfSome, unwrap_or}
-use Rattle.warc_field.specs.Area.{Pair, first_value}
+use Rattle.warc_field.specs.Area.{Pair, value_or_empty}
 use Rattle.warc_field.specs.Text.{AreFields}
 use Rattle.warc_value.specs.Digests.{wanted_digest}
 use Rattle.warc_frame.specs.declared.version.Version.{Version}
@@ -39,7 +39,7 @@ pub record Says (fields : List Pair) (found : QuickHead) : Type 0 where
   pub good : head_fault fields ≡ None
   pub block : block_len fields ≡ Ok found.block_len
   pub texts : AreTexts (reading_of fields) found.texts
-  pub digest : unwrap_or (first_value warc_block_digest fields) [] ≡ found.digest.now
+  pub digest : value_or_empty warc_block_digest fields ≡ found.digest.now
   pub wanted : digest_wanted fields ≡ wanted_digest found.digest.now
   pub payload : present_value warc_payload_digest fields ≡ unless_empty found.payload_digest.now
   pub alone : found.is_alone ≡ true → AreAlone fields

@@ -32,6 +32,6 @@ pub fn alone_head(text: &[u8], block_len: u64) -> Option<AloneHead<'_>>
     }
     Some(AloneHead {
         typed: head.typed(),
-        content_type: values.or_empty(FieldName::ContentType),
+        content_type: values.value_of(FieldName::ContentType),
     })
 }

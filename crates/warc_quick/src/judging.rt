@@ -31,7 +31,7 @@ fn lacks_content_type(block_len: u64, values: &Values<'_>) -> bool
     ensures { (fields : List Pair) (kind : Kind) → AreValues fields values.now.values → is_single kind ≡ true
         → result ≡ lacks_content_type kind fields block_len }
 {
-    block_len != 0 && values.or_empty(FieldName::ContentType).is_empty()
+    block_len != 0 && values.value_of(FieldName::ContentType).is_empty()
 }
 
 /// Whether a record is a revisit whose profile isn't known (N8).
@@ -42,7 +42,7 @@ fn has_unknown_profile(kind: Kind, values: &Values<'_>) -> bool
     if kind != Kind::Revisit {
         return false;
     }
-    let profile = values.or_empty(FieldName::Profile);
+    let profile = values.value_of(FieldName::Profile);
     !profile.is_empty() && !is_known_profile(profile)
 }
 
@@ -52,7 +52,7 @@ fn findings_of(text: &[u8], head: &QuickHead<'_>, values: &Values<'_>) -> Option
     ensures { IfSome result (λ found. (fields : List Pair) → Says fields head.now → AreValues fields values.now.values
         → (IsAscii text.now → not_utf8 fields ≡ []) → AreFindings fields head.now.block_len (all_plain found)) }
 {
-    if !text.is_ascii() || !values.or_empty(FieldName::SegmentNumber).is_empty() {
+    if !text.is_ascii() || !values.value_of(FieldName::SegmentNumber).is_empty() {
         return None;
     }
     let kind = Kind::named(head.texts.kind);

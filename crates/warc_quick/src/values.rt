@@ -1,6 +1,6 @@
 //! The values of the fields by which a head is read in place.
-ghost use Rattle.std.specs.Prelude.{◌≡◌, ◌∷◌, ◌++◌, [], ◌<◌, true, List, None, get_or, unwrap_or};
-ghost use Rattle.warc_field.specs.Area.{Pair, first_value};
+ghost use Rattle.std.specs.Prelude.{◌≡◌, ◌∷◌, ◌++◌, [], ◌<◌, true, List, None, get_or};
+ghost use Rattle.warc_field.specs.Area.{Pair, first_value, value_or_empty};
 ghost use Rattle.warc_frame.specs.declared.field_name.FieldName.{FieldName};
 ghost use Rattle.warc_frame.specs.FieldNames.{name_text};
 ghost use Rattle.warc_quick.specs.Names.{IsNaming};
@@ -70,9 +70,9 @@ impl<'a> Values<'a> {
     }
 
     /// The value of the first field of a name, empty if there is none.
-    pub(crate) fn or_empty(&self, name: FieldName) -> &'a [u8]
+    pub(crate) fn value_of(&self, name: FieldName) -> &'a [u8]
         ensures { (fields : List Pair) → AreValues fields self.now.values
-            → result.now ≡ unwrap_or (first_value (name_text name) fields) [] }
+            → result.now ≡ value_or_empty (name_text name) fields }
     {
         match self.first(name) {
             Some(value) => value,

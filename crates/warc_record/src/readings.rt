@@ -1,7 +1,7 @@
 //! What single fields of a head say.
-ghost use Rattle.std.specs.Prelude.{◌≡◌, [], Some, unwrap_or};
+ghost use Rattle.std.specs.Prelude.{◌≡◌};
 ghost use Rattle.std.specs.Option.{option_copied};
-ghost use Rattle.warc_field.specs.Area.{first_value};
+ghost use Rattle.warc_field.specs.Area.{value_or_empty};
 ghost use Rattle.warc_frame.specs.FieldNames.{name_text};
 ghost use Rattle.warc_record.specs.Readings.{present_value, present_bare, unless_empty, key_in, kind_of, number_in, is_known_profile, segment_number};
 
@@ -43,7 +43,7 @@ pub(crate) fn present<'a, A: Allocator>(
 /// The first field's value, empty if it is absent.
 #[tactic(auto, using(crate::proofs::TypedLemmas::present_or_empty))]
 pub(crate) fn text_in<'a, A: Allocator>(fields: &ByName<'a, A>, name: FieldName) -> &'a [u8]
-    ensures text { result.now ≡ unwrap_or (first_value (name_text name) fields.now) [] }
+    ensures text { result.now ≡ value_or_empty (name_text name) fields.now }
     ensures present { unless_empty result.now ≡ present_value (name_text name) fields.now }
 {
     match fields.first(name) {

@@ -22,7 +22,7 @@ use Rattle.warc_write.specs.Rendering.{AllGood}
 use Rattle.std.proofs.lemmas.Bool.{and_from, cases_Bool}
 use Rattle.std.proofs.lemmas.Bool.Decides.{nat_tests}
 use Rattle.warc_field.specs.Text.{is_name, is_name_byte}
-use Rattle.warc_field.specs.Area.{Pair, first_value, count_of}
+use Rattle.warc_field.specs.Area.{Pair, first_value, count_of, value_or_empty}
 use Rattle.warc_frame.specs.declared.version.Version.{Version}
 use Rattle.warc_frame.specs.declared.fault.FaultKind.{FaultKind}
 use Rattle.warc_frame.specs.declared.fault.FaultKind.TheVariants.{Missing, Repeated, BadType, Id, Date}
@@ -37,7 +37,7 @@ use Rattle.warc_record.specs.Ids.{is_id}
 use Rattle.warc_record.specs.Readings.{reading_of}
 use Rattle.warc_write.specs.declared.splitting.Part.{Part}
 use Rattle.warc_write.specs.Splitting.{first_fields, kept, next_fields, part_of, piece_at, segment_fields}
-use Rattle.warc_write.specs.Splitting.{segment_of, value_in}
+use Rattle.warc_write.specs.Splitting.{segment_of}
 use Rattle.warc_write.specs.Written.{digest_text}
 use Rattle.warc_write.proofs.KeptLemmas.{count_behind, first_behind, kept_count, kept_first, kept_len_first}
 use Rattle.warc_write.proofs.MakeLemmas.{number_of_len}
@@ -99,7 +99,7 @@ unfolding block_len
 next_len given uuid part None is small = rw is (ap or_length (number_of_len part.len small))
 next_len given uuid part (Some total) is small = rw is (ap or_length (number_of_len part.len small))
 
-next_head : (given : List Pair) (uuid : List ℕ) (part : Part) (total : Option ℕ) → part.total ≡ total → is_date (value_in (codes "WARC-Date") given) ≡ true
+next_head : (given : List Pair) (uuid : List ℕ) (part : Part) (total : Option ℕ) → part.total ≡ total → is_date (value_or_empty (codes "WARC-Date") given) ≡ true
     → head_fault (next_fields given uuid part) ≡ None
 unfolding is_name is_name_byte
 next_head given uuid part None is date = rw (is, id_is_id (version_5 uuid (decimal part.number)), date) refl
@@ -115,7 +115,7 @@ segment_len given uuid part n told small = by_number (part.number == 1)
     by_number true = first_len given part n told small
     by_number false = next_len given uuid part part.total refl small
 
-pub date_stands : (given : List Pair) → SaysAll (reading_of given) → is_date (value_in (codes "WARC-Date") given) ≡ true
+pub date_stands : (given : List Pair) → SaysAll (reading_of given) → is_date (value_or_empty (codes "WARC-Date") given) ≡ true
 date_stands given says = ap (λ (o : Option (List ℕ)). is_date (unwrap_or o [])) says.date_text_is ∙ ap is_some says.date_reads
 
 pub segment_head : (given : List Pair) (uuid : List ℕ) (part : Part) → head_fault given ≡ None → SaysAll (reading_of given)

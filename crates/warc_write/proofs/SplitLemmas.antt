@@ -8,7 +8,7 @@ use Rattle.std.specs.Option.{ok_or}
 use Rattle.std.proofs.lemmas.List.{map-append, take_more}
 use Rattle.std.proofs.lemmas.List.Elements.{filter-append}
 use Rattle.warc_field.specs.Text.{is_blank, is_value, is_value_byte, same}
-use Rattle.warc_field.specs.Area.{Pair}
+use Rattle.warc_field.specs.Area.{Pair, value_or_empty}
 use Rattle.warc_frame.specs.Names.{content_length}
 use Rattle.uuid.specs.Text.{parsed_urn}
 use Rattle.warc_record.specs.Heads.{head_fault}
@@ -19,7 +19,7 @@ use Rattle.warc_write.specs.declared.splitting.SplitFault.TheVariants.{NotUuid, 
 use Rattle.warc_write.specs.declared.splitting.SplitFault.TheVariants.{Kind as BadKind, Size}
 use Rattle.warc_write.specs.Splitting.{is_kept, is_segmented, kept, may_be_split}
 use Rattle.warc_write.specs.Splitting.{next_fields, origin_fields, splittable}
-use Rattle.warc_write.specs.Splitting.{total_fields, value_in, with_len}
+use Rattle.warc_write.specs.Splitting.{total_fields, with_len}
 use Rattle.warc_write.specs.Written.{digest_text}
 
 abbrev pub one : List ℕ → List ℕ → List Pair
@@ -53,10 +53,6 @@ kept_more len given old i field below is =
 -- a total between other fields
 pub with_total : (front total : List Pair) (a b : Pair) → ((front ++ total) ++ a ∷ []) ++ b ∷ [] ≡ front ++ (total ++ a ∷ b ∷ [])
 with_total front total a b = append_assoc (front ++ total) (a ∷ []) (b ∷ []) ∙ append_assoc front total (a ∷ b ∷ [])
-
-pub none_is_value : is_value [] ≡ true
-unfolding is_value
-none_is_value = refl
 
 pub one_is_value : is_value (codes "1") ≡ true
 unfolding is_value is_value_byte is_blank
@@ -108,6 +104,6 @@ segmented fields n size head kind target stands = rw (size, head, kind, target, 
 
 pub by_uuid : (fields : List Pair) (n : ℕ) → nat_lt 0 n ≡ true → is_none (head_fault fields) ≡ true → may_be_split (kind_of fields) ≡ true
     → is_some (target_of fields) ≡ true → is_segmented fields ≡ false
-    → splittable fields n ≡ ok_or (parsed_urn (bare_text (value_in (codes "WARC-Record-ID") fields))) NotUuid
+    → splittable fields n ≡ ok_or (parsed_urn (bare_text (value_or_empty (codes "WARC-Record-ID") fields))) NotUuid
 unfolding splittable
 by_uuid fields n size head kind target stands = rw (size, head, kind, target, stands) refl

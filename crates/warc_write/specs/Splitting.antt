@@ -2,7 +2,7 @@
 -- 9562, 5.5). Which fields a segment has, their order, and the refusals are this project's own.
 use Rattle.std.specs.Prelude.{⊤, ℕ, ◌+◌, ◌-◌, ◌*◌, ◌/◌, Bool, true, false, not, ◌||◌, ◌==◌, nat_le, nat_lt}
 use Rattle.std.specs.Prelude.{List, [], ◌∷◌, ◌++◌, length, take, drop, map, filter, codes, decimal}
-use Rattle.std.specs.Prelude.{Option, Some, None, is_some, is_none, unwrap_or, ok_or, Result, Ok, Err, if◌then◌else◌}
+use Rattle.std.specs.Prelude.{Option, Some, None, is_some, is_none, ok_or, Result, Ok, Err, if◌then◌else◌}
 use Rattle.std.specs.List.{AllByRecursion, list_all, range_with_len}
 use Rattle.sha1.specs.Sha1.{sha1}
 use Rattle.uuid.specs.declared.Variant.TheVariants.{RFC4122}
@@ -10,7 +10,7 @@ use Rattle.uuid.specs.declared.Version.TheVariants.{Sha1}
 use Rattle.uuid.specs.Parts.{with_variant, with_version}
 use Rattle.uuid.specs.Text.{parsed_urn}
 use Rattle.warc_field.specs.Text.{same}
-use Rattle.warc_field.specs.Area.{Pair, first_value}
+use Rattle.warc_field.specs.Area.{Pair, first_value, value_or_empty}
 use Rattle.warc_frame.specs.Names.{content_length, warc_type, warc_record_id, warc_date, warc_target_uri, warc_segment_number, warc_segment_origin_id, warc_segment_total_length, warc_block_digest}
 use Rattle.warc_frame.specs.Reading.{◌>>=◌}
 use Rattle.warc_frame.specs.Record.{Record, IsFramed, canonical_len, max_head}
@@ -52,10 +52,6 @@ is_segmented fields =
     || has_field warc_segment_origin_id fields
     || has_field warc_segment_total_length fields
 
--- the first value of a name, or nothing
-abbrev pub value_in : List ℕ → List Pair → List ℕ
-value_in name fields = unwrap_or (first_value name fields) []
-
 -- the UUID of a head that may be split into segments of n bytes, or the first refusal, in the order S4, S3, S2, S1
 unfoldable pub splittable : List Pair → ℕ → Result (List ℕ) SplitFault
 splittable fields n = do
@@ -64,7 +60,7 @@ splittable fields n = do
   _ ← checks (may_be_split (kind_of fields)) BadKind
   _ ← checks (is_some (target_of fields)) BadKind
   _ ← checks (not (is_segmented fields)) AlreadySegmented
-  ok_or (parsed_urn (bare_text (value_in warc_record_id fields))) NotUuid
+  ok_or (parsed_urn (bare_text (value_or_empty warc_record_id fields))) NotUuid
 
 -- the UUID of version 5 of a name in a UUID's namespace
 abbrev pub version_5 : List ℕ → List ℕ → List ℕ
@@ -93,9 +89,9 @@ abbrev pub origin_fields : List Pair → List ℕ → ℕ → List Pair
 origin_fields given uuid number =
     (warc_type, codes "continuation")
     ∷ (warc_record_id, id_text (version_5 uuid (decimal number)))
-    ∷ (warc_date, value_in warc_date given)
-    ∷ (warc_target_uri, bare_text (value_in warc_target_uri given))
-    ∷ (warc_segment_origin_id, value_in warc_record_id given)
+    ∷ (warc_date, value_or_empty warc_date given)
+    ∷ (warc_target_uri, bare_text (value_or_empty warc_target_uri given))
+    ∷ (warc_segment_origin_id, value_or_empty warc_record_id given)
     ∷ []
 
 abbrev pub total_fields : Option ℕ → List Pair

@@ -2,6 +2,7 @@
 ghost use Rattle.std.specs.Prelude.{◌≡◌, ℕ, List, [], ◌∷◌, ◌++◌, true, IfOk, IfSome, ◌+◌, ◌-◌, ◌*◌, ◌<◌, length, IfErr, OnOk};
 ghost use Rattle.std.specs.Prelude.{Ok, Err, Some, is_none, is_some, decimal};
 ghost use Rattle.std.specs.List.{list_all};
+ghost use Rattle.warc_field.specs.Area.{value_or_empty};
 ghost use Rattle.warc_field.specs.Text.{is_value, same};
 ghost use Rattle.warc_frame.specs.Record.{IsFramed};
 ghost use Rattle.warc_record.specs.Heads.{head_fault};
@@ -15,8 +16,7 @@ ghost use Rattle.warc_write.specs.Splitting.{has_room, split_of, piece_at, segme
 ghost use Rattle.warc_write.specs.Cutting.{part_with};
 ghost use Rattle.warc_write.specs.Splitting.{first_fields, has_field, is_segmented, kept};
 ghost use Rattle.warc_write.specs.Splitting.{may_be_split, next_fields, origin_fields};
-ghost use Rattle.warc_write.specs.Splitting.{segment_fields, split_fault_text, splittable, total_fields};
-ghost use Rattle.warc_write.specs.Splitting.{value_in, version_5};
+ghost use Rattle.warc_write.specs.Splitting.{segment_fields, split_fault_text, splittable, total_fields, version_5};
 
 use crate::parts::{add_copy, add_digits, add_field, add_number, framed_of};
 use crate::written::{digest_text, id_text};
@@ -129,15 +129,12 @@ fn is_segmented<A: Allocator>(fields: &Fields<A>) -> bool
         || has_field(fields, names::WARC_SEGMENT_TOTAL_LENGTH)
 }
 
-/// The first value of a name, or nothing.
+/// The value of the first field of this name, empty where there is none.
 fn value_in<'a, A: Allocator>(fields: &'a Fields<A>, name: &str) -> &'a [u8]
-    ensures text { result.now ≡ value_in name.now fields.now }
+    ensures text { result.now ≡ value_or_empty name.now fields.now }
     ensures value { is_value result.now ≡ true }
 {
-    match fields.first(name.as_bytes()) {
-        Some(value) => value.bytes(),
-        None => b"",
-    }
+    fields.value_of(name.as_bytes())
 }
 
 /// The kind of a good head, and whether it has a target.

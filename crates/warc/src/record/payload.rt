@@ -100,10 +100,7 @@ pub(crate) fn plain_verdict(verdict: PayloadVerdict) -> Verdict
 pub(crate) fn payload_value<A: Allocator>(fields: &Fields<A>) -> &[u8]
     ensures { result.now ≡ payload_value fields.now }
 {
-    match fields.first(names::WARC_PAYLOAD_DIGEST.as_bytes()) {
-        Some(value) => value.bytes(),
-        None => b"",
-    }
+    fields.value_of(names::WARC_PAYLOAD_DIGEST.as_bytes())
 }
 
 /// Whether a head states the digest of its payload: the value isn't empty.

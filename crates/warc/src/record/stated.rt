@@ -24,10 +24,7 @@ use warc_value::Verdict;
 pub(crate) fn digest_value<A: Allocator>(fields: &Fields<A>) -> &[u8]
     ensures { result.now ≡ digest_value fields.now }
 {
-    match fields.first(names::WARC_BLOCK_DIGEST.as_bytes()) {
-        Some(value) => value.bytes(),
-        None => b"",
-    }
+    fields.value_of(names::WARC_BLOCK_DIGEST.as_bytes())
 }
 
 /// How a block compares with the digest that its head states, by any algorithm. A listing's `verdict` judges SHA-1 in

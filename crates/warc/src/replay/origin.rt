@@ -41,10 +41,7 @@ pub(crate) struct Origin<A: Allocator> {
 fn own_type<A: Allocator>(fields: &Fields<A>) -> &[u8]
     ensures { result.now ≡ own_type fields.now }
 {
-    match fields.first(names::CONTENT_TYPE.as_bytes()) {
-        Some(value) => value.bytes(),
-        None => b"",
-    }
+    fields.value_of(names::CONTENT_TYPE.as_bytes())
 }
 
 /// The place of the block of a row's record, of which this digest is asked.

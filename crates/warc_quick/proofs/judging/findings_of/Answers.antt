@@ -16,7 +16,7 @@ returns c = λ fields says are utf8.
     (c.has_unknown_profile-has_profile.ensures fields are (of_kind fields c.args.head.now says kind c.named-kind.ensures)) in
     let bare = c.push_once-3.ensures c.if-not-push_once-3.false
     ∙ ap (λ b. all_plain c.push_once-2.new.self ++ once BareId (not b)) c.is_in_brackets-is_bare.ensures in
-    are_findings fields c.args.head.now says kind c.named-kind.ensures (all_plain c.push_once-3.new.self) c.or_empty.result.now single
-    (none_repeats kind fields c.args.values.now.values are) (c.or_empty.ensures fields are)
+    are_findings fields c.args.head.now says kind c.named-kind.ensures (all_plain c.push_once-3.new.self) c.value_of.result.now single
+    (none_repeats kind fields c.args.values.now.values are) (c.value_of.ensures fields are)
     (sym c.is_empty.ensures ∙ c.if-not-is_empty.false) (utf8 c.if-not-is_ascii.ensures.cases)
     (listed _ _ _ _ _ _ _ _ _ _ c.none-found.ensures (c.add_by_table.ensures c.if-not-add_by_table.false fields are) typed profiled bare)
