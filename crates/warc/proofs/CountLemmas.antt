@@ -6,13 +6,13 @@ use Rattle.std.proofs.lemmas.List.{get_or-set_other}
 use Rattle.std.proofs.lemmas.List.Sums.{count_by-le-length, length-filter}
 use Rattle.std.proofs.lemmas.List.Elements.{filter-append}
 use Rattle.std.specs.List.{slice_get}
-use Rattle.warc_record.specs.Kinds.{kind_named}
-use Rattle.warc_record.specs.Table.{column_of}
+use Rattle.warc_record.specs.Kinds.{is_kind, kind_named}
 use Rattle.warc_record.specs.declared.types.Kind.{Kind}
 use Rattle.warc_record.specs.declared.types.Kind.TheVariants.{Warcinfo, Response, Resource, Request, Metadata, Revisit, Conversion, Continuation, Other}
 use Rattle.warc_reading.specs.Row.{Row}
 use Rattle.warc_reading.proofs.PlacedLemmas.{take_one}
-use Rattle.warc.specs.Counting.{is_kind, is_of, tally_of}
+use Rattle.warc.specs.Counting.{is_of, tally_of}
+use Rattle.warc.specs.Tallies.{column_of}
 
 abbrev pub one_if : Bool → ℕ
 one_if test = if test then 1 else 0

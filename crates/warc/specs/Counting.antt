@@ -2,25 +2,12 @@
 use Rattle.std.specs.Prelude.{ℕ, Bool, true, false, List, length, filter, slice_get, unwrap_or}
 use Rattle.warc_value.specs.declared.hash.Verdict.{Verdict}
 use Rattle.warc_value.specs.declared.hash.Verdict.TheVariants.{Good, Bad, Unchecked}
-use Rattle.warc_record.specs.Kinds.{kind_named}
+use Rattle.warc_record.specs.Kinds.{is_kind, kind_named}
 use Rattle.warc_record.specs.declared.types.Kind.{Kind}
-use Rattle.warc_record.specs.declared.types.Kind.TheVariants.{Warcinfo, Response, Resource, Request, Metadata, Revisit, Conversion, Continuation, Other}
 use Rattle.warc_index.specs.Captures.{is_capture}
 use Rattle.warc_reading.specs.Row.{Row}
 
--- whether two kinds are the same, and two verdicts
-abbrev pub is_kind : Kind → Kind → Bool
-is_kind Warcinfo Warcinfo = true
-is_kind Response Response = true
-is_kind Resource Resource = true
-is_kind Request Request = true
-is_kind Metadata Metadata = true
-is_kind Revisit Revisit = true
-is_kind Conversion Conversion = true
-is_kind Continuation Continuation = true
-is_kind Other Other = true
-is_kind _ _ = false
-
+-- whether two verdicts are the same
 abbrev pub is_verdict : Verdict → Verdict → Bool
 is_verdict Good Good = true
 is_verdict Bad Bad = true

@@ -1,7 +1,7 @@
 -- What is counted of the first rows, in one pass over all. States of the code.
 use Rattle.std.specs.Prelude.{◌≡◌, ℕ, ◌<◌, true, false, List, take, slice_get, slice_index, Option, Some, None, MatchOption, if◌then◌else◌}
-use Rattle.warc_record.specs.Table.{column_of}
 use Rattle.warc_record.specs.declared.types.Kind.{Kind}
+use Rattle.warc_record.specs.declared.types.Kind.TheVariants.{Warcinfo, Response, Resource, Request, Metadata, Revisit, Conversion, Continuation, Other}
 use Rattle.warc_index.specs.Captures.{is_earlier}
 use Rattle.warc_reading.specs.Row.{Row}
 use Rattle.warc.specs.Counting.{is_of, is_of_capture, tally_of}
@@ -39,6 +39,18 @@ IsEndUpTo Last rows n position row = IsLastUpTo rows n position row
 abbrev pub IsEndSoFar : End → List Row → ℕ → Option Dated → Type 0
 IsEndSoFar end rows n best =
     MatchOption best (n ≡ 0) (λ b. (row : Row) × IsEndUpTo end rows n b.position row × (b.instant ≡ instant_at row))
+
+-- the place of a kind among all
+abbrev pub column_of : Kind → ℕ
+column_of Warcinfo = 0
+column_of Response = 1
+column_of Resource = 2
+column_of Request = 3
+column_of Metadata = 4
+column_of Revisit = 5
+column_of Conversion = 6
+column_of Continuation = 7
+column_of Other = 8
 
 -- what is counted of the first n rows
 pub record IsTalliedTo (rows : List Row) (n : ℕ) (tally : Tally) : Type 0 where

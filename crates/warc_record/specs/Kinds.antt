@@ -17,6 +17,19 @@ abbrev pub kind_named : List ℕ → Kind
 kind_named text =
     option_map_or (λ entry. entry.1) (find (λ entry. str_eq_ignore_ascii_case text entry.0) kind_names) Other
 
+-- whether two kinds are the same
+abbrev pub is_kind : Kind → Kind → Bool
+is_kind Warcinfo Warcinfo = true
+is_kind Response Response = true
+is_kind Resource Resource = true
+is_kind Request Request = true
+is_kind Metadata Metadata = true
+is_kind Revisit Revisit = true
+is_kind Conversion Conversion = true
+is_kind Continuation Continuation = true
+is_kind Other Other = true
+is_kind _ _ = false
+
 abbrev pub is_revisit : Kind → Bool
 is_revisit Revisit = true
 is_revisit _ = false

@@ -1,11 +1,12 @@
 -- The field table: which kinds of record must have a field, which must not, and whether it may occur more
 -- than once. It is this project's own profile of ISO 28500:2017, 5 and 6: a finding refuses no record.
-use Rattle.std.specs.Prelude.{ℕ, Bool, true, false, ◌==◌, List, [], ◌∷◌}
+use Rattle.std.specs.Prelude.{ℕ, Bool, true, false, List, [], ◌∷◌}
 use Rattle.std.specs.List.{list_any}
 use Rattle.warc_frame.specs.Names.{content_type, warc_target_uri, warc_concurrent_to, warc_ip_address, warc_refers_to, warc_refers_to_target_uri, warc_refers_to_date, warc_filename, warc_profile, warc_warcinfo_id, warc_segment_number, warc_segment_origin_id, warc_segment_total_length, warc_block_digest, warc_payload_digest, warc_truncated, warc_identified_payload_type}
 use Rattle.warc_record.specs.declared.types.Kind.{Kind}
-use Rattle.warc_record.specs.declared.types.Kind.TheVariants.{Warcinfo, Response, Resource, Request, Metadata, Revisit, Conversion, Continuation, Other}
+use Rattle.warc_record.specs.declared.types.Kind.TheVariants.{Warcinfo, Response, Resource, Request, Metadata, Revisit, Conversion, Continuation}
 use Rattle.warc_record.specs.declared.table.FieldRule.{FieldRule}
+use Rattle.warc_record.specs.Kinds.{is_kind}
 use Rattle.warc_frame.specs.FieldNames.{name_text}
 
 pub record Rule : Type 0 where
@@ -14,20 +15,8 @@ pub record Rule : Type 0 where
   pub forbidden : List Kind
   pub repeats : Bool
 
--- a kind by its place in the order of the standard, to compare it
-abbrev pub column_of : Kind → ℕ
-column_of Warcinfo = 0
-column_of Response = 1
-column_of Resource = 2
-column_of Request = 3
-column_of Metadata = 4
-column_of Revisit = 5
-column_of Conversion = 6
-column_of Continuation = 7
-column_of Other = 8
-
 abbrev pub is_among : Kind → List Kind → Bool
-is_among kind kinds = list_any (λ other. column_of other == column_of kind) kinds
+is_among kind kinds = list_any (is_kind kind) kinds
 
 -- a field that occurs at most once, by its name, the kinds that require it and the kinds that forbid it
 abbrev pub rule : List ℕ → List Kind → List Kind → Rule

@@ -1,7 +1,7 @@
 //! The field table: which fields a kind of record must have, and which it must not.
 ghost use Rattle.std.specs.Prelude.{◌≡◌, map};
 ghost use Rattle.warc_frame.specs.FieldNames.{name_text};
-ghost use Rattle.warc_record.specs.Table.{rules, rule_seen, column_of, is_among};
+ghost use Rattle.warc_record.specs.Table.{rules, rule_seen, is_among};
 
 use crate::types::Kind;
 use warc_frame::FieldName;
@@ -192,26 +192,9 @@ pub fn field_rules() -> &'static [FieldRule]
     rows()
 }
 
-/// The place of a kind in the standard's order.
-fn place(kind: Kind) -> u8
-    ensures { result ≡ column_of kind }
-{
-    match kind {
-        Kind::Warcinfo => 0,
-        Kind::Response => 1,
-        Kind::Resource => 2,
-        Kind::Request => 3,
-        Kind::Metadata => 4,
-        Kind::Revisit => 5,
-        Kind::Conversion => 6,
-        Kind::Continuation => 7,
-        Kind::Other => 8,
-    }
-}
-
 /// Whether the kind is one of these.
 pub fn is_among(kind: Kind, kinds: &[Kind]) -> bool
     ensures { result ≡ is_among kind kinds.now }
 {
-    kinds.iter().any(|other| place(*other) == place(kind))
+    kinds.contains(&kind)
 }

@@ -3,14 +3,13 @@ ghost use Rattle.std.specs.Prelude.{◌≡◌, ◌+◌, ◌-◌, ◌^◌, ◌<�
 ghost use Rattle.sha1.specs.Sha1.{sha1};
 ghost use Rattle.std.specs.List.{concat};
 ghost use Rattle.warc_frame.specs.Effects.{Puts, SendsText};
-ghost use Rattle.warc_record.specs.Table.{column_of};
 ghost use Rattle.warc_index.specs.Captures.{is_earlier};
 ghost use Rattle.warc_reading.specs.Opening.{Opens, source_left, without_source};
 ghost use Rattle.warc_checking.specs.Batch.{verdict_with};
 ghost use Rattle.warc.specs.Fixity.{stated_on};
 ghost use Rattle.warc.specs.Summary.{IsDateOf, IsSummarized, IsSummaryOf, has_segment_number, is_nearer, is_numbered, number_line, summary_numbers};
 ghost use Rattle.warc.specs.Summary.{segmented_count, shown_date, summary_text, text_line};
-ghost use Rattle.warc.specs.Tallies.{IsEndSoFar, IsTalliedTo, nearest};
+ghost use Rattle.warc.specs.Tallies.{IsEndSoFar, IsTalliedTo, column_of, nearest};
 
 use crate::opened::block_verdicts::BlockVerdicts;
 use crate::opened::counts::{Verdicts, one_if};
@@ -241,17 +240,7 @@ fn place_of(kind: Kind) -> usize
     ensures value { result ≡ column_of kind }
     ensures within { result < KINDS }
 {
-    match kind {
-        Kind::Warcinfo => 0,
-        Kind::Response => 1,
-        Kind::Resource => 2,
-        Kind::Request => 3,
-        Kind::Metadata => 4,
-        Kind::Revisit => 5,
-        Kind::Conversion => 6,
-        Kind::Continuation => 7,
-        Kind::Other => 8,
-    }
+    kind as usize
 }
 
 /// What is counted of rows, and those of them at the ends.
