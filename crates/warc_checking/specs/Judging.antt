@@ -1,10 +1,17 @@
 -- What is found of records of which the last ones wait until their blocks are hashed. States of the code: no public
 -- clause cites them.
-use Rattle.std.specs.Prelude.{◌≡◌, ℕ, ◌-◌, ◌++◌, Bool, true, false, List, [], ◌∷◌, length, map, take, drop}
+use Rattle.std.specs.Prelude.{◌≡◌, ℕ, ◌-◌, ◌++◌, Bool, true, false, List, [], ◌∷◌, length, map, take, drop, None, Result, Ok, MatchResult}
 use Rattle.warc_field.specs.Area.{Pair}
 use Rattle.warc_value.specs.Digests.{is_bad}
 use Rattle.warc_value.specs.declared.hash.Verdict.{Verdict}
+use Rattle.warc_value.specs.declared.hash.Wanted.{Wanted}
+use Rattle.warc_frame.specs.Reading.{any_fields, head_of}
+use Rattle.warc_frame.specs.Record.{Record}
 use Rattle.warc_record.specs.Findings.{SeenFinding, findings_of}
+use Rattle.warc_record.specs.Heads.{head_fault}
+use Rattle.warc_record.specs.Readings.{digest_wanted}
+use Rattle.warc_reading.specs.declared.rereading.RereadFault.{RereadFault}
+use Rattle.warc_reading.specs.declared.rereading.RereadFault.TheVariants.{Memory}
 use Rattle.warc_checking.specs.OwnFindings.{Found, all_of, with_bad}
 
 -- what a record shows, once it is known whether its digest differs
@@ -32,3 +39,14 @@ pub record IsOneMore (fields : List Pair) (block_len : ℕ) (old new : List Foun
   pub found : Found
   pub new_is : new ≡ old ++ found ∷ []
   pub shows : (bad : Bool) → all_of (found_by found bad) ≡ findings_of fields block_len bad false
+
+-- a text that is a good head of a block of this length is answered by the digest that it asks for, and its record is
+-- added, unless memory ran out
+abbrev pub AddsGoodHead : List ℕ → ℕ → List Found → List Found → Result Wanted RereadFault → Type 0
+AddsGoodHead text block_len old new answer =
+    (r : Record)
+    → head_of any_fields text
+    ≡ Ok (record { version = r.version; fields = r.fields; len = length text; block_len = block_len })
+    → head_fault r.fields ≡ None
+    → MatchResult answer (λ wanted. (wanted ≡ digest_wanted r.fields) × IsOneMore r.fields block_len old new)
+    (λ e. e ≡ Memory)

@@ -1,12 +1,10 @@
 //! The findings of records as they are read. The blocks of the last ones wait, so that they are hashed side by side.
-ghost use Rattle.std.specs.Prelude.{◌≡◌, ℕ, ◌++◌, ◌<◌, ◌≤◌, true, false, None, Ok, List, [], ◌∷◌, IfOk, OnErr, OnOk, MatchResult, length, map, take};
+ghost use Rattle.std.specs.Prelude.{◌≡◌, ℕ, ◌++◌, ◌<◌, ◌≤◌, true, false, List, [], ◌∷◌, IfOk, OnErr, OnOk, length, map, take};
 ghost use Rattle.warc_value.specs.Digests.{is_bad};
 ghost use Rattle.warc_frame.specs.Effects.{FailsBy, ReadsOnly};
-ghost use Rattle.warc_frame.specs.Reading.{any_fields, head_of};
-ghost use Rattle.warc_frame.specs.Record.{Record, max_head};
+ghost use Rattle.warc_frame.specs.Record.{max_head};
 ghost use Rattle.warc_frame.specs.Seen.{IfHeld};
 ghost use Rattle.warc_record.specs.Findings.{findings_of};
-ghost use Rattle.warc_record.specs.Heads.{head_fault};
 ghost use Rattle.warc_record.specs.Readings.{digest_wanted};
 ghost use Rattle.warc_reading.specs.Archive.{contents};
 ghost use Rattle.warc_reading.specs.Judging.{IsNextPlain};
@@ -14,7 +12,7 @@ ghost use Rattle.warc_reading.specs.Placing.{IsInRow};
 ghost use Rattle.warc_reading.specs.Rereading.{HasHeadOf, HasRoomFor, HasTextOf, ReadsHeads, reread_result, row_len};
 ghost use Rattle.warc_reading.specs.Row.{Placed};
 ghost use Rattle.warc_checking.specs.Judged.{own_findings};
-ghost use Rattle.warc_checking.specs.Judging.{IsOneMore, all_shown, settled};
+ghost use Rattle.warc_checking.specs.Judging.{AddsGoodHead, IsOneMore, all_shown, settled};
 ghost use Rattle.warc_checking.specs.OwnFindings.{Found, all_of};
 
 use crate::batch::{Batch, BlockCheck, MAX_WAITING, PIECE_LEN};
@@ -73,10 +71,7 @@ fn add_good_head<A: Allocator + Copy>(
     block_len: u64,
     findings: &mut OwnFindings<A>,
 ) -> Result<Wanted, RereadFault>
-    ensures is { (r : Record) → head_of any_fields text.now
-        ≡ Ok (record { version = r.version; fields = r.fields; len = length text.now; block_len = block_len })
-        → head_fault r.fields ≡ None → MatchResult result (λ wanted. (wanted ≡ digest_wanted r.fields)
-        × IsOneMore r.fields block_len findings.old findings.new) (λ e. e ≡ RereadFault.Memory) }
+    ensures is { AddsGoodHead text.now block_len findings.old findings.new result }
     ensures more { OnOk result ((found : Found) × (findings.new ≡ findings.old ++ found ∷ [])) }
     ensures err { OnErr result (findings.new ≡ findings.old) }
 {
@@ -94,10 +89,7 @@ fn add_head<A: Allocator + Copy>(
     block_len: u64,
     findings: &mut OwnFindings<A>,
 ) -> Result<Wanted, RereadFault>
-    ensures is { (r : Record) → head_of any_fields text.now
-        ≡ Ok (record { version = r.version; fields = r.fields; len = length text.now; block_len = block_len })
-        → head_fault r.fields ≡ None → MatchResult result (λ wanted. (wanted ≡ digest_wanted r.fields)
-        × IsOneMore r.fields block_len findings.old findings.new) (λ e. e ≡ RereadFault.Memory) }
+    ensures is { AddsGoodHead text.now block_len findings.old findings.new result }
     ensures more { OnOk result ((found : Found) × (findings.new ≡ findings.old ++ found ∷ [])) }
     ensures err { OnErr result (findings.new ≡ findings.old) }
 {
