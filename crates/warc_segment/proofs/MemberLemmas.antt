@@ -173,6 +173,16 @@ nothing_held p es fs all was none (Some id) =
     series_is_kept id all
     ∙ ap (λ (ms : List KeptMember). map member_kept (filter (is_of id) ms)) (sym members ∙ no_facts_none es fs none)
 
+-- where something is held, it is a member of a series
+pub something_held : (p : ℕ) (es : List Entry) (fs : List TotalAndPlace) (all : List PlacedRecord)
+    → AreHeld p es fs → held_in p es fs ≡ kept_in all → 0 < length es
+    → (id : List ℕ) × (q : ℕ) × IsMemberAt (series_of (Some id) (map piece_placed all)) q
+something_held p es fs all held was some = (
+  (entry_at es 0).text,
+  (entry_at es 0).position,
+  member_of_entry p 0 (entry_at es 0).text es fs all held was some refl,
+)
+
 -- ---- as a look-up finds it
 
 -- the first entry of a text is held as a member

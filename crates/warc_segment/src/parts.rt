@@ -1,5 +1,5 @@
 //! What is kept of continuations, and the places that join to a block.
-ghost use Rattle.std.specs.Prelude.{◌≡◌, ◌⊎◌, ◌+◌, ◌≤◌, ◌^◌, ℕ, ◌++◌, [], ◌∷◌, List, length, take, sum_by, map, Option, OnOk, OnErr, IfOk, IsSome, MatchOption, false};
+ghost use Rattle.std.specs.Prelude.{◌≡◌, ◌⊎◌, ◌+◌, ◌≤◌, ◌^◌, ℕ, ◌++◌, [], ◌∷◌, List, length, take, sum_by, map, Option, OnOk, OnErr, IfOk, IsSome, MatchOption, Some, false, true};
 ghost use Rattle.warc_record.specs.Seen.{said};
 ghost use Rattle.warc_segment.specs.Series.{AreMembersAt, IsMemberAt, series_of};
 ghost use Rattle.warc_segment.specs.Joined.{PlacedRecord, joined_places, piece_placed, placed_with};
@@ -159,8 +159,10 @@ impl<A: Allocator + Copy> Parts<A> {
 
     /// Whether any record is a member of a series. If none is, no record has segments.
     pub fn has_segments(&self) -> bool
-        ensures { (all : List PlacedRecord) → self.now ≡ kept_in all → result ≡ false → (id : Option (List ℕ)) →
-            series_of id (map piece_placed all) ≡ [] }
+        ensures some { (all : List PlacedRecord) → self.now ≡ kept_in all → result ≡ true → (id : List ℕ) × (p : ℕ) ×
+            IsMemberAt (series_of (Some id) (map piece_placed all)) p }
+        ensures none { (all : List PlacedRecord) → self.now ≡ kept_in all → result ≡ false →
+            (id : Option (List ℕ)) → series_of id (map piece_placed all) ≡ [] }
     {
         !self.facts.is_empty()
     }
