@@ -82,5 +82,6 @@ canonical_head text block_len found quick len block lines =
       version = quick.version;
       fields = quick.fields;
       reads = reads;
+      good = quick.says.good;
       text_is = lines.text_is ∙ rw (version, fields) refl;
     }
