@@ -7,7 +7,7 @@ ghost use Rattle.warc_frame.specs.Seen.{IfHeld};
 ghost use Rattle.warc_reading.specs.Archive.{contents};
 ghost use Rattle.warc_reading.specs.Judging.{verdict_on};
 ghost use Rattle.warc_reading.specs.Placing.{IsInRow};
-ghost use Rattle.warc_reading.specs.Rereading.{AreCheckable, HasRecordsOf, HasTextOf, ReadsRows, reread_result, row_len};
+ghost use Rattle.warc_reading.specs.Rereading.{AreCheckable, HasRecordsOf, HasTextOf, IsHeadBy, ReadsRows, reread_result, row_len};
 ghost use Rattle.warc_reading.specs.Row.{Placed};
 ghost use Rattle.warc_checking.specs.Checks.{Checks};
 ghost use Rattle.warc_checking.specs.Judged.{own_findings};
@@ -43,6 +43,7 @@ pub fn judge_again<S: Source, A: Allocator + Copy>(
     requires { max_head ≤ length buf.old }
     ensures judged { IfHeld (S.seen source.old).holds (λ bytes. (is : HasTextOf row.now bytes) → IfOk result (λ x.
         (x.fields ≡ is.placed.content.fields) × (x.verdict ≡ verdict_on is.placed))) }
+    ensures whole { IfOk result (λ x. IsHeadBy row.now x.fields) }
     ensures reads { ReadsOnly (IsInRow row.now) (row_len row.now) (S.seen source.old) (S.seen source.new) }
     ensures fails { FailsBy (HasTextOf row.now) (reread_result result) (S.seen source.old) (S.seen source.new) }
 {
