@@ -14,6 +14,7 @@ pub mod LengthLemmas
 pub mod FitLemmas
 pub mod HeadLemmas
 pub mod PlaceLemmas
+pub mod PairLemmas
 pub mod PlacedLemmas
 pub mod PlainLemmas
 pub mod ReadLemmas

@@ -6,6 +6,7 @@ mod block;
 mod iterating;
 mod keeping;
 mod opened;
+mod pair;
 mod reading;
 mod rereading;
 mod rows;
@@ -15,6 +16,7 @@ pub use block::{BlockDigest, NoBlock, TakeBlock};
 pub use iterating::RowIter;
 pub use keeping::{Keep, Lookup, RecordLookup, RowsAlone, UnorderedLookup};
 pub use opened::Opened;
+pub use pair::KeptPair;
 pub use reading::{read_front, read_on};
 pub use rereading::{
     RereadFault, buffer_for, good_head_in, head_buffer, head_in, reread_good, reread_head,
