@@ -9,5 +9,6 @@ pub mod GiveLemmas
 pub mod LocatedLemmas
 mod WorkedValues
 pub mod StoredLemmas
+pub mod KnownLemmas
 pub mod HashedLemmas
 pub mod HashedLaws

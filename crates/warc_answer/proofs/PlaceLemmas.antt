@@ -9,7 +9,7 @@ use Rattle.std.proofs.lemmas.Bool.{cases_lt}
 use Rattle.std.proofs.lemmas.Slice.{take-put_mid}
 use borrow.Rule.Slice.PartMut.{put_mid, mid_of}
 use Rattle.warc_frame.specs.Device.{Staged}
-use Rattle.warc_frame.specs.Effects.{ReadsRange}
+use Rattle.warc_frame.specs.Effects.{HasRange, ReadsRange}
 use Rattle.warc_frame.specs.Seen.{IsInRange, SeenSource}
 use Rattle.warc_frame.specs.Send.{IsStaged, WentOut}
 use Rattle.warc_frame.proofs.EffectLemmas.{reads_both, reads_within}
@@ -83,6 +83,11 @@ text_more bytes places i d lt =
 pub lies : (bytes : List ℕ) (places : List Place) (i : ℕ) (d : Place) → LieIn places bytes → i < length places
     → (get_or places i d).start + (get_or places i d).len ≤ length bytes
 lies bytes places i d lie lt = lie.within i d lt
+
+-- so does a front of it
+pub range_of : (bytes : List ℕ) (places : List Place) (i : ℕ) (d : Place) (n : ℕ) → LieIn places bytes → i < length places
+    → n ≤ (get_or places i d).len → HasRange (get_or places i d).start n bytes
+range_of bytes places i d n lie lt le = (omega (arith, lies bytes places i d lie lt), lie.short)
 
 block_len : (bytes : List ℕ) (places : List Place) (i : ℕ) (d : Place) → LieIn places bytes → i < length places
     → length (bytes_at bytes (get_or places i d)) ≡ (get_or places i d).len

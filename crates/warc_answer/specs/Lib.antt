@@ -11,3 +11,4 @@ pub mod Giving
 pub mod Judging
 pub mod Located
 pub mod Hashed
+pub mod Known

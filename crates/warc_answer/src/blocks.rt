@@ -113,6 +113,28 @@ pub(crate) fn judge_blocks<S: Source>(
     judge_each(source, places, front, &mut scratch)
 }
 
+/// Fills the buffer with the front of the joined blocks, as far as either goes, and returns how far. No block is
+/// judged.
+pub(crate) fn read_front<S: Source>(
+    source: &mut S,
+    places: &[Place],
+    front: &mut [u8],
+) -> Result<usize, ReadFault>
+    ensures within { IfOk result (λ filled. filled ≤ length front.new) }
+    ensures front { IfHeld (S.seen source.old).holds (λ bytes. LieIn places.now bytes → IfOk result (λ filled.
+        take filled front.new ≡ take (length front.old) (text_at places.now bytes))) }
+    ensures reads { ReadsPlaces places.now (len_of places.now) (S.seen source.old) (S.seen source.new) }
+    ensures fails { FailsBy (LieIn places.now) (read_result result) (S.seen source.old) (S.seen source.new) }
+{
+    let mut filled = 0;
+    'reading: for place in places {
+        let want = (front.len() - filled).min(place.len as usize);
+        read_bytes(source, place.start, &mut front[filled..filled + want])?;
+        filled += want;
+    }
+    Ok(filled)
+}
+
 /// Whether some joined block isn't what its digest says. Only those are read whose digest can be checked.
 pub(crate) fn any_bad<S: Source>(source: &mut S, places: &[Place]) -> Result<bool, ReadFault>
     ensures judged { IfHeld (S.seen source.old).holds (λ bytes. LieIn places.now bytes →

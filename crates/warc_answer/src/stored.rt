@@ -1,5 +1,5 @@
 //! What is stored of an origin, coded or not.
-ghost use Rattle.std.specs.Prelude.{◌≡◌, ℕ, List, length, IfErr, IfOk, false, true};
+ghost use Rattle.std.specs.Prelude.{◌≡◌, ℕ, Bool, List, length, IfErr, IfOk, Ok, false, true};
 ghost use Rattle.warc_field.specs.Area.{Pair};
 ghost use Rattle.warc_frame.specs.Effects.{FailsBy};
 ghost use Rattle.warc_frame.specs.Record.{Record};
@@ -118,6 +118,23 @@ fn find_head<S: Source, A: Allocator + Copy>(
     head_through(alloc, source, places, &mut front)
 }
 
+/// What is stored after the HTTP head of the joined blocks.
+pub(crate) fn stored_after<A: Allocator>(head: StoredHead<A>, places: &[Place]) -> Stored<A>
+    ensures { (bad : Bool) (fields : List Pair) (bytes : List ℕ) → IsHeadIn bad (text_at places.now bytes) (Ok head) →
+        IsSaidOf true fields (text_at places.now bytes) places.now (stored_seen result) }
+{
+    let head_len = head.info.head_len as u64;
+    Stored {
+        status: Some(head.info.status),
+        media_type: head.media_type,
+        codings: head.codings,
+        coded: head.info.coded,
+        truncated: any_truncated(places),
+        head_len,
+        length: total(places).saturating_sub(head_len),
+    }
+}
+
 /// What is stored in the joined blocks of an HTTP response.
 fn judge_http<S: Source, A: Allocator + Copy>(
     alloc: A,
@@ -131,20 +148,11 @@ fn judge_http<S: Source, A: Allocator + Copy>(
     ensures fails { FailsBy (LieIn places.now) (out_result result) (S.seen source.old) (S.seen source.new) }
 {
     let head = find_head(alloc, source, places)?;
-    let head_len = head.info.head_len as u64;
-    Ok(Stored {
-        status: Some(head.info.status),
-        media_type: head.media_type,
-        codings: head.codings,
-        coded: head.info.coded,
-        truncated: any_truncated(places),
-        head_len,
-        length: total(places).saturating_sub(head_len),
-    })
+    Ok(stored_after(head, places))
 }
 
 /// What is said of the joined blocks of another origin, whose own `Content-Type` has this value.
-fn all_of<A: Allocator + Copy>(
+pub(crate) fn all_of<A: Allocator + Copy>(
     alloc: A,
     own: &[u8],
     places: &[Place],

@@ -1,4 +1,3 @@
-use Rattle.std.proofs.Common.{Some, ap, arith}
 use Rattle.std.proofs.lemmas.Result.{err_from_is_err_and}
 use Rattle.warc_answer.proofs.StoredLemmas.{headless_seen}
 use Rattle.warc_answer.proofs.stored.judge_http.Goals as goal
@@ -11,11 +10,5 @@ returns-in_err-head-clause-seen g c =
 
 pub returns-clause-seen : goal.returns-clause-seen
 returns-clause-seen g c = λ bytes held fields lie.
-    let is = c.in_ok-head.ensures.begins bytes held lie in (
-      is.1,
-      (
-        record { head = is.0; front = is.2.front; status_is = ap Some is.2.status; coded_is = is.2.coded; texts = is.3 },
-        c.any_truncated.ensures,
-        omega (arith, c.saturating_sub.ensures, c.total.ensures),
-      ),
-    )
+    let is = c.in_ok-head.ensures.begins bytes held lie in
+    (is.1, c.stored_after.ensures _ fields bytes is)
