@@ -6,6 +6,7 @@ use Rattle.std.proofs.lemmas.List.{append-nil, take_more, take-append-drop}
 use Rattle.std.proofs.lemmas.Option.{slice_get_within}
 use Rattle.std.specs.List.{AllByRecursion, concat, slice_get}
 use Rattle.std.proofs.Math.ListN.{set}
+use Rattle.warc_value.specs.declared.hash.Verdict.{Verdict}
 use Rattle.warc_frame.specs.Effects.{FailsBy, Preserves}
 use Rattle.warc_frame.specs.Record.{Record}
 use Rattle.warc_frame.specs.Seen.{SeenSource}
@@ -27,7 +28,7 @@ use Rattle.warc.specs.Origins.{IsRecordAt}
 use Rattle.warc_answer.specs.declared.answer.Reason.{Reason as Why}
 use Rattle.warc.specs.Captures.{capture_line, captures_text, columns_line, columns_of, date_front, full_date, number_shown, reason_shown}
 use Rattle.warc.specs.Listing.{shown}
-use Rattle.warc.specs.Capturing.{AreSlots, AreSoFar, IsIndexedAt, JudgesNext, Remembers}
+use Rattle.warc.specs.Capturing.{IsIndexedAt, JudgesNext}
 use Rattle.warc.specs.Outcomes.{CaptureSeen, IsOutcome, judged_seen, origin_on, outcome_seen}
 use Rattle.warc.specs.Replaying.{AsksInside}
 use Rattle.warc.specs.declared.replay.outcome.Outcome.{Outcome}
@@ -43,58 +44,13 @@ appended (y ∷ ys) x (suc k) o is = elim (appended ys x k o is) [
   | inr last ↦ inr ((let e : k ≡ length ys = last.0 in omega (arith, e)), last.1)
 ]
 
-pub zeros : (n i k : ℕ) → slice_get (replicate n 0) i ≡ Some k → k ≡ 0
-zeros zero i k is = absurd (cc is)
-zeros (suc n) zero k is = let f : 0 ≡ k = cc is in sym f
-zeros (suc n) (suc i) k is = zeros n i k is
-
--- what is stored of the origin of an outcome
-stored_on : (records : List Record) (o : CaptureSeen) (origin : ℕ) (path : Result Path Unfound) → o.given ≡ Some origin → o.given ≡ origin_on path → IsStoredOn records path o.stored
-    → IsStoredAt records origin o.stored
-stored_on records o origin (Err unfound) given by is = absurd (let f : Some origin ≡ None = sym given ∙ by in cc f)
-stored_on records o origin (Ok path) given by is =
-    let same : path.given ≡ origin = (let f : Some path.given ≡ Some origin = sym by ∙ given in cc f) in
-    subst (λ (n : ℕ). IsStoredAt records n o.stored) same is
-
-stored_of : (records : List Record) (o : CaptureSeen) (origin : ℕ) → o.given ≡ Some origin → IsOutcome records o → IsStoredAt records origin o.stored
-stored_of records o origin given is = stored_on records o origin (path_at records o.chosen) given is.given is.stored
-
 each_more : {X Y : Type 0} (P : Y → Type 0) (f : X → Y) (xs : List X) (x : X) → AllByRecursion P (map f xs) → P (f x) → AllByRecursion P (map f (xs ++ x ∷ []))
 each_more P f [] x all is = (is, tt)
 each_more P f (y ∷ ys) x all is = (all.0, each_more P f ys x all.1 is)
 
-pub set_kept : (xs : List ℕ) (n v i k : ℕ) → slice_get (set xs n v) i ≡ Some k → (slice_get xs i ≡ Some k) ⊎ ((n ≡ i) × (k ≡ v))
-set_kept [] n v i k is = absurd (cc is)
-set_kept (x ∷ xs) zero v zero k is = inr (refl, (let f : v ≡ k = cc is in sym f))
-set_kept (x ∷ xs) zero v (suc i) k is = inl is
-set_kept (x ∷ xs) (suc n) v zero k is = inl is
-set_kept (x ∷ xs) (suc n) v (suc i) k is = elim (set_kept xs n v i k is) [
-  | inl old ↦ inl old
-  | inr now ↦ inr (ap suc now.0, now.1)
-]
-
-pub more_so_far : {A : Type 0} (records : List Record) (old new : List ℕ) (os : List (Outcome A)) (x : Outcome A) (count : ℕ) → AreSoFar records old os → AreSlots (length os) old
-    → IsOutcome records (outcome_seen x) → count ≡ length os + 1 → Remembers old new x.given count → AreSoFar records new (os ++ x ∷ [])
-more_so_far {A} records old new os x count so_far within is size remembers = record {
-  each = each_more (IsOutcome records) outcome_seen os x so_far.each is;
-  recalls = λ origin o r. elim (remembers origin (r.index + 1) r.slot) [
-    | inl slot ↦ elim (appended os x r.index o r.there) [
-      | inl there ↦ so_far.recalls origin o (record { index = r.index; slot = slot; there = there })
-      | inr last ↦ absurd (omega (arith, within origin (r.index + 1) slot, last.0))
-    ]
-    | inr now ↦ elim (appended os x r.index o r.there) [
-      | inl there ↦ absurd (omega (arith, slice_get_within os r.index o there, now.1, size))
-      | inr last ↦ subst (λ (y : Outcome A). IsStoredAt records origin (judged_seen y.stored)) (sym last.1) (stored_of records (outcome_seen x) origin now.0 is)
-    ]
-  ];
-}
-
-pub more_slots : {A : Type 0} (old new : List ℕ) (os : List (Outcome A)) (x : Outcome A) (count : ℕ) → AreSlots (length os) old → count ≡ length os + 1 → Remembers old new x.given count
-    → AreSlots (length (os ++ x ∷ [])) new
-more_slots old new os x count within size remembers = λ i k is. elim (remembers i k is) [
-  | inl slot ↦ omega (arith, within i k slot, length-append os (x ∷ []))
-  | inr now ↦ omega (arith, now.1, size, length-append os (x ∷ []))
-]
+pub more_outcomes : {A : Type 0} (records : List Record) (os : List (Outcome A)) (x : Outcome A) → AllByRecursion (IsOutcome records) (map outcome_seen os) → IsOutcome records (outcome_seen x)
+    → AllByRecursion (IsOutcome records) (map outcome_seen (os ++ x ∷ []))
+more_outcomes records os x all is = each_more (IsOutcome records) outcome_seen os x all is
 
 pub chosen_seen : {A : Type 0} (os : List (Outcome A)) → map (λ (c : CaptureSeen). c.chosen) (map outcome_seen os) ≡ map (λ (o : Outcome A). o.chosen) os
 chosen_seen [] = refl
@@ -112,11 +68,6 @@ pub memory_early : {X : Type 0} (r : Result X OutFault) → IfErr r (λ fault. f
 memory_early (Ok x) is = tt
 memory_early (Err e) is = subst (λ (f : OutFault). IsEarly (Out f)) (sym is) refl
 
-pub memory_fails : {X : Type 0} {Expected : List ℕ → Type 0} (r : Result X OutFault) (s : SeenSource) → IfErr r (λ fault. fault ≡ outs.Memory 0) → FailsBy Expected r s s
-memory_fails (Ok x) s is = record { may = refl; failed = λ bytes held expected. refl }
-memory_fails {X} {Expected} (Err e) s is =
-    subst (λ (f : OutFault). FailsBy {X = X} Expected (Err f) s s) (sym is) (record { may = refl; failed = λ bytes held expected. refl })
-
 -- ---- what is read
 
 -- the origin of the record at a position is one of the records
@@ -125,18 +76,22 @@ pub record_at : PathsEndInside → (rows : List Row) (index : Indexes) (parts : 
 record_at inside rows index parts position path found bytes (is, are, low) =
     (is, are.parts_are, (inside (contents is.are.records)).1 position low path (sym (path_by_links is.are.records position) ∙ sym (found is.are.records are)))
 
-pub asks_on : {A : Type 0} {rows : List Row} {index : Indexes} {parts : Parts} {position : ℕ} {slots : List ℕ} {outcomes : List (Outcome A)} {old mid new : SeenSource} {answer : Result (Outcome A) OutFault}
-    → Preserves old mid → AsksInside rows index parts old mid → JudgesNext rows index parts position slots outcomes mid new answer → AsksInside rows index parts old new
-asks_on {A} {rows} {index} {parts} {position} {slots} {outcomes} {old} {mid} {new} first inside next = λ bytes is.
-    asks_both (λ at. at < length bytes) old mid new.watched_reads first.watched (inside bytes is) (next.inside bytes is)
+pub asks_then : {rows : List Row} {index : Indexes} {parts : Parts} {old mid : SeenSource} (new : SeenSource) → Preserves old mid → AsksInside rows index parts old mid → AsksInside rows index parts mid new
+    → AsksInside rows index parts old new
+asks_then {rows} {index} {parts} {old} {mid} new first before then = λ bytes is.
+    asks_both (λ at. at < length bytes) old mid new.watched_reads first.watched (before bytes is) (then bytes is)
+
+pub asks_on : {A : Type 0} {rows : List Row} {index : Indexes} {parts : Parts} {position : ℕ} {known found again : List Verdict} {old mid new : SeenSource} {answer : Result (Outcome A) OutFault}
+    → Preserves old mid → AsksInside rows index parts old mid → JudgesNext rows index parts position known found again mid new answer → AsksInside rows index parts old new
+asks_on {A} {rows} {index} {parts} {position} {known} {found} {again} {old} {mid} {new} {answer} first before next = asks_then new first before next.inside
 
 -- ---- lines
 
-text_more : (rows : List Row) (cs ds : List CaptureSeen) → captures_text rows (cs ++ ds) ≡ captures_text rows cs ++ captures_text rows ds
+pub text_more : (rows : List Row) (cs ds : List CaptureSeen) → captures_text rows (cs ++ ds) ≡ captures_text rows cs ++ captures_text rows ds
 unfolding captures_text
 text_more rows cs ds = flat_map-append (capture_line rows) cs ds
 
-map-appended : {X Y : Type 0} (f : X → Y) (xs ys : List X) → map f (xs ++ ys) ≡ map f xs ++ map f ys
+pub map-appended : {X Y : Type 0} (f : X → Y) (xs ys : List X) → map f (xs ++ ys) ≡ map f xs ++ map f ys
 map-appended f [] ys = refl
 map-appended f (x ∷ xs) ys = ap (λ l. f x ∷ l) (map-appended f xs ys)
 

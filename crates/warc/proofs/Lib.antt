@@ -20,8 +20,10 @@ pub mod MigrationLemmas
 pub mod KeptLemmas
 pub mod LookLemmas
 pub mod CaptureLemmas
+pub mod CaptureLineLemmas
 pub mod HeadingLemmas
 pub mod JudgedLemmas
+pub mod KnownLemmas
 pub mod JoinedLemmas
 pub mod OtherLemmas
 pub mod SelectLemmas
@@ -45,3 +47,4 @@ pub mod PayloadLemmas
 pub mod DigestLemmas
 pub mod ComparedLemmas
 pub mod PayloadTextLemmas
+pub mod VerdictLemmas

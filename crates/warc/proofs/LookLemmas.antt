@@ -49,12 +49,12 @@ use Rattle.warc.proofs.OriginLemmas.{early_sent, read_less, then_read}
 use Rattle.warc.proofs.ReplayLemmas.{gap_is, path_by_links, read_all, reads_nothing, then_inside}
 
 -- the record at a position of a list
-content_there : (records : List Placed) (i : ℕ) (p : Placed) → slice_get records i ≡ Some p → slice_get (contents records) i ≡ Some p.content
+pub content_there : (records : List Placed) (i : ℕ) (p : Placed) → slice_get records i ≡ Some p → slice_get (contents records) i ≡ Some p.content
 content_there [] i p is = absurd (cc is)
 content_there (x ∷ xs) zero p is = let same : x ≡ p = cc is in ap (λ (q : Placed). Some q.content) same
 content_there (x ∷ xs) (suc i) p is = content_there xs i p is
 
-stored_by : (records : List Placed) (i : ℕ) (p : Placed) (joined : Result (List ReadRecord) Gap) (stored : Result StoredBody Why) → slice_get records i ≡ Some p
+pub stored_by : (records : List Placed) (i : ℕ) (p : Placed) (joined : Result (List ReadRecord) Gap) (stored : Result StoredBody Why) → slice_get records i ≡ Some p
     → joined_records (read_all records) (read_record p.content) ≡ joined → IsStoredBy p.content joined stored → IsStoredAt (contents records) i stored
 stored_by records i p joined stored there same is = record {
   content = p.content;

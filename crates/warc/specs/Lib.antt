@@ -1,5 +1,6 @@
 pub mod Bodies
 pub mod Bounds
+pub mod Captured
 pub mod Capturing
 pub mod Captures
 pub mod ClosedLaws

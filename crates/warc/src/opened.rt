@@ -2,6 +2,7 @@
 
 pub(crate) mod archive;
 pub(crate) mod block_verdicts;
+pub(crate) mod captures;
 pub(crate) mod checked;
 pub(crate) mod counts;
 pub(crate) mod fixity;

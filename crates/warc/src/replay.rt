@@ -3,6 +3,7 @@
 pub(crate) mod answer;
 pub(crate) mod body;
 pub(crate) mod capture_line;
+pub(crate) mod capture_lines;
 pub(crate) mod captures;
 pub(crate) mod location;
 pub(crate) mod origin;

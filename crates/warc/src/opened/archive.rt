@@ -1,5 +1,5 @@
 //! An archive: a listing, with what finds its records and joins their segments.
-ghost use Rattle.std.specs.Prelude.{◌≡◌, ℕ, List, length, IfOk, OnErr, map, min, slice_get};
+ghost use Rattle.std.specs.Prelude.{◌≡◌, ℕ, List, length, IfOk, OnErr, map, min, slice_get, ⊤};
 ghost use Rattle.warc_frame.specs.Effects.{SendsText};
 ghost use Rattle.warc.specs.Bodies.{GivesBodyAt};
 ghost use Rattle.warc.specs.Bounds.{IsKeptCount};
@@ -9,7 +9,7 @@ ghost use Rattle.warc_reading.specs.Keeping.{kept_bytes};
 ghost use Rattle.warc_index.specs.Captures.{AreCapturesOf, chosen_of};
 ghost use Rattle.warc_reading.specs.Archive.{IsArchiveOf};
 ghost use Rattle.warc_reading.specs.Indexed.{AreOf, IsIndexed, IsUnchanged, indexed_record};
-ghost use Rattle.warc.specs.Capturing.{JudgesAll};
+ghost use Rattle.warc.specs.Capturing.{JudgesAll, SendsCaptures};
 ghost use Rattle.warc.specs.Captures.{capture_positions, captures_text};
 ghost use Rattle.warc.specs.Closure.{GivesNeeded, GivesOthers};
 ghost use Rattle.warc.specs.Listing.{listing};
@@ -37,6 +37,7 @@ use crate::record::whole::take_record_at;
 use crate::replay::answer::{path_from, path_in, replay_rows};
 use crate::replay::body::give_body;
 use crate::replay::capture_line::list_outcomes;
+use crate::replay::capture_lines::write_unjudged;
 use crate::replay::captures::{capture_positions, judge_all};
 use crate::replay::location::{locate_at, locate_for};
 use crate::replay::outcome::{Outcome, StoredAt, judge_at, send_at};
@@ -319,8 +320,8 @@ impl<S: Source, A: Allocator + Copy> Archive<S, A> {
         capture_positions(&self.opened.rows)
     }
 
-    /// The outcomes of the captures at positions, in their order, as `outcome_at` gives them. Each origin is read and
-    /// judged once, however many of them lead to it. `Memory` and `Read` come without an outcome.
+    /// The outcomes of the captures at positions, in their order, as `outcome_at` gives them. Joined blocks are judged
+    /// once, however many captures lead to them. `Memory` and `Read` come without an outcome.
     pub fn outcomes(&mut self, positions: &[usize]) -> Result<Vec<Outcome<A>, A>, OutFault>
         ensures judges { JudgesAll self.old.listing.rows self.old.index self.old.parts positions.now
             (S.seen self.old.listing.source) (S.seen self.new.listing.source) result }
@@ -342,6 +343,25 @@ impl<S: Source, A: Allocator + Copy> Archive<S, A> {
             (captures_text self.now.listing.rows (map outcome_seen outcomes.now)) }
     {
         list_outcomes(&self.opened.rows, outcomes, out)
+    }
+
+    /// Writes the line of each capture at a position, in their order, as `list_outcomes` writes that of its outcome. A
+    /// capture is judged when its line is written, and no outcome is kept: a byte for each record is. Of its origin the
+    /// head is read again. Joined blocks are judged once, however many captures lead to them: each byte is read at most
+    /// once for that, and then of an HTTP response the front, for its head. `Read`, `Write` and `Memory` say how many
+    /// bytes went out, which are the first of the lines.
+    pub fn list_captures<W: Sink>(
+        &mut self,
+        positions: &[usize],
+        out: &mut W,
+    ) -> Result<(), OutFault>
+        ensures lists { SendsCaptures (λ _. ⊤) self.old.listing.rows self.old.index self.old.parts positions.now
+            (S.seen self.old.listing.source) (S.seen self.new.listing.source) (W.seen out.old) (W.seen out.new)
+            result }
+        ensures unchanged { IsUnchanged self.old self.new }
+    {
+        let Opened { source, rows, kept } = &mut self.opened;
+        write_unjudged(source, rows, kept, positions, out)
     }
 
     /// How the payload of the record at a position compares with the digest that its first `WARC-Payload-Digest`

@@ -1,7 +1,7 @@
 //! How many records of an archive have a verdict.
-ghost use Rattle.std.specs.Prelude.{◌≡◌, ◌≤◌, [], ◌∷◌, ◌++◌, if◌then◌else◌, length, take, OnErr, OnOk};
+ghost use Rattle.std.specs.Prelude.{◌≡◌, ℕ, ◌≤◌, [], ◌∷◌, ◌++◌, if◌then◌else◌, length, take, IfOk, OnErr, OnOk};
 ghost use Rattle.warc.specs.Counting.{is_verdict, verdict_at, verdict_tally};
-ghost use Rattle.warc.specs.Waiting.{with_last};
+ghost use Rattle.warc.specs.Waiting.{IsSetAt, with_last};
 
 use std::alloc::{AllocError, Allocator};
 use std::marker::Model;
@@ -48,6 +48,25 @@ impl<A: Allocator> Verdicts<A> {
     {
         Verdicts {
             list: Vec::new(alloc),
+        }
+    }
+
+    /// Of this number of records, of none of which anything is known.
+    #[tactic(auto, using(crate::proofs::VerdictLemmas::none_said))]
+    pub(crate) fn unknown(alloc: A, count: usize) -> Result<Verdicts<A>, AllocError>
+        ensures { IfOk result (λ verdicts. (i : ℕ) → verdict_at verdicts i ≡ Verdict.Unchecked) }
+    {
+        let list = vec![in alloc; Verdict::Unchecked; count]?;
+        Ok(Verdicts { list })
+    }
+
+    /// Sets the verdict at a position, if there is one.
+    #[tactic(auto, using(crate::proofs::VerdictLemmas::set_one))]
+    pub(crate) fn set(&mut self, position: usize, verdict: Verdict)
+        ensures { IsSetAt self.old self.new position verdict }
+    {
+        if position < self.list.len() {
+            self.list[position] = verdict;
         }
     }
 

@@ -248,7 +248,7 @@ fn put_reason<W: Sink>(
 }
 
 /// Adds the line of a capture to the output, by its row.
-pub(crate) fn put_capture<W: Sink, A: Allocator>(
+fn put_capture<W: Sink, A: Allocator>(
     row: &Row<'_>,
     outcome: &Outcome<A>,
     buffer: &mut OutBuffer,
@@ -266,7 +266,7 @@ pub(crate) fn put_capture<W: Sink, A: Allocator>(
 }
 
 /// Adds the line of a capture to the output, if its record is there.
-fn put_line<W: Sink, A: Allocator>(
+pub(crate) fn put_line<W: Sink, A: Allocator>(
     rows: &Rows<A>,
     outcome: &Outcome<A>,
     buffer: &mut OutBuffer,

@@ -1,21 +1,23 @@
-//! The captures of an archive, and their outcomes, of which each origin is judged once.
-ghost use Rattle.std.specs.Prelude.{◌≡◌, ◌+◌, ◌++◌, ◌∷◌, [], length, None, IfErr, IfOk, IfSome, OnOk};
+//! The captures of an archive, and their outcomes. Joined blocks are hashed once, however many captures lead to them.
+ghost use Rattle.std.specs.Prelude.{◌≡◌, ℕ, ◌++◌, ◌∷◌, List, [], Err, IfOk, OnOk};
+ghost use Rattle.warc_frame.specs.Record.{Record};
 ghost use Rattle.warc_record.specs.Kinds.{kind_named};
+ghost use Rattle.warc_answer.specs.Stored.{IsStoredAt};
 ghost use Rattle.warc.specs.Captures.{capture_positions, position_if};
-ghost use Rattle.warc.specs.Capturing.{IsRecalled, IsUnknown, JudgesAll, JudgesNext, JudgesOne, Remembers};
-ghost use Rattle.warc.specs.Looking.{Judges};
+ghost use Rattle.warc.specs.Capturing.{IsJoinedVerdict, JudgesAll, JudgesEach, JudgesNext, JudgesOne};
 ghost use Rattle.warc.specs.Outcomes.{judged_seen};
-ghost use Rattle.warc_answer.specs.Seen.{stored_seen};
 
+use crate::opened::counts::Verdicts;
 use crate::replay::answer::path_from;
 use crate::replay::body::is_capture;
 use crate::replay::outcome::Outcome;
-use crate::replay::stored::judge_origin;
+use crate::replay::stored::judge_by;
 use std::alloc::{AllocError, Allocator};
 use warc_answer::laws::paths_end_inside;
 use warc_answer::{Reason, Stored};
 use warc_frame::{OutFault, Source};
 use warc_reading::{Lookup, Rows};
+use warc_value::Verdict;
 
 /// Adds a position, if the record there is a capture.
 fn push_if<A: Allocator>(
@@ -48,89 +50,70 @@ pub(crate) fn capture_positions<A: Allocator + Copy>(
     Ok(positions)
 }
 
-/// A copy of what is stored.
-fn copied<A: Allocator + Copy>(alloc: A, stored: &Stored<A>) -> Result<Stored<A>, AllocError>
-    ensures { IfOk result (λ s. stored_seen s ≡ stored_seen stored.now) }
+/// What is found of the blocks that are joined to an origin, by the reason why nothing is stored of it.
+fn verdict_for(reason: Reason) -> Verdict
+    ensures { (records : List Record) (origin : ℕ) → IsStoredAt records origin (Err reason) →
+        IsJoinedVerdict records origin result }
 {
-    let media_type = Vec::from_slice(alloc, &stored.media_type)?;
-    let codings = Vec::from_slice(alloc, &stored.codings)?;
-    Ok(Stored {
-        status: stored.status,
-        media_type,
-        codings,
-        coded: stored.coded,
-        truncated: stored.truncated,
-        head_len: stored.head_len,
-        length: stored.length,
-    })
+    match reason {
+        Reason::BadHead => Verdict::Good,
+        Reason::BadDigest => Verdict::Bad,
+        _ => Verdict::Unchecked,
+    }
 }
 
-/// A copy of what was judged of an origin.
-fn judged_again<A: Allocator + Copy>(
-    alloc: A,
-    judged: &Result<Stored<A>, Reason>,
-) -> Result<Result<Stored<A>, Reason>, OutFault>
-    ensures same { IfOk result (λ again. judged_seen again ≡ judged_seen judged.now) }
-    ensures memory { IfErr result (λ fault. fault ≡ OutFault.Memory 0) }
+/// What is found of the blocks that are joined to an origin, by what is stored of it.
+fn verdict_by<A: Allocator>(judged: &Result<Stored<A>, Reason>) -> Verdict
+    ensures { (records : List Record) (origin : ℕ) → IsStoredAt records origin (judged_seen judged.now) →
+        IsJoinedVerdict records origin result }
 {
     match judged {
-        Ok(stored) => match copied(alloc, stored) {
-            Ok(again) => Ok(Ok(again)),
-            Err(_) => Err(OutFault::Memory(0)),
-        },
-        Err(reason) => Ok(Err(*reason)),
+        Ok(_) => Verdict::Good,
+        Err(reason) => verdict_for(*reason),
     }
 }
 
-/// The outcome that an origin was judged for, if it was. `slots` has for each record one more than the index of that
-/// outcome, or 0.
-fn recalled<'a, A: Allocator>(
-    slots: &[usize],
-    outcomes: &'a [Outcome<A>],
-    origin: usize,
-) -> Option<&'a Outcome<A>>
-    ensures some { IfSome result (λ o. IsRecalled slots.now outcomes.now origin o.now) }
-    ensures none { result ≡ None → IsUnknown slots.now outcomes.now origin }
-{
-    match slots.get(origin) {
-        Some(slot) if *slot > 0 => outcomes.get(*slot - 1),
-        _ => None,
-    }
-}
-
-/// What is stored of an origin, from the outcome that it was judged for, or judged now.
+/// What is stored of an origin, by what is known of each record's block, and what was found of the blocks that are
+/// joined to it. What is found of these now is remembered.
 fn judge_once<S: Source, A: Allocator + Copy>(
     source: &mut S,
     rows: &Rows<A>,
     lookup: &Lookup<A>,
     origin: usize,
-    slots: &[usize],
-    outcomes: &[Outcome<A>],
+    known: &Verdicts<A>,
+    found: &mut Verdicts<A>,
 ) -> Result<Result<Stored<A>, Reason>, OutFault>
-    ensures { JudgesOne rows.now lookup.now.parts origin slots.now outcomes.now (S.seen source.old)
+    ensures { JudgesOne rows.now lookup.now.parts origin known.now found.old found.new (S.seen source.old)
         (S.seen source.new) result }
 {
-    match recalled(slots, outcomes, origin) {
-        Some(outcome) => judged_again(rows.allocator(), &outcome.stored),
-        None => judge_origin(source, rows, lookup, origin),
-    }
+    let judged = judge_by(
+        source,
+        rows,
+        lookup,
+        origin,
+        known.at(origin),
+        found.at(origin),
+    )?;
+    found.set(origin, verdict_by(&judged));
+    Ok(judged)
 }
 
-/// The outcome of the capture at a position.
-fn outcome_once<S: Source, A: Allocator + Copy>(
+/// The outcome of the capture at a position, by what is known of each record's block, and what was found of the blocks
+/// that are joined to each. What is found now is remembered.
+pub(crate) fn outcome_once<S: Source, A: Allocator + Copy>(
     source: &mut S,
     rows: &Rows<A>,
     lookup: &Lookup<A>,
     position: usize,
-    slots: &[usize],
-    outcomes: &[Outcome<A>],
+    known: &Verdicts<A>,
+    found: &mut Verdicts<A>,
 ) -> Result<Outcome<A>, OutFault>
-    ensures { JudgesNext rows.now lookup.now.index lookup.now.parts position slots.now outcomes.now
+    ensures { JudgesNext rows.now lookup.now.index lookup.now.parts position known.now found.old found.new
         (S.seen source.old) (S.seen source.new) result }
 {
     paths_end_inside();
     match path_from(lookup, position) {
-        Ok(path) => match judge_once(source, rows, lookup, path.given, slots, outcomes) {
+        Ok(path) => match judge_once(source, rows, lookup, path.given, known, found) {
             Ok(stored) => Ok(Outcome {
                 chosen: position,
                 given: Some(path.given),
@@ -146,30 +129,44 @@ fn outcome_once<S: Source, A: Allocator + Copy>(
     }
 }
 
-/// Keeps for an origin which outcome it was judged for.
-fn remember<A: Allocator>(slots: &mut Vec<usize, A>, origin: Option<usize>, slot: usize)
-    ensures { Remembers slots.old.items slots.new.items origin slot }
-{
-    if let Some(origin) = origin {
-        if origin < slots.len() {
-            slots[origin] = slot;
-        }
-    }
-}
-
-/// Adds an outcome, and answers how many there are.
+/// Adds an outcome.
 fn push_outcome<A: Allocator>(
     outcomes: &mut Vec<Outcome<A>, A>,
     outcome: Outcome<A>,
-) -> Result<usize, AllocError>
-    ensures items { OnOk result (outcomes.new.items ≡ outcomes.old.items ++ outcome ∷ []) }
-    ensures count { IfOk result (λ count. count ≡ length outcomes.old.items + 1) }
+) -> Result<(), AllocError>
+    ensures { OnOk result (outcomes.new.items ≡ outcomes.old.items ++ outcome ∷ []) }
 {
     outcomes.push(outcome)?;
-    Ok(outcomes.len())
+    Ok(())
 }
 
-/// The outcomes of the captures at positions, in their order. Each origin is read and judged once.
+/// The outcomes of the captures at positions, in their order, by what is known of each record's block. Joined blocks
+/// are hashed once.
+fn judge_each<S: Source, A: Allocator + Copy>(
+    source: &mut S,
+    rows: &Rows<A>,
+    lookup: &Lookup<A>,
+    known: &Verdicts<A>,
+    positions: &[usize],
+) -> Result<Vec<Outcome<A>, A>, OutFault>
+    ensures { JudgesEach known.now rows.now lookup.now.index lookup.now.parts positions.now (S.seen source.old)
+        (S.seen source.new) result }
+{
+    let alloc = rows.allocator();
+    let Ok(mut found) = Verdicts::unknown(alloc, rows.len()) else {
+        return Err(OutFault::Memory(0));
+    };
+    let mut outcomes = Vec::new(alloc);
+    'judging: for position in positions {
+        let outcome = outcome_once(source, rows, lookup, *position, known, &mut found)?;
+        let Ok(()) = push_outcome(&mut outcomes, outcome) else {
+            return Err(OutFault::Memory(0));
+        };
+    }
+    Ok(outcomes)
+}
+
+/// The same where nothing is known of any block.
 pub(crate) fn judge_all<S: Source, A: Allocator + Copy>(
     source: &mut S,
     rows: &Rows<A>,
@@ -179,18 +176,6 @@ pub(crate) fn judge_all<S: Source, A: Allocator + Copy>(
     ensures { JudgesAll rows.now lookup.now.index lookup.now.parts positions.now (S.seen source.old)
         (S.seen source.new) result }
 {
-    let alloc = rows.allocator();
-    let Ok(mut slots) = vec![in alloc; 0usize; rows.len()] else {
-        return Err(OutFault::Memory(0));
-    };
-    let mut outcomes = Vec::new(alloc);
-    'judging: for position in positions {
-        let outcome = outcome_once(source, rows, lookup, *position, &slots, &outcomes)?;
-        let origin = outcome.given;
-        let Ok(count) = push_outcome(&mut outcomes, outcome) else {
-            return Err(OutFault::Memory(0));
-        };
-        remember(&mut slots, origin, count);
-    }
-    Ok(outcomes)
+    let known = Verdicts::new(rows.allocator());
+    judge_each(source, rows, lookup, &known, positions)
 }

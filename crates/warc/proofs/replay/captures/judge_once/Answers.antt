@@ -1,26 +1,37 @@
-use Rattle.std.proofs.Common.{refl, sym, subst}
-use Rattle.std.proofs.lemmas.Result.{IfOk-weaker}
-use Rattle.warc_answer.specs.Stored.{IsStoredAt}
+use Rattle.std.proofs.Common.{sym, subst}
+use Rattle.std.proofs.lemmas.Result.{err_from_is_err_and}
+use Rattle.warc_frame.proofs.EffectLemmas.{fails_as, fails_never}
 use Rattle.warc_reading.specs.Archive.{contents}
-use Rattle.warc.proofs.CaptureLemmas.{memory_early, memory_fails}
+use Rattle.warc.specs.Capturing.{IsJoinedVerdict, IsBlockVerdict}
+use Rattle.warc.proofs.KnownLemmas.{found_now}
 use Rattle.warc.proofs.replay.captures.judge_once.Goals as goal
 
-pub returns-in-Some : goal.returns-in-Some
-returns-in-Some g c = record {
-  told = λ bytes held is parts recalls.
-      IfOk-weaker c.judged_again.result _ _
-      (λ r same. subst (λ j. IsStoredAt (contents is.are.records) c.args.origin j) (sym same) (recalls c.args.origin _ c.in-Some.ensures.some)) c.judged_again.ensures.same;
-  early = memory_early _ c.judged_again.ensures.memory;
-  inside = λ bytes is parts off. refl;
-  keeps = record { kept = refl; watched = refl };
-  fails = memory_fails c.judged_again.result _ c.judged_again.ensures.memory;
-}
+pub returns-in_err-judged : goal.returns-in_err-judged
+returns-in_err-judged g c =
+    let p = err_from_is_err_and c.from_residual.result c.from_residual.ensures.1 in
+    let next = c.in_err-judged.ensures in
+    rw (p.1, p.2) (record {
+      told = λ bytes held is parts right. tt;
+      remembers = λ bytes held is parts right. right;
+      early = next.early;
+      inside = next.inside;
+      keeps = next.keeps;
+      fails = fails_as _ _ next.fails;
+    })
 
-pub returns-in-None : goal.returns-in-None
-returns-in-None g c = record {
-  told = λ bytes held is parts recalls. c.judge_origin.ensures.told bytes held is parts;
-  early = c.judge_origin.ensures.early;
-  inside = c.judge_origin.ensures.inside;
-  keeps = c.judge_origin.ensures.keeps;
-  fails = c.judge_origin.ensures.fails;
-}
+pub returns : goal.returns
+returns g c =
+    let next = c.in_ok-judged.ensures in
+    record {
+      told = λ bytes held is parts right.
+          next.told bytes held is parts (subst (IsBlockVerdict (contents is.are.records) c.args.origin) (sym c.at.ensures) (right.own c.args.origin))
+          (subst (IsJoinedVerdict (contents is.are.records) c.args.origin) (sym c.at-2.ensures) (right.joined c.args.origin));
+      remembers = λ bytes held is parts right.
+          let stored = next.told bytes held is parts (subst (IsBlockVerdict (contents is.are.records) c.args.origin) (sym c.at.ensures) (right.own c.args.origin))
+          (subst (IsJoinedVerdict (contents is.are.records) c.args.origin) (sym c.at-2.ensures) (right.joined c.args.origin)) in
+          found_now _ _ _ is.are.records c.args.origin c.verdict_by.result c.set.ensures (c.verdict_by.ensures (contents is.are.records) c.args.origin stored) right;
+      early = tt;
+      inside = next.inside;
+      keeps = next.keeps;
+      fails = fails_never next.fails.may;
+    }

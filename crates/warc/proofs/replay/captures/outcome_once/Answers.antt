@@ -10,10 +10,11 @@ use Rattle.warc.proofs.replay.captures.outcome_once.Goals as goal
 
 pub returns-in-Ok-judge_once : goal.returns-in-Ok-judge_once
 returns-in-Ok-judge_once g c = record {
-  told = λ bytes held is are recalls.
+  told = λ bytes held is are right.
       outcome_made c.args.rows.now c.args.lookup.now.index c.args.lookup.now.parts c.args.position (Some c.in-Ok.path.given) (judged_seen c.in-Ok-judge_once.stored) (Ok c.in-Ok.path)
       (contents is.are.records) (sym (path_by_links is.are.records c.args.position) ∙ sym (c.in-Ok.ensures is.are.records are)) refl
-      (c.in-Ok-judge_once.ensures.told bytes held is are.parts_are recalls);
+      (c.in-Ok-judge_once.ensures.told bytes held is are.parts_are right);
+  remembers = λ bytes held is are right. c.in-Ok-judge_once.ensures.remembers bytes held is are.parts_are right;
   chosen = refl;
   early = tt;
   inside = λ bytes (is, are). c.in-Ok-judge_once.ensures.inside bytes is are.parts_are;
@@ -24,7 +25,8 @@ returns-in-Ok-judge_once g c = record {
 
 pub returns-in-Err-judge_once : goal.returns-in-Err-judge_once
 returns-in-Err-judge_once g c = record {
-  told = λ bytes held is are recalls. tt;
+  told = λ bytes held is are right. tt;
+  remembers = λ bytes held is are right. c.in-Err-judge_once.ensures.remembers bytes held is are.parts_are right;
   chosen = tt;
   early = c.in-Err-judge_once.ensures.early;
   inside = λ bytes (is, are). c.in-Err-judge_once.ensures.inside bytes is are.parts_are;
@@ -35,9 +37,10 @@ returns-in-Err-judge_once g c = record {
 
 pub returns-in-Err : goal.returns-in-Err
 returns-in-Err g c = record {
-  told = λ bytes held is are recalls.
+  told = λ bytes held is are right.
       outcome_made c.args.rows.now c.args.lookup.now.index c.args.lookup.now.parts c.args.position None (Err (NotFound c.in-Err.unfound)) (Err c.in-Err.unfound)
       (contents is.are.records) (sym (path_by_links is.are.records c.args.position) ∙ sym (c.in-Err.ensures is.are.records are)) refl refl;
+  remembers = λ bytes held is are right. right;
   chosen = refl;
   early = tt;
   inside = λ bytes is off. refl;

@@ -1,0 +1,17 @@
+use Rattle.std.proofs.Common.{◌∙◌}
+use Rattle.warc_reading.proofs.IndexedLemmas.{are_of_same, opens_with, refuses_with}
+use Rattle.warc.proofs.opened.captures.Captures.open.Goals as goal
+
+pub returns-in-Ok : goal.returns-in-Ok
+returns-in-Ok g c = opens_with _ _
+    (λ bytes kept. record {
+      indexed = record {
+        listed = kept.listed;
+        kept = are_of_same _ _ _ _ _ c.into_lookup.ensures.index c.into_lookup.ensures.parts kept.beside.1;
+      };
+      verdicts_are = c.into_verdicts.ensures ∙ kept.beside.0;
+    })
+    c.in-Ok.ensures
+
+pub returns-in-Err : goal.returns-in-Err
+returns-in-Err g c = refuses_with _ c.in-Err.ensures
