@@ -1,32 +1,32 @@
 -- How `captures` ends, and the commands that are given a URI in digits.
-use Rattle.std.proofs.Common.{◌≡◌, ◌≤◌, inl, inr, ℕ, Bool, true, false, List, [], ◌∷◌, length, ◌+◌, ◌<◌, ◌^◌, ◌++◌, nat_lt, if◌then◌else◌, append_assoc, take_all, map, Option, Some, None, Result, Ok, Err, refl, sym, ap, subst, ◌∙◌, arith, codes}
-use Rattle.std.specs.declared.vec.Vec.{Vec}
-use Rattle.std.specs.Result.{result_map_both}
+use Rattle.std.proofs.Common.{◌≡◌, ◌≤◌, inl, inr, ℕ, Bool, true, false, List, [], ◌∷◌, length, ◌+◌, ◌<◌, ◌^◌, ◌++◌, nat_lt, if◌then◌else◌, append_assoc, take, take_all, map, Option, Some, None, Result, Ok, Err, refl, sym, ap, subst, ◌∙◌, arith, codes}
 use Rattle.std.specs.Io.KnownBytes.{append_known}
 use Rattle.std.specs.List.{concat}
 use Rattle.std.proofs.lemmas.Bool.{lt-ltb}
+use Rattle.std.proofs.lemmas.List.{append-nil, length-map}
 use Rattle.warc_frame.specs.Count.{raised}
-use Rattle.warc_frame.proofs.EffectLemmas.{fails_as}
+use Rattle.warc_frame.specs.Record.{Record}
+use Rattle.warc_frame.proofs.EffectLemmas.{fails_as, fails_more, fails_never}
 use Rattle.warc_frame.specs.Send.{WentOut}
-use Rattle.warc_frame.specs.Seen.{Seen, SeenSource}
+use Rattle.warc_frame.specs.Seen.{AsksOnly, Seen, SeenSource}
 use Rattle.warc_frame.specs.declared.fault.OutFault.{OutFault}
-use Rattle.warc_reading.specs.Indexed.{Archived, IsIndexed}
+use Rattle.warc_frame.specs.declared.fault.OutFault.TheVariants as outs
 use Rattle.warc_reading.specs.Opening.{Opens}
-use Rattle.std.proofs.lemmas.List.{length-map}
 use Rattle.std.proofs.lemmas.List.Elements.{All-append, All-cons, All-contains, All-nil}
 use Rattle.std.proofs.lemmas.Option.{slice_get_within}
 use Rattle.std.specs.List.{All, Contains, enumerate_from, flat_map}
 use Rattle.warc_record.specs.Kinds.{kind_named}
 use Rattle.warc_index.specs.Captures.{is_capture}
-use Rattle.warc_reading.specs.Archive.{contents}
-use Rattle.warc_reading.specs.Indexed.{indexed_record}
+use Rattle.warc_index.specs.Orders.{Indexes}
+use Rattle.warc_segment.specs.Kept.{Kept as Parts}
+use Rattle.warc_reading.specs.Archive.{IsArchiveOf, contents}
+use Rattle.warc_reading.specs.Indexed.{AreOf, indexed_record}
 use Rattle.warc_reading.specs.Row.{Placed, Row, row_of}
-use Rattle.warc.specs.Captures.{capture_positions, position_if}
-use Rattle.warc.specs.Capturing.{outcomes_seen}
-use Rattle.warc.specs.Outcomes.{CaptureSeen, outcome_seen}
-use Rattle.warc.specs.declared.replay.outcome.Outcome.{Outcome}
+use Rattle.warc.specs.Captures.{capture_positions, captures_text, position_if}
+use Rattle.warc.specs.Capturing.{AreFirstOutcomes, AreIndexedAt, AreOutcomes, SendsCaptures}
+use Rattle.warc.specs.Outcomes.{CaptureSeen}
 use Rattle.warc_arguments.specs.Digits.{uri_named}
-use Rattle.warc_commands.specs.Captures.{AreListed, CapturesEnds, CountEnds, JudgesListed, LinesEnd, ListedEnds}
+use Rattle.warc_commands.specs.Captures.{AnswerEnds, AreFrontIn, AreListed, CapturesEnds, CountEnds, WritesListed}
 use Rattle.warc_commands.specs.Devices.{Devices, devices}
 use Rattle.warc_commands.specs.Program.{Tells, told_line}
 use Rattle.warc_commands.specs.Uris.{IsStarved, UriEnds, uri_fault_text, uri_listed}
@@ -34,61 +34,71 @@ use Rattle.warc_arguments.specs.declared.digits.UriFault.{UriFault}
 use Rattle.warc_arguments.specs.declared.digits.UriFault.TheVariants.{Digits, Memory}
 use Rattle.warc_commands.proofs.ProgramLemmas.{has_failed, may_have_failed}
 
--- no capture, or some
-pub count_none : {A : Type 0} (os : List (Outcome A)) (old new : Seen) (status : ℕ) → length os ≡ 0 → Tells (told_line (codes "P1 NoCapture")) old new → status ≡ 1
-    → CountEnds (map outcome_seen os) old new status
-count_none [] old new status none tells is = (tells, is)
-count_none (o ∷ os) old new status none tells is = absurd (omega (arith, none))
+-- ---- how the lines end
 
-pub count_some : {A : Type 0} (os : List (Outcome A)) (s : Seen) → (length os ≡ 0 → ⊥) → CountEnds (map outcome_seen os) s s 0
-count_some [] s some = absurd (some refl)
-count_some (o ∷ os) s some = (refl, refl)
+nothing_more : (told : Option (List ℕ)) → append_known told [] ≡ told
+nothing_more None = refl
+nothing_more (Some bytes) = ap Some (append-nil bytes)
 
-lines_by : (rows other : List Row) (captures : List CaptureSeen) (out out' err err' : Seen) (status : ℕ) → rows ≡ other → LinesEnd rows captures out out' err err' status
-    → LinesEnd other captures out out' err err' status
-lines_by rows other captures out out' err err' status same ends = subst (λ (l : List Row). LinesEnd l captures out out' err err' status) same ends
+-- nothing went out
+none_out : (told : Option (List ℕ)) (rows : List Row) → WentOut told (captures_text rows []) told 0
+unfolding captures_text
+none_out told rows = record { count = 0; within = omega arith; told = sym (nothing_more told); number = refl }
 
--- how the command ends, by what was judged and what was written
-pub captures_end : {S A B : Type 0} (uri : Option (List ℕ)) (archive after : Archived S) (answer : Result (Vec (Outcome A) B) OutFault) (old mid last new : SeenSource) (out out' err err' : Seen) (status : ℕ)
-    → Opens IsIndexed old mid (Ok archive) → JudgesListed archive after uri mid last answer → new.faults ≡ last.faults
-    → ListedEnds after.listing.rows (result_map_both outcomes_seen (λ e. e) answer) out out' err err' status
+count_by : (n : ℕ) (captures : List CaptureSeen) (old new : Seen) (status : ℕ) → n ≡ length captures → AnswerEnds (Ok n) old new status → CountEnds captures old new status
+count_by n [] old new status count (inl none) = (none.1, none.2)
+count_by n [] old new status count (inr some) = absurd (omega (arith, count, some.0))
+count_by n (c ∷ cs) old new status count (inl none) = absurd (omega (arith, count, none.0))
+count_by n (c ∷ cs) old new status count (inr some) = (some.1, some.2)
+
+-- how the command ends, by what was written
+pub captures_end : {X : Type 0} {Is : List ℕ → X → Type 0} (uri : Option (List ℕ)) (archive : X) (rows : List Row) (answer : Result ℕ OutFault) (old mid last new : SeenSource) (out out' err err' : Seen) (status : ℕ)
+    → Opens Is old mid (Ok archive) → WritesListed (λ bytes. Is bytes archive) uri rows mid last out out' answer → new.faults ≡ last.faults → AnswerEnds answer err err' status
     → CapturesEnds uri (devices old out err) (devices new out' err') status
-captures_end uri archive after (Ok outcomes) old mid last new out out' err err' status opened judged same ends =
-    elim (lines_by after.listing.rows archive.listing.rows (outcomes_seen outcomes) out out' err err' status judged.rows ends) [
-      | inl all ↦ inl (record {
-        rows = archive.listing.rows;
-        captures = outcomes_seen outcomes;
-        are = λ bytes held. judged.told bytes (opened.reads.kept ∙ held) (opened.accepted bytes held);
-        told = all.0;
-        unfailed = all.1;
-        sound = same ∙ judged.fails.may ∙ opened.reads.cause;
-        ends = all.2;
-      })
-      | inr cut ↦ inr (inr (inl (record {
-        rows = archive.listing.rows;
-        captures = outcomes_seen outcomes;
-        are = λ bytes held. judged.told bytes (opened.reads.kept ∙ held) (opened.accepted bytes held);
-        sent = cut.0;
-        front = cut.1;
-        failed = cut.2;
-        sound = same ∙ judged.fails.may ∙ opened.reads.cause;
-        told = cut.3;
-        status_is = cut.4;
-      })))
-    ]
-captures_end {S} {A} {B} uri archive after (Err fault) old mid last new out out' err err' status opened judged same ends =
-    let fails = fails_as (Vec (Outcome A) B) ℕ judged.fails in
-    inr (inr (inr (record {
-      fault = fault;
-      early = judged.early;
-      fails = record {
-        may = may_have_failed fault _ _ _ _ opened.reads.cause (sym same) fails.may;
-        failed = λ bytes held is. has_failed fault _ _ _ _ opened.reads.cause (sym same) (fails.failed bytes (opened.reads.kept ∙ held) (opened.accepted bytes held));
-      };
-      untouched = ends.0;
-      told = ends.1;
-      status_is = ends.2;
-    })))
+captures_end uri archive rows (Ok count) old mid last new out out' err err' status opened writes same ends = inl (record {
+  rows = rows;
+  captures = writes.captures;
+  are = λ bytes held. writes.all bytes (opened.reads.kept ∙ held) (opened.accepted bytes held);
+  told = writes.told;
+  unfailed = writes.cause;
+  sound = same ∙ writes.fails.may ∙ opened.reads.cause;
+  ends = count_by count writes.captures err err' status writes.count ends;
+})
+captures_end uri archive rows (Err fault) old mid last new out out' err err' status opened writes same ends = inr (inr (record {
+  rows = rows;
+  captures = writes.captures;
+  are = λ bytes held. writes.first bytes (opened.reads.kept ∙ held) (opened.accepted bytes held);
+  fault = fault;
+  front = writes.cut;
+  failed = writes.cause;
+  fails = record {
+    may = may_have_failed fault _ _ _ _ opened.reads.cause (sym same) writes.fails.may;
+    failed = λ bytes held is. has_failed fault _ _ _ _ opened.reads.cause (sym same) (writes.fails.failed bytes (opened.reads.kept ∙ held) (opened.accepted bytes held));
+  };
+  told = ends.0;
+  status_is = ends.1;
+}))
+
+-- no memory for the positions
+pub writes_none : {Is : List ℕ → Type 0} {uri : Option (List ℕ)} {rows : List Row} {s : SeenSource} {to : Seen} → WritesListed Is uri rows s s to to (Err (outs.Memory 0))
+writes_none {Is} {uri} {rows} {s} {to} = record {
+  captures = [];
+  first = λ bytes held is. inl refl;
+  all = λ bytes held is. tt;
+  count = tt;
+  told = tt;
+  cut = none_out to.tells rows;
+  inside = λ bytes is off. refl;
+  keeps = record { kept = refl; watched = refl };
+  fails = record { may = refl; failed = λ bytes held is. refl };
+  cause = refl;
+}
+
+all_outcomes : (records : List Record) (positions : List ℕ) (captures : List CaptureSeen) → length captures ≡ length positions → AreFirstOutcomes records positions captures
+    → AreOutcomes records positions captures
+all_outcomes records positions captures size are =
+    let whole : take (length captures) positions ≡ positions = take_all (length captures) positions (omega (arith, size)) in
+    subst (λ (l : List ℕ). AreOutcomes records l captures) whole are
 
 -- ---- the captures that are listed
 
@@ -110,6 +120,58 @@ listed_inside None records positions are p in_ =
 listed_inside (Some uri) records positions are p in_ =
     let found = (are.each p).0 in_ in
     omega (arith, slice_get_within (map indexed_record records) p found.it found.there, length-map records indexed_record, length-map records (λ (r : Placed). r.content))
+
+-- the lines of these positions, which are those of what is listed
+low_in : (uri : Option (List ℕ)) {rows : List Row} {index : Indexes} {parts : Parts} (positions given : List ℕ) (bytes : List ℕ) (of : IsArchiveOf bytes rows) → given ≡ positions → AreOf of.are.records index parts
+    → AreListed uri of.are.records positions → AreIndexedAt rows index parts given bytes
+low_in uri positions given bytes of same kept listed =
+    (of, kept, λ p in_. listed_inside uri of.are.records positions listed p (subst (λ (l : List ℕ). Contains l p) same in_))
+
+outcomes_in : (records : List Record) (positions given : List ℕ) (captures : List CaptureSeen) → given ≡ positions → AreFirstOutcomes records given captures → AreFirstOutcomes records positions captures
+outcomes_in records positions given captures same are = subst (λ (l : List ℕ). AreFirstOutcomes records l captures) same are
+
+module _ {Is : List ℕ → Type 0} {Right : List Placed → Type 0} {uri : Option (List ℕ)} {rows : List Row} {index : Indexes} {parts : Parts} {old new : SeenSource} {to end : Seen} (positions given : List ℕ) (same : given ≡ positions)
+    (are : (bytes : List ℕ) → Is bytes → (is : IsArchiveOf bytes rows) × AreOf is.are.records index parts × Right is.are.records × AreListed uri is.are.records positions) where
+  pub writes_front : {e : OutFault} → SendsCaptures Right rows index parts given old new to end (Err e) → WritesListed Is uri rows old new to end (Err e)
+  writes_front {e} sends = record {
+    captures = sends.captures;
+    first = λ bytes held is.
+        let (of, kept, right, listed) = are bytes is in
+        inr (record { is = of; positions = positions; listed = listed; outcomes = outcomes_in (contents of.are.records) positions given sends.captures same (sends.are bytes held of kept right) });
+    all = λ bytes held is. tt;
+    count = tt;
+    told = tt;
+    cut = sends.cut;
+    inside = λ bytes is. let (of, kept, right, listed) = are bytes is in sends.inside bytes (of, kept);
+    keeps = sends.keeps;
+    fails = fails_as (Unit {0}) ℕ (fails_more (λ bytes held is. let (of, kept, right, listed) = are bytes is in low_in uri positions given bytes of same kept listed) sends.fails);
+    cause = sends.cause;
+  }
+
+  pub writes_all : (n : ℕ) → n ≡ length positions → SendsCaptures Right rows index parts given old new to end (Ok tt) → WritesListed Is uri rows old new to end (Ok n)
+  writes_all n count sends =
+      let size : length sends.captures ≡ length positions = sends.all ∙ ap length same in
+      record {
+        captures = sends.captures;
+        first = λ bytes held is.
+            let (of, kept, right, listed) = are bytes is in
+            inr (record { is = of; positions = positions; listed = listed; outcomes = outcomes_in (contents of.are.records) positions given sends.captures same (sends.are bytes held of kept right) });
+        all = λ bytes held is.
+            let (of, kept, right, listed) = are bytes is in
+            record {
+              is = of;
+              positions = positions;
+              listed = listed;
+              outcomes = all_outcomes (contents of.are.records) positions sends.captures size (outcomes_in (contents of.are.records) positions given sends.captures same (sends.are bytes held of kept right));
+            };
+        count = count ∙ sym size;
+        told = sends.told;
+        cut = tt;
+        inside = λ bytes is. let (of, kept, right, listed) = are bytes is in sends.inside bytes (of, kept);
+        keeps = sends.keeps;
+        fails = fails_never sends.fails.may;
+        cause = sends.cause;
+      }
 
 -- ---- a URI in digits
 

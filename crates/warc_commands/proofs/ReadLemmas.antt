@@ -281,6 +281,14 @@ replay_near {S} {old} {mid} {last} {new} {archive} opens same inside =
     let P : SeenSource → Type 0 = λ t. AsksNear old t in
     subst P (sym same) (inside_near last opens inside)
 
+-- the same of what is made of an archive
+pub listed_near : {X : Type 0} {Is : List ℕ → X → Type 0} {old mid last new : SeenSource} {archive : X} → Opens Is old mid (Ok archive) → new ≡ last
+    → ((bytes : List ℕ) → Is bytes archive → length bytes ≤ max_archive) → ((bytes : List ℕ) → Is bytes archive → AsksOnly (λ at. at < length bytes) mid last) → AsksNear old new
+listed_near {X} {Is} {old} {mid} {last} {new} {archive} opens same short inside =
+    let P : SeenSource → Type 0 = λ t. AsksNear old t in
+    let near = near_then (λ at. at < length opens.some.0) old mid last opens.reads.watched opens.reads.near (λ q low. omega (arith, low, short opens.some.0 opens.some.1)) (inside opens.some.0 opens.some.1) in
+    subst P (sym same) near
+
 -- and is read in at most twice as many reads as the archive has bytes
 pub replay_read : {S : Type 0} {old mid last new : SeenSource} {archive : Archived S} (way : List Record → Result Path Unfound) → Opens IsIndexed old mid (Ok archive) → new ≡ last
     → ReadsPath 2 archive.listing.rows archive.index archive.parts way mid last → AsksInside archive.listing.rows archive.index archive.parts mid last → ReadsTimes 3 old new

@@ -1,25 +1,19 @@
 -- How `captures` ends.
-use Rattle.std.specs.Prelude.{◌≡◌, ℕ, ◌⊎◌, List, [], ◌∷◌, map, codes, Option, Some, None, Result, Ok, Err, IfErr, IfOk, ⊤}
+use Rattle.std.specs.Prelude.{◌≡◌, ℕ, ◌<◌, ◌⊎◌, List, [], ◌∷◌, length, map, codes, Option, Some, None, Result, Ok, Err, IfErr, IfOk, OnOk, ⊤}
 use Rattle.std.specs.Io.KnownBytes.{append_known}
-use Rattle.warc_frame.specs.Count.{raised}
-use Rattle.warc_frame.specs.Effects.{FailsBy}
+use Rattle.warc_frame.specs.Effects.{FailsBy, Preserves}
+use Rattle.warc_frame.specs.Failing.{failed_by, failed_with}
 use Rattle.warc_frame.specs.FaultText.{out_fault_text}
-use Rattle.warc_frame.specs.Seen.{IfHeld, Seen, SeenSource}
-use Rattle.warc_frame.specs.Send.{WentOut}
+use Rattle.warc_frame.specs.Seen.{AsksOnly, IfHeld, Seen, SeenSource}
+use Rattle.warc_frame.specs.Send.{WentOut, sent_of}
 use Rattle.warc_frame.specs.declared.fault.OutFault.{OutFault}
-use Rattle.warc_frame.specs.declared.fault.OutFault.TheVariants.{Write}
 use Rattle.warc_index.specs.Captures.{AreCapturesOf}
-use Rattle.warc_answer.specs.Seen.{IsEarly}
-use Rattle.warc_answer.specs.declared.answer.ReplayFault.TheVariants.{Out}
 use Rattle.warc_reading.specs.Archive.{IsArchiveOf, contents}
-use Rattle.warc_reading.specs.Indexed.{Archived, IsIndexed, indexed_record}
+use Rattle.warc_reading.specs.Indexed.{indexed_record}
 use Rattle.warc_reading.specs.Row.{Placed, Row, row_of}
 use Rattle.warc.specs.Captures.{capture_positions, captures_text}
-use Rattle.warc.specs.Capturing.{AreOutcomes, outcomes_seen}
+use Rattle.warc.specs.Capturing.{AreFirstOutcomes, AreOutcomes}
 use Rattle.warc.specs.Outcomes.{CaptureSeen}
-use Rattle.warc.specs.Replaying.{AsksInside}
-use Rattle.warc.specs.declared.replay.outcome.Outcome.{Outcome}
-use Rattle.std.specs.declared.vec.Vec.{Vec}
 use Rattle.warc_commands.specs.Devices.{Devices}
 use Rattle.warc_commands.specs.Program.{IsNotOpened, Tells, told_line}
 
@@ -36,35 +30,22 @@ pub record AreCapturesIn (uri : Option (List ℕ)) (bytes : List ℕ) (rows : Li
   pub listed : AreListed uri is.are.records positions
   pub outcomes : AreOutcomes (contents is.are.records) positions captures
 
--- what judging the captures that are listed answers, of an archive: their outcomes; the archive stays
-pub record JudgesListed {S A B : Type 0} (old new : Archived S) (uri : Option (List ℕ)) (before after : SeenSource)
-    (answer : Result (Vec (Outcome A) B) OutFault) : Type 0 where
-  pub told : IfHeld before.holds (λ bytes. IsIndexed bytes old
-      → IfOk answer (λ outcomes. AreCapturesIn uri bytes old.listing.rows (outcomes_seen outcomes)))
-  pub early : IfErr answer (λ e. IsEarly (Out e))
-  pub inside : AsksInside old.listing.rows old.index old.parts before after
-  pub kept : after.holds ≡ before.holds
-  pub fails : FailsBy (λ bytes. IsIndexed bytes old) answer before after
-  pub rows : new.listing.rows ≡ old.listing.rows
+-- the same of the first of them
+pub record AreFrontIn (uri : Option (List ℕ)) (bytes : List ℕ) (rows : List Row) (captures : List CaptureSeen)
+    : Type 0 where
+  pub is : IsArchiveOf bytes rows
+  pub positions : List ℕ
+  pub listed : AreListed uri is.are.records positions
+  pub outcomes : AreFirstOutcomes (contents is.are.records) positions captures
+
+-- of none, or of the first
+abbrev pub AreFirstIn : Option (List ℕ) → List ℕ → List Row → List CaptureSeen → Type 0
+AreFirstIn uri bytes rows captures = (captures ≡ []) ⊎ AreFrontIn uri bytes rows captures
 
 -- where no capture is listed that is reported, and the status is 1
 abbrev pub CountEnds : List CaptureSeen → Seen → Seen → ℕ → Type 0
 CountEnds [] old new status = Tells (told_line (codes "P1 NoCapture")) old new × (status ≡ 1)
 CountEnds (c ∷ cs) old new status = (new ≡ old) × (status ≡ 0)
-
--- how writing the lines of captures ends: all of them went out, or a write failed and a front of them did
-abbrev pub LinesEnd : List Row → List CaptureSeen → Seen → Seen → Seen → Seen → ℕ → Type 0
-LinesEnd rows captures out out' err err' status =
-    ((out'.tells ≡ append_known out.tells (captures_text rows captures)) × (out'.faults ≡ out.faults)
-    × CountEnds captures err err' status)
-    ⊎ ((sent : ℕ) × WentOut out.tells (captures_text rows captures) out'.tells sent × (out'.faults ≡ raised out.faults)
-    × Tells (told_line (out_fault_text (Write sent))) err err' × (status ≡ 3))
-
--- the same, or nothing was written since the captures couldn't be judged
-abbrev pub ListedEnds : List Row → Result (List CaptureSeen) OutFault → Seen → Seen → Seen → Seen → ℕ → Type 0
-ListedEnds rows (Ok captures) out out' err err' status = LinesEnd rows captures out out' err err' status
-ListedEnds rows (Err fault) out out' err err' status =
-    (out' ≡ out) × Tells (told_line (out_fault_text fault)) err err' × (status ≡ 3)
 
 -- all lines of `captures` went out
 pub record IsCapturesTold (uri : Option (List ℕ)) (old new : Devices) (status : ℕ) : Type 0 where
@@ -76,28 +57,43 @@ pub record IsCapturesTold (uri : Option (List ℕ)) (old new : Devices) (status 
   pub sound : new.source.faults ≡ old.source.faults
   pub ends : CountEnds captures old.err new.err status
 
--- a write failed: a front of the lines went out
+-- a read, a write or a growth of the memory failed: a front of the lines of the first captures went out, as long as
+-- the message says
 pub record IsCapturesCutOff (uri : Option (List ℕ)) (old new : Devices) (status : ℕ) : Type 0 where
   pub rows : List Row
   pub captures : List CaptureSeen
-  pub are : IfHeld old.source.holds (λ bytes. AreCapturesIn uri bytes rows captures)
-  pub sent : ℕ
-  pub front : WentOut old.out.tells (captures_text rows captures) new.out.tells sent
-  pub failed : new.out.faults ≡ raised old.out.faults
-  pub sound : new.source.faults ≡ old.source.faults
-  pub told : Tells (told_line (out_fault_text (Write sent))) old.err new.err
-  pub status_is : status ≡ 3
-
--- a read or a growth of the memory failed before anything was written
-pub record IsUnjudged (old new : Devices) (status : ℕ) : Type 0 where
+  pub are : IfHeld old.source.holds (λ bytes. AreFirstIn uri bytes rows captures)
   pub fault : OutFault
-  pub early : IsEarly (Out fault)
+  pub front : WentOut old.out.tells (captures_text rows captures) new.out.tells (sent_of fault)
+  pub failed : new.out.faults ≡ failed_with fault old.out.faults
   pub fails : FailsBy {X = ℕ} (λ bytes. ⊤) (Err fault) old.source new.source
-  pub untouched : new.out ≡ old.out
   pub told : Tells (told_line (out_fault_text fault)) old.err new.err
   pub status_is : status ≡ 3
 
 -- how `captures` ends, of all captures or of the captures of a URI
 abbrev pub CapturesEnds : Option (List ℕ) → Devices → Devices → ℕ → Type 0
 CapturesEnds uri old new status = IsCapturesTold uri old new status
-    ⊎ (IsNotOpened old new status ⊎ (IsCapturesCutOff uri old new status ⊎ IsUnjudged old new status))
+    ⊎ (IsNotOpened old new status ⊎ IsCapturesCutOff uri old new status)
+
+-- ---- on the way: what writing the lines answers
+
+-- how an answer is reported: how many captures there are, or what ended the lines early
+abbrev pub AnswerEnds : Result ℕ OutFault → Seen → Seen → ℕ → Type 0
+AnswerEnds (Ok count) old new status =
+    ((count ≡ 0) × Tells (told_line (codes "P1 NoCapture")) old new × (status ≡ 1))
+    ⊎ ((0 < count) × (new ≡ old) × (status ≡ 0))
+AnswerEnds (Err fault) old new status = Tells (told_line (out_fault_text fault)) old new × (status ≡ 3)
+
+-- what writing the lines of the captures that are listed does, of an archive that is so of bytes
+pub record WritesListed (Is : List ℕ → Type 0) (uri : Option (List ℕ)) (rows : List Row) (before after : SeenSource)
+    (out out' : Seen) (answer : Result ℕ OutFault) : Type 0 where
+  pub captures : List CaptureSeen
+  pub first : IfHeld before.holds (λ bytes. Is bytes → AreFirstIn uri bytes rows captures)
+  pub all : IfHeld before.holds (λ bytes. Is bytes → OnOk answer (AreCapturesIn uri bytes rows captures))
+  pub count : IfOk answer (λ n. n ≡ length captures)
+  pub told : OnOk answer (out'.tells ≡ append_known out.tells (captures_text rows captures))
+  pub cut : IfErr answer (λ e. WentOut out.tells (captures_text rows captures) out'.tells (sent_of e))
+  pub inside : (bytes : List ℕ) → Is bytes → AsksOnly (λ at. at < length bytes) before after
+  pub keeps : Preserves before after
+  pub fails : FailsBy Is answer before after
+  pub cause : out'.faults ≡ failed_by answer out.faults

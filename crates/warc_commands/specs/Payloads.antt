@@ -1,17 +1,19 @@
 -- How `fixity --payload` ends.
-use Rattle.std.specs.Prelude.{◌≡◌, ℕ, ◌⊎◌, List, length, Result, Ok, Err, nat_lt, if◌then◌else◌}
+use Rattle.std.specs.Prelude.{◌≡◌, ℕ, ◌⊎◌, List, length, Result, Ok, Err, nat_lt, if◌then◌else◌, ⊤}
 use Rattle.std.specs.Io.KnownBytes.{append_known}
 use Rattle.warc_frame.specs.Count.{raised}
+use Rattle.warc_frame.specs.Effects.{FailsBy}
 use Rattle.warc_frame.specs.FaultText.{out_fault_text}
 use Rattle.warc_frame.specs.Seen.{IfHeld, Seen}
 use Rattle.warc_frame.specs.Send.{WentOut}
 use Rattle.warc_frame.specs.declared.fault.OutFault.{OutFault}
 use Rattle.warc_frame.specs.declared.fault.OutFault.TheVariants.{Write}
+use Rattle.warc_answer.specs.Seen.{IsEarly}
+use Rattle.warc_answer.specs.declared.answer.ReplayFault.TheVariants.{Out}
 use Rattle.warc_reading.specs.Archive.{IsArchiveOf, contents}
 use Rattle.warc_reading.specs.Row.{Row}
 use Rattle.warc.specs.PayloadText.{are_verified, payload_counts, payloads_text}
 use Rattle.warc.specs.PayloadVerdicts.{AreJudgedPayloads, PayloadJudgements}
-use Rattle.warc_commands.specs.Captures.{IsUnjudged}
 use Rattle.warc_commands.specs.Devices.{Devices}
 use Rattle.warc_commands.specs.Program.{IsNotOpened, Tells, told_line}
 
@@ -61,6 +63,15 @@ pub record IsPayloadsCutOff (old new : Devices) (status : ℕ) : Type 0 where
   pub failed : new.out.faults ≡ raised old.out.faults
   pub sound : new.source.faults ≡ old.source.faults
   pub told : Tells (told_line (out_fault_text (Write sent))) old.err new.err
+  pub status_is : status ≡ 3
+
+-- a read or a growth of the memory failed before anything was written
+pub record IsUnjudged (old new : Devices) (status : ℕ) : Type 0 where
+  pub fault : OutFault
+  pub early : IsEarly (Out fault)
+  pub fails : FailsBy {X = ℕ} (λ bytes. ⊤) (Err fault) old.source new.source
+  pub untouched : new.out ≡ old.out
+  pub told : Tells (told_line (out_fault_text fault)) old.err new.err
   pub status_is : status ≡ 3
 
 -- how `fixity --payload` ends

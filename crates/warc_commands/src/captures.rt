@@ -1,9 +1,7 @@
 //! The command that lists captures.
-ghost use Rattle.std.specs.Prelude.{◌≡◌, ℕ, List, IfErr, IfOk, Some, map, option_map, true};
-ghost use Rattle.std.specs.Result.{result_map_both};
-ghost use Rattle.warc.specs.Capturing.{outcomes_seen};
-ghost use Rattle.warc.specs.Outcomes.{outcome_seen};
-ghost use Rattle.warc_commands.specs.Captures.{AreListed, CapturesEnds, CountEnds, JudgesListed, LinesEnd, ListedEnds};
+ghost use Rattle.std.specs.Prelude.{◌≡◌, Some, None, option_map, true};
+ghost use Rattle.warc.specs.Captured.{IsCaptured};
+ghost use Rattle.warc_commands.specs.Captures.{AnswerEnds, CapturesEnds, WritesListed};
 ghost use Rattle.warc_commands.specs.Devices.{devices};
 ghost use Rattle.warc_commands.specs.Reads.{AsksNear};
 ghost use Rattle.warc_commands.specs.Uris.{UriEnds, uri_listed};
@@ -11,8 +9,8 @@ ghost use Rattle.warc_reading.specs.Indexed.{IsIndexed};
 
 use crate::program::{DONE, FOUND, tell, tell_cut, tell_refusal};
 use crate::uris::tell_fault;
-use std::alloc::{AllocError, Allocator};
-use warc::{Archive, Outcome};
+use std::alloc::Allocator;
+use warc::{Archive, Captures};
 use warc_arguments::{UriFault, bytes_of};
 use warc_frame::{OutFault, Sink, Source};
 
@@ -42,8 +40,8 @@ where
         return captures_in_hex(alloc, uri, source, out, err);
     }
     match uri {
-        Some(uri) => list_captures(alloc, Some(uri.as_bytes()), source, out, err),
-        None => list_captures(alloc, None, source, out, err),
+        Some(uri) => list_of(alloc, uri.as_bytes(), source, out, err),
+        None => list_all(alloc, source, out, err),
     }
 }
 
@@ -77,7 +75,29 @@ where
     }
 }
 
-/// Writes a line for each capture of a URI.
+/// Writes a line for each capture. Blocks are judged side by side while the archive is read.
+fn list_all<A, S, W, E>(alloc: A, source: S, out: &mut W, err: &mut E) -> (u8, S)
+where
+    A: Allocator + Copy,
+    S: Source + Drop,
+    W: Sink,
+    E: Sink,
+    ensures ends { CapturesEnds None (devices (S.seen source) (W.seen out.old) (E.seen err.old))
+        (devices (S.seen result.1) (W.seen out.new) (E.seen err.new)) result.0 }
+
+    // The source still holds what it held.
+    ensures kept { (S.seen result.1).holds ≡ (S.seen source).holds }
+    ensures reads { AsksNear (S.seen source) (S.seen result.1) }
+{
+    let mut captures = match Captures::open(alloc, source) {
+        Ok(captures) => captures,
+        Err((fault, source)) => return (tell_refusal(fault, err), source),
+    };
+    let answer = write_all(&mut captures, out);
+    (tell_answer(answer, err), captures.into_source())
+}
+
+/// Writes a line for each capture of a URI. No block is hashed but those of these captures.
 fn list_of<A, S, W, E>(alloc: A, uri: &[u8], source: S, out: &mut W, err: &mut E) -> (u8, S)
 where
     A: Allocator + Copy,
@@ -91,118 +111,60 @@ where
     ensures kept { (S.seen result.1).holds ≡ (S.seen source).holds }
     ensures reads { AsksNear (S.seen source) (S.seen result.1) }
 {
-    list_captures(alloc, Some(uri), source, out, err)
-}
-
-/// Writes a line for each capture, of all or of a URI.
-fn list_captures<A, S, W, E>(
-    alloc: A,
-    uri: Option<&[u8]>,
-    source: S,
-    out: &mut W,
-    err: &mut E,
-) -> (u8, S)
-where
-    A: Allocator + Copy,
-    S: Source + Drop,
-    W: Sink,
-    E: Sink,
-    ensures ends { CapturesEnds (option_map (λ u. u.now) uri.entry) (devices (S.seen source) (W.seen out.old)
-        (E.seen err.old)) (devices (S.seen result.1) (W.seen out.new) (E.seen err.new)) result.0 }
-
-    // The source still holds what it held.
-    ensures kept { (S.seen result.1).holds ≡ (S.seen source).holds }
-    ensures reads { AsksNear (S.seen source) (S.seen result.1) }
-{
     let mut archive = match Archive::open(alloc, source) {
         Ok(archive) => archive,
         Err((fault, source)) => return (tell_refusal(fault, err), source),
     };
-    let outcomes = judge_listed(&mut archive, uri);
-    (
-        tell_outcomes(&archive, &outcomes, out, err),
-        archive.into_source(),
-    )
+    let answer = write_of(&mut archive, uri, out);
+    (tell_answer(answer, err), archive.into_source())
 }
 
-/// Writes the lines of captures, or reports why there are none, and answers the exit status.
-fn tell_outcomes<A, S, W, E>(
-    archive: &Archive<S, A>,
-    outcomes: &Result<Vec<Outcome<A>, A>, OutFault>,
+/// Writes the lines of all captures, and returns how many there are.
+fn write_all<S: Source, W: Sink, A: Allocator + Copy>(
+    captures: &mut Captures<S, A>,
     out: &mut W,
-    err: &mut E,
-) -> u8
-where
-    A: Allocator + Copy,
-    S: Source,
-    W: Sink,
-    E: Sink,
-    ensures { ListedEnds archive.now.listing.rows (result_map_both outcomes_seen (λ e. e) outcomes.now) (W.seen out.old)
-        (W.seen out.new) (E.seen err.old) (E.seen err.new) result }
+) -> Result<usize, OutFault>
+    ensures { WritesListed (λ bytes. IsCaptured bytes captures.old) None captures.old.archive.listing.rows
+        (S.seen captures.old.archive.listing.source) (S.seen captures.new.archive.listing.source) (W.seen out.old)
+        (W.seen out.new) result }
 {
-    match outcomes {
-        Ok(outcomes) => tell_listed(archive, outcomes, out, err),
-        Err(fault) => tell_cut(*fault, err),
-    }
-}
-
-/// Writes the lines of captures.
-fn tell_listed<A, S, W, E>(
-    archive: &Archive<S, A>,
-    outcomes: &[Outcome<A>],
-    out: &mut W,
-    err: &mut E,
-) -> u8
-where
-    A: Allocator + Copy,
-    S: Source,
-    W: Sink,
-    E: Sink,
-    ensures { LinesEnd archive.now.listing.rows (map outcome_seen outcomes.now) (W.seen out.old) (W.seen out.new)
-        (E.seen err.old) (E.seen err.new) result }
-{
-    match archive.list_outcomes(outcomes, out) {
-        Ok(()) => tell_count(outcomes, err),
-        Err(fault) => tell_cut(fault, err),
-    }
-}
-
-/// The positions of the captures that are listed.
-fn positions_of<S: Source, A: Allocator + Copy>(
-    archive: &Archive<S, A>,
-    uri: Option<&[u8]>,
-) -> Result<Vec<usize, A>, AllocError>
-    ensures { (bytes : List ℕ) → (is : IsIndexed bytes archive.now) → IfOk result (λ positions.
-        AreListed (option_map (λ u. u.now) uri.entry) is.listed.are.records positions.items) }
-{
-    match uri {
-        Some(uri) => archive.captures_of(uri),
-        None => archive.captures(),
-    }
-}
-
-/// The outcomes of the captures that are listed.
-fn judge_listed<S: Source, A: Allocator + Copy>(
-    archive: &mut Archive<S, A>,
-    uri: Option<&[u8]>,
-) -> Result<Vec<Outcome<A>, A>, OutFault>
-    ensures { JudgesListed archive.old archive.new (option_map (λ u. u.now) uri.entry)
-        (S.seen archive.old.listing.source) (S.seen archive.new.listing.source) result }
-{
-    let Ok(positions) = positions_of(archive, uri) else {
+    let Ok(positions) = captures.positions() else {
         return Err(OutFault::Memory(0));
     };
-    archive.outcomes(&positions)
+    let listed: &[usize] = &positions;
+    captures.list(listed, out)?;
+    Ok(listed.len())
 }
 
-/// Reports if no capture is listed, and answers the exit status.
-fn tell_count<E: Sink, A: Allocator>(outcomes: &[Outcome<A>], err: &mut E) -> u8
-    ensures { CountEnds (map outcome_seen outcomes.now) (E.seen err.old) (E.seen err.new) result }
+/// Writes the lines of the captures of a URI, and returns how many there are.
+fn write_of<S: Source, W: Sink, A: Allocator + Copy>(
+    archive: &mut Archive<S, A>,
+    uri: &[u8],
+    out: &mut W,
+) -> Result<usize, OutFault>
+    ensures { WritesListed (λ bytes. IsIndexed bytes archive.old) (Some uri.now) archive.old.listing.rows
+        (S.seen archive.old.listing.source) (S.seen archive.new.listing.source) (W.seen out.old) (W.seen out.new)
+        result }
 {
-    if outcomes.is_empty() {
-        tell("warc: P1 NoCapture\n", err);
-        FOUND
-    } else {
-        DONE
+    let Ok(positions) = archive.captures_of(uri) else {
+        return Err(OutFault::Memory(0));
+    };
+    let listed: &[usize] = &positions;
+    archive.list_captures(listed, out)?;
+    Ok(listed.len())
+}
+
+/// Reports if no capture is listed, or why the lines end early, and answers the exit status.
+fn tell_answer<E: Sink>(answer: Result<usize, OutFault>, err: &mut E) -> u8
+    ensures { AnswerEnds answer (E.seen err.old) (E.seen err.new) result }
+{
+    let count = match answer {
+        Ok(count) => count,
+        Err(fault) => return tell_cut(fault, err),
+    };
+    if count > 0 {
+        return DONE;
     }
+    tell("warc: P1 NoCapture\n", err);
+    FOUND
 }
