@@ -1,18 +1,23 @@
 -- What is found of records of which the last ones wait until their blocks are hashed.
-use Rattle.std.proofs.Common.{◌≡◌, ℕ, zero, suc, ◌+◌, ◌-◌, ◌<◌, ◌≤◌, Bool, true, false, Some, Result, Ok, Err, IfOk, List, [], ◌∷◌, ◌++◌, length, map, take, drop, get_or, append_assoc, length-append, add-one, refl, sym, ap, subst, ◌∙◌, arith}
+use Rattle.std.proofs.Common.{◌≡◌, ℕ, zero, suc, ◌+◌, ◌-◌, ◌<◌, ◌≤◌, Bool, true, false, Some, Result, Ok, Err, IfOk, List, [], ◌∷◌, ◌++◌, length, map, take, drop, get_or, append_assoc, length-append, add-one, refl, sym, ap, ap₂, subst, ◌∙◌, arith}
 use Rattle.std.specs.Prelude.{IfSome}
-use Rattle.std.proofs.lemmas.List.{drop-append-le, length-drop, length-take-le, map-append, take-append-drop, take-append-le}
+use Rattle.std.proofs.lemmas.List.{drop-append-le, length-drop, length-map, length-take-le, map-append, take-append-drop, take-append-le}
 use Rattle.warc_field.specs.Area.{Pair}
 use Rattle.warc_value.specs.Digests.{is_bad}
 use Rattle.warc_value.specs.declared.hash.Verdict.{Verdict}
+use Rattle.warc_record.specs.Blocks.{has_bad_digest}
 use Rattle.warc_record.specs.Findings.{SeenFinding, findings_of}
+use Rattle.warc_reading.specs.Archive.{contents}
+use Rattle.warc_reading.specs.Judging.{verdict_on}
+use Rattle.warc_reading.specs.Row.{Placed}
 use Rattle.warc_frame.specs.Reading.{Head, any_fields, head_of}
 use Rattle.warc_quick.specs.PlainFindings.{AreFindings, all_plain}
 use Rattle.warc_quick.specs.Quick.{Says}
 use Rattle.warc_quick.specs.declared.head.QuickHead.{QuickHead}
 use Rattle.warc_quick.specs.declared.plain_findings.PlainFindings.{PlainFindings}
 use Rattle.warc_checking.specs.Judging.{IsOneMore, all_shown, each_found_by, found_by, settled}
-use Rattle.warc_checking.specs.OwnFindings.{Found, all_of, mark_at, shown_by, shown_plain, with_bad}
+use Rattle.warc_checking.specs.Judged.{own_findings}
+use Rattle.warc_checking.specs.OwnFindings.{Found, all_of, mark_at, shown_by, shown_plain, unjudged, with_bad}
 use Rattle.warc_checking.proofs.AmongLemmas.{all_shown as shown_all, plain_shown}
 
 found_by_none : (fs : List Found) → each_found_by fs [] ≡ fs
@@ -106,11 +111,7 @@ shown_then fields len false = shown_all fields len false
 -- one more record was added, by the findings that are known of its plain head
 pub plain_more : (fields : List Pair) (len : ℕ) (found : List SeenFinding) (old new : List Found) → AreFindings fields len found
     → new ≡ old ++ shown_plain found ∷ [] → IsOneMore fields len old new
-plain_more fields len found old new are is = record {
-  found = shown_by fields len false;
-  new_is = is ∙ ap (λ f. old ++ f ∷ []) (plain_shown fields len found are);
-  shows = shown_then fields len;
-}
+plain_more fields len found old new are is = is ∙ ap (λ f. old ++ f ∷ []) (plain_shown fields len found are)
 
 -- the findings that are known of a plain head are those of its record
 pub known_found : (fields : List Pair) (head : QuickHead) (known : PlainFindings) (len : ℕ) → Says fields head
@@ -134,3 +135,20 @@ shown_one old new vs more f v found new_is more_is le is =
 pub if_ok : {X E : Type 0} (r : Result X E) (P : Type 0) → P → IfOk r (λ x. P)
 if_ok (Ok x) P is = is
 if_ok (Err e) P is = tt
+
+-- what records show once the verdicts on the blocks of all are known
+each_judged : (records : List Placed) → map all_of (each_found_by (map unjudged (contents records)) (map verdict_on records)) ≡ map own_findings (contents records)
+each_judged [] = refl
+each_judged (p ∷ ps) = ap₂ (λ f l. f ∷ l) (shown_then p.content.fields (length p.content.block) (has_bad_digest p.content)) (each_judged ps)
+
+pub all_sizes : (records : List Placed) (old : List Found) (verdicts : List Verdict) → old ≡ map unjudged (contents records) → verdicts ≡ map verdict_on records
+    → length verdicts ≡ length old
+all_sizes records old verdicts found judged =
+    ap length judged ∙ length-map records verdict_on ∙ sym (length-map records (λ (p : Placed). p.content)) ∙ sym (length-map (contents records) unjudged) ∙ sym (ap length found)
+
+pub all_judged : (records : List Placed) (old new : List Found) (verdicts : List Verdict) → new ≡ settled old verdicts
+    → old ≡ map unjudged (contents records) → verdicts ≡ map verdict_on records → map all_of new ≡ map own_findings (contents records)
+all_judged records old new verdicts is found judged =
+    let none : length old - length verdicts ≡ 0 = omega (arith, all_sizes records old verdicts found judged) in
+    ap (map all_of) (is ∙ ap (λ k. marked_from old k verdicts) none ∙ ap₂ each_found_by found judged)
+    ∙ each_judged records

@@ -12,7 +12,7 @@ use Rattle.warc_record.specs.Findings.{SeenFinding, Absent, Forbidden, Repeated,
 use Rattle.warc_checking.specs.Checking.{about_record, line_text}
 use Rattle.warc_checking.specs.Lines.{record_lines}
 use Rattle.warc_checking.specs.Judged.{own_findings}
-use Rattle.warc_checking.specs.OwnFindings.{AreEnds, AreEndsFrom, AreNamed, IsNamed, IsPart, IsWithoutDigest, all_found, all_of, bad_at, each_with, found_at, found_by_part, found_from, found_with, finding_in, findings_of_part, finding_by_number, is_between, is_higher, is_lower, last_end, mark_at, marked, state_by, with_bad, with_both, with_digest}
+use Rattle.warc_checking.specs.OwnFindings.{AreEnds, AreEndsFrom, AreNamed, IsNamed, IsPart, IsWithoutDigest, all_found, all_of, bad_at, each_with, found_at, found_by_part, found_from, found_with, finding_in, findings_of_part, finding_by_number, is_between, is_higher, is_lower, last_end, mark_at, marked, state_by, unjudged, with_bad, with_both, with_digest}
 use Rattle.warc_checking.specs.declared.own_findings.DigestState.{DigestState}
 use Rattle.warc_checking.specs.declared.own_findings.DigestState.TheVariants.{Outside, Unmarked, Marked}
 use Rattle.warc_checking.specs.declared.own_findings.PackedFinding.{PackedFinding}
@@ -268,6 +268,13 @@ own_more records p = sym (ap (map own_findings) (map-append (λ (q : Placed). q.
 
 pub own_first : (n : ℕ) (records : List Placed) → take n (map own_findings (contents records)) ≡ map own_findings (contents (take n records))
 own_first n records = take-map own_findings n (contents records) ∙ ap (map own_findings) (take-map (λ (q : Placed). q.content) n records)
+
+-- what one more record shows whose digest isn't known to differ
+pub unjudged_more : (records : List Placed) (p : Placed) → map unjudged (contents records) ++ unjudged p.content ∷ [] ≡ map unjudged (contents (records ++ p ∷ []))
+unjudged_more records p = sym (ap (map unjudged) (map-append (λ (q : Placed). q.content) records (p ∷ [])) ∙ map-append unjudged (contents records) (p.content ∷ []))
+
+pub unjudged_first : (n : ℕ) (records : List Placed) → take n (map unjudged (contents records)) ≡ map unjudged (contents (take n records))
+unjudged_first n records = take-map unjudged n (contents records) ∙ ap (map unjudged) (take-map (λ (q : Placed). q.content) n records)
 
 module _ {X : Type 0} (seen : X → SeenFinding) (test : SeenFinding → Bool) where
   -- the lines of one more finding, if it passes

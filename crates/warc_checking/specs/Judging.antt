@@ -7,12 +7,12 @@ use Rattle.warc_value.specs.declared.hash.Verdict.{Verdict}
 use Rattle.warc_value.specs.declared.hash.Wanted.{Wanted}
 use Rattle.warc_frame.specs.Reading.{any_fields, head_of}
 use Rattle.warc_frame.specs.Record.{Record}
-use Rattle.warc_record.specs.Findings.{SeenFinding, findings_of}
+use Rattle.warc_record.specs.Findings.{SeenFinding}
 use Rattle.warc_record.specs.Heads.{head_fault}
 use Rattle.warc_record.specs.Readings.{digest_wanted}
 use Rattle.warc_reading.specs.declared.rereading.RereadFault.{RereadFault}
 use Rattle.warc_reading.specs.declared.rereading.RereadFault.TheVariants.{Memory}
-use Rattle.warc_checking.specs.OwnFindings.{Found, all_of, with_bad}
+use Rattle.warc_checking.specs.OwnFindings.{Found, all_of, shown_by, with_bad}
 
 -- what a record shows, once it is known whether its digest differs
 abbrev pub found_by : Found → Bool → Found
@@ -33,12 +33,9 @@ settled found verdicts = take (length found - length verdicts) found
 abbrev pub all_shown : List Found → List Verdict → List (List SeenFinding)
 all_shown found verdicts = map all_of (settled found verdicts)
 
--- one more record was added, with these fields and a block of this length; whatever its digest is, it shows what such a
--- record shows
-pub record IsOneMore (fields : List Pair) (block_len : ℕ) (old new : List Found) : Type 0 where
-  pub found : Found
-  pub new_is : new ≡ old ++ found ∷ []
-  pub shows : (bad : Bool) → all_of (found_by found bad) ≡ findings_of fields block_len bad false
+-- one more record was added, with these fields and a block of this length; its digest isn't known to differ
+abbrev pub IsOneMore : List Pair → ℕ → List Found → List Found → Type 0
+IsOneMore fields block_len old new = new ≡ old ++ shown_by fields block_len false ∷ []
 
 -- a text that is a good head of a block of this length is answered by the digest that it asks for, and its record is
 -- added, unless memory ran out

@@ -1,4 +1,5 @@
--- How lines of findings are put to an output. States of the code: no public clause cites them.
+-- How lines of findings are put to an output. States of the code, but for `PutsLines` and `PutsCheck`, which public
+-- contracts cite.
 use Rattle.std.specs.Prelude.{◌≡◌, ℕ, ◌++◌, List, length, map, take, Result, Option, IfErr, IfOk, OnOk}
 use Rattle.std.specs.List.{enumerate_from, flat_map}
 use Rattle.warc_frame.specs.Count.{capped}

@@ -1,6 +1,6 @@
 -- How findings are kept in flat lists, and how a record's are reported with N4 and N6 among them. States of the code,
--- but for `all_of` and `AreJudged`, which public contracts cite.
-use Rattle.std.specs.Prelude.{◌≡◌, ℕ, ◌≤◌, zero, suc, Bool, true, false, nat_lt, ◌&&◌, List, [], ◌∷◌, ◌++◌, map, ◌==◌, slice_range, unwrap_or, None, if◌then◌else◌}
+-- but for `all_of`, `unjudged` and `AreJudged`, which public contracts cite.
+use Rattle.std.specs.Prelude.{◌≡◌, ℕ, ◌≤◌, zero, suc, Bool, true, false, nat_lt, ◌&&◌, List, [], ◌∷◌, ◌++◌, length, map, ◌==◌, slice_range, unwrap_or, None, if◌then◌else◌}
 use Rattle.std.specs.List.{AllByRecursion, filter, slice_get}
 use Rattle.std.specs.Option.{option_map_or}
 use Rattle.warc_field.specs.Area.{Pair}
@@ -139,6 +139,10 @@ shown_by fields block_len bad = record {
 -- what a record shows with these findings whose kind is one of the eight, and whose digest isn't known to differ
 abbrev pub shown_plain : List SeenFinding → Found
 shown_plain found = record { others = found; known = true; bad = false }
+
+-- what a record shows whose digest isn't known to differ
+abbrev pub unjudged : Record → Found
+unjudged r = shown_by r.fields (length r.block) false
 
 -- the same, once its digest is known to differ
 abbrev pub with_bad : Found → Found

@@ -27,7 +27,7 @@ use warc_record::GoodHead;
 use warc_value::{Verdict, Wanted};
 
 /// Marks of the last records, one for each of these verdicts, whether the digest differs.
-fn mark_last<A: Allocator>(findings: &mut OwnFindings<A>, verdicts: &[Verdict])
+pub(crate) fn mark_last<A: Allocator>(findings: &mut OwnFindings<A>, verdicts: &[Verdict])
     requires { length verdicts.now ≤ length findings.old }
     ensures { findings.new ≡ settled findings.old verdicts.now }
 {
@@ -103,7 +103,7 @@ fn add_head<A: Allocator + Copy>(
 }
 
 /// Adds what the head of a record shows that was read in place. If memory is refused, nothing is added.
-fn add_plain_head<A: Allocator + Copy>(
+pub(crate) fn add_plain_head<A: Allocator + Copy>(
     alloc: A,
     found: &QuickRecord<'_>,
     findings: &mut OwnFindings<A>,

@@ -7,6 +7,7 @@ mod judging;
 pub mod laws;
 mod lines;
 mod own_findings;
+mod unjudged;
 mod used_ids;
 mod writing;
 
@@ -14,4 +15,5 @@ pub use batch::{Batch, BlockCheck, MAX_WAITING, PIECE_LEN};
 pub use check::{Rejudged, check_rows, judge_again};
 pub use judging::Judging;
 pub use own_findings::OwnFindings;
-pub use writing::write_findings;
+pub use unjudged::mark_each;
+pub use writing::{put_findings, write_findings};

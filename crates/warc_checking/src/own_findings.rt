@@ -671,7 +671,7 @@ impl<A: Allocator> Model for OwnFindings<A> {
 
 impl<A: Allocator + Copy> OwnFindings<A> {
     /// Of no records.
-    pub(crate) fn new(alloc: A) -> OwnFindings<A>
+    pub fn new(alloc: A) -> OwnFindings<A>
         ensures { result ≡ [] }
     {
         OwnFindings {

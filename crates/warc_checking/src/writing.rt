@@ -94,8 +94,9 @@ fn put_each<A: Allocator + Copy, W: Sink>(
     Ok(count)
 }
 
-/// Adds the lines of all findings to the output, or that there is no record.
-fn put_rows<A: Allocator + Copy, W: Sink>(
+/// Adds the lines of all findings to the output, or that there is no record. The result is the number of lines, up to
+/// 2^64 - 1.
+pub fn put_findings<A: Allocator + Copy, W: Sink>(
     alloc: A,
     rows: &Rows<A>,
     findings: &OwnFindings<A>,
@@ -140,7 +141,7 @@ pub fn write_findings<A: Allocator + Copy, W: Sink>(
     ensures unread { IfErr result (λ e. is_read e ≡ false) }
 {
     let mut buffer = OutBuffer::new();
-    let number = put_rows(alloc, rows, findings, &mut buffer, out)?;
+    let number = put_findings(alloc, rows, findings, &mut buffer, out)?;
     buffer.flush(out)?;
     Ok(number)
 }

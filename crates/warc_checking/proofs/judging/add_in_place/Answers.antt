@@ -2,7 +2,8 @@ use Rattle.std.proofs.Common.{false, length, sym, ap, ◌∙◌}
 use Rattle.warc_record.specs.Findings.{findings_of}
 use Rattle.warc_record.specs.Readings.{digest_wanted}
 use Rattle.warc_value.specs.Digests.{is_bad, verdict_of}
-use Rattle.warc_checking.proofs.JudgingLemmas.{shown_one}
+use Rattle.warc_checking.specs.OwnFindings.{shown_by}
+use Rattle.warc_checking.proofs.JudgingLemmas.{shown_one, shown_then}
 use Rattle.warc_checking.proofs.judging.add_in_place.Goals as goal
 
 pub returns-in-Ok-clause-ok : goal.returns-in-Ok-clause-ok
@@ -12,5 +13,5 @@ returns-in-Ok-clause-ok g c = λ p start next.
     let block = c.args.found.now.block.now in
     let bad = ap is_bad (c.of.ensures block) ∙ ap (λ w. is_bad (verdict_of w block)) (c.wanted.ensures ∙ sym next.says.wanted)
     ∙ ap (λ l. is_bad (verdict_of (digest_wanted fields) l)) next.block_is in
-    shown_one _ _ _ _ one.found _ _ one.new_is c.in-Ok.ensures.ok c.requires.last
-    (one.shows _ ∙ ap (λ b. findings_of fields (length p.content.block) b false) bad)
+    shown_one _ _ _ _ (shown_by fields (length p.content.block) false) _ _ one c.in-Ok.ensures.ok c.requires.last
+    (shown_then fields (length p.content.block) _ ∙ ap (λ b. findings_of fields (length p.content.block) b false) bad)

@@ -6,7 +6,8 @@ use Rattle.warc_record.specs.Findings.{findings_of}
 use Rattle.warc_value.specs.Digests.{is_bad}
 use Rattle.warc_reading.specs.Row.{Row}
 use Rattle.warc_checking.proofs.JudgeLemmas.{block_judged, block_there, head_there, reads_again}
-use Rattle.warc_checking.proofs.JudgingLemmas.{shown_one}
+use Rattle.warc_checking.specs.OwnFindings.{shown_by}
+use Rattle.warc_checking.proofs.JudgingLemmas.{shown_one, shown_then}
 use Rattle.warc_checking.proofs.judging.add_reread.Goals as goal
 
 pub returns-in_err-wanted-clause-fails : goal.returns-in_err-wanted-clause-fails
@@ -22,8 +23,8 @@ returns-in-Ok-clause-added g c = λ bytes held is.
     let fields = is.placed.content.fields in
     let verdict = block_judged c.args.row.now bytes is _ _ c.in_ok-wanted.wanted fields start len wanted_is refl in
     let size = ap (λ (r : Row). r.block_len) is.row_is in
-    shown_one _ _ _ _ one.found _ _ one.new_is (c.in-Ok.ensures.added bytes (c.in_ok-wanted.ensures.reads.kept ∙ held)) c.requires.last
-    (one.shows _ ∙ ap (λ v. findings_of fields c.args.row.now.block_len (is_bad v) false) verdict
+    shown_one _ _ _ _ (shown_by fields c.args.row.now.block_len false) _ _ one (c.in-Ok.ensures.added bytes (c.in_ok-wanted.ensures.reads.kept ∙ held)) c.requires.last
+    (shown_then fields c.args.row.now.block_len _ ∙ ap (λ v. findings_of fields c.args.row.now.block_len (is_bad v) false) verdict
     ∙ ap (λ n. findings_of fields n (has_bad_digest is.placed.content) false) size)
 
 pub returns-in-Ok-clause-reads : goal.returns-in-Ok-clause-reads

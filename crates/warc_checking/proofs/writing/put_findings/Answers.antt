@@ -1,6 +1,6 @@
 use Rattle.std.proofs.Common.{rules, ◌≡◌, ◌<◌, length}
 use Rattle.warc_checking.proofs.ArchiveTextLemmas.{puts_none, puts_some}
-use Rattle.warc_checking.proofs.writing.put_rows.Goals as goal
+use Rattle.warc_checking.proofs.writing.put_findings.Goals as goal
 
 pub returns-then-len-eq0-clause-puts : goal.returns-then-len-eq0-clause-puts
 returns-then-len-eq0-clause-puts g c = λ bytes records findings.
