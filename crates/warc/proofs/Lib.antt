@@ -13,6 +13,7 @@ pub mod BodyLemmas
 pub mod LocatingLemmas
 pub mod SplitLemmas
 pub mod SummaryLemmas
+pub mod SurveyLemmas
 pub mod WaitingLemmas
 pub mod WholeLemmas
 pub mod TakeLemmas

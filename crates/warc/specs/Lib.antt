@@ -30,6 +30,7 @@ pub mod Selecting
 pub mod Standing
 pub mod Standings
 pub mod Summary
+pub mod Survey
 pub mod Tallies
 pub mod TakeText
 pub mod Taking

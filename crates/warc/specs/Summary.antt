@@ -32,6 +32,9 @@ pub record Flags : Type 0 where
   pub segmented : List Bool
   pub verdicts : List Verdict
 
+abbrev pub flags_with : List Bool → List Verdict → Flags
+flags_with segmented verdicts = record { segmented = segmented; verdicts = verdicts }
+
 -- a listing, and what was found of its records
 pub record Flagged (S : Type 0) : Type 0 where
   pub listing : Contents S

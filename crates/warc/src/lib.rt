@@ -5,7 +5,7 @@
 //! in segments or in part, call its `write_as`, `split` or `select`. To find what is wrong with records, open a
 //! [`Checked`] and call `check`. To compare blocks with the digests that their heads state, open a [`Fixity`]; for
 //! payloads call `payloads` of an `Archive`. To list captures, open a [`Captures`]. To know how many records there are,
-//! and of which kinds, open a [`Summarized`].
+//! and of which kinds, open a [`Summarized`]. To write all that these say, open a [`Surveyed`].
 //!
 //! A [`Source`] gives bytes at any offset, and a [`Sink`] takes bytes. No block is kept in memory. The file CALLING.md
 //! has a whole proved caller and each contract.
@@ -32,6 +32,7 @@ pub use opened::fixity::{Counts, Fixity};
 pub use opened::listing::{Listing, open_front};
 pub use opened::payloads::Payloads;
 pub use opened::summary::{Summarized, Summary};
+pub use opened::surveyed::Surveyed;
 pub use record::part::Part;
 pub use record::payload::{PayloadVerdict, Unjudged};
 pub use record::stated::block_verdict;

@@ -7,5 +7,7 @@ pub(crate) mod checked;
 pub(crate) mod counts;
 pub(crate) mod fixity;
 pub(crate) mod listing;
+pub(crate) mod marks;
 pub(crate) mod payloads;
 pub(crate) mod summary;
+pub(crate) mod surveyed;

@@ -37,17 +37,29 @@ pub(crate) fn shown_as(text: &[u8]) -> &[u8]
     if text.is_empty() { b"-" } else { text }
 }
 
+/// Adds the line of each row to the output.
+pub(crate) fn put_rows<A: Allocator, W: Sink>(
+    rows: &Rows<A>,
+    buffer: &mut OutBuffer,
+    out: &mut W,
+) -> Result<(), SendFault>
+    ensures { Puts (W.seen out.old) (W.seen out.new) buffer.old buffer.new result (listing rows.now) }
+{
+    'listing: for position in 0..rows.len() {
+        let Some(row) = rows.get(position) else {
+            unreachable!()
+        };
+        put_line(position as u64, &row, buffer, out)?;
+    }
+    Ok(())
+}
+
 /// Writes the line of each row.
 pub(crate) fn list_rows<A: Allocator, W: Sink>(rows: &Rows<A>, out: &mut W) -> Result<(), OutFault>
     ensures { SendsText (W.seen out.old) (W.seen out.new) result (listing rows.now) }
 {
     let mut buffer = OutBuffer::new();
-    'listing: for position in 0..rows.len() {
-        let Some(row) = rows.get(position) else {
-            unreachable!()
-        };
-        put_line(position as u64, &row, &mut buffer, out)?;
-    }
+    put_rows(rows, &mut buffer, out)?;
     buffer.flush(out)?;
     Ok(())
 }

@@ -1,6 +1,7 @@
 //! How many records of an archive have a verdict.
 ghost use Rattle.std.specs.Prelude.{◌≡◌, ℕ, ◌≤◌, [], ◌∷◌, ◌++◌, if◌then◌else◌, length, take, IfOk, OnErr, OnOk};
 ghost use Rattle.warc.specs.Counting.{is_verdict, verdict_at, verdict_tally};
+ghost use Rattle.warc.specs.Survey.{settled_claim, settled_claims};
 ghost use Rattle.warc.specs.Waiting.{IsSetAt, with_last};
 
 use std::alloc::{AllocError, Allocator};
@@ -24,6 +25,25 @@ pub(crate) fn one_if(test: bool) -> usize
     ensures most { result ≤ 1 }
 {
     if test { 1 } else { 0 }
+}
+
+/// The verdict by the digest that is wanted, by the verdict on a block that has it and by the one that is stated.
+fn settled_claim(claim: Verdict, stated: Verdict) -> Verdict
+    ensures { result ≡ settled_claim claim stated }
+{
+    match claim {
+        Verdict::Good => stated,
+        Verdict::Bad | Verdict::Unchecked => claim,
+    }
+}
+
+/// Settles each claim that has a stated verdict.
+fn settle_claims(claims: &mut [Verdict], stated: &[Verdict])
+    ensures { claims.new ≡ settled_claims claims.old stated.now }
+{
+    'settling: for i in 0..claims.len().min(stated.len()) {
+        claims[i] = settled_claim(claims[i], stated[i]);
+    }
 }
 
 /// How the blocks of records compare with the digests that their heads ask for, in the order of the records.
@@ -110,6 +130,20 @@ impl<A: Allocator> Verdicts<A> {
             Some(verdict) => *verdict,
             None => Verdict::Unchecked,
         }
+    }
+
+    /// The verdicts.
+    pub(crate) fn as_slice(&self) -> &[Verdict]
+        ensures { result.now ≡ self.now }
+    {
+        self.list.as_slice()
+    }
+
+    /// Settles each claim by the verdict that is stated. It takes no memory.
+    pub(crate) fn settle_claims(&mut self, stated: &Verdicts<A>)
+        ensures { self.new ≡ settled_claims self.old stated.now }
+    {
+        settle_claims(&mut self.list, stated.as_slice());
     }
 
     /// How many verdicts are this one.

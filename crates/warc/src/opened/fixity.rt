@@ -19,7 +19,7 @@ use std::marker::Model;
 use warc_checking::{BlockCheck, PIECE_LEN};
 use warc_frame::{Fault, OutBuffer, OutFault, SendFault, Sink, Source, put_columns};
 use warc_quick::{QuickHead, QuickRecord};
-use warc_reading::{Keep, Opened, Row};
+use warc_reading::{Keep, Opened, Row, Rows};
 use warc_record::{GoodHead, bare};
 use warc_value::Verdict;
 
@@ -66,7 +66,7 @@ fn value_at<A: Allocator>(values: &[Vec<u8, A>], position: usize) -> &[u8]
 
 /// How each block compares with its digest, and the value of each digest by which a block isn't good.
 #[derive(Drop)]
-struct Digests<A: Allocator> {
+pub(crate) struct Digests<A: Allocator> {
     verdicts: Verdicts<A>,
     values: Vec<Vec<u8, A>, A>,
 }
@@ -84,6 +84,13 @@ impl<A: Allocator> Model for Digests<A> {
 }
 
 impl<A: Allocator> Digests<A> {
+    /// How each block compares with its digest.
+    pub(crate) fn verdicts(&self) -> &Verdicts<A>
+        ensures { result.now ≡ self.now.verdicts }
+    {
+        &self.verdicts
+    }
+
     /// How the block of the record at a position compares with its digest.
     fn verdict(&self, position: usize) -> Verdict
         ensures { result ≡ verdict_at self.now.verdicts position }
@@ -169,7 +176,7 @@ fn add_digest<A: Allocator + Copy>(
 /// `Digests` while the source is read. The last blocks wait until they are hashed, and so do the values of their
 /// digests.
 #[derive(Drop)]
-struct WaitingDigests<A: Allocator> {
+pub(crate) struct WaitingDigests<A: Allocator> {
     verdicts: BlockVerdicts<A>,
     values: Vec<Vec<u8, A>, A>,
 }
@@ -188,7 +195,7 @@ impl<A: Allocator> Model for WaitingDigests<A> {
 
 impl<A: Allocator + Copy> WaitingDigests<A> {
     /// Of no records.
-    fn new(alloc: A) -> WaitingDigests<A>
+    pub(crate) fn new(alloc: A) -> WaitingDigests<A>
         ensures verdicts { result.verdicts ≡ [] }
         ensures digests { result.digests ≡ [] }
     {
@@ -226,7 +233,7 @@ impl<A: Allocator + Copy> WaitingDigests<A> {
     }
 
     /// What is found of all records. The blocks that wait are hashed first. It takes no memory.
-    fn into_digests(self, alloc: A) -> Digests<A>
+    pub(crate) fn into_digests(self, alloc: A) -> Digests<A>
         ensures { result ≡ self }
     {
         let WaitingDigests {
@@ -368,6 +375,27 @@ pub(crate) fn put_counts<W: Sink>(
     put_columns(&columns, buffer, out)
 }
 
+/// Adds a line for each block that isn't good to the output, and a last line with the counts.
+pub(crate) fn put_fixity<W: Sink, A: Allocator>(
+    rows: &Rows<A>,
+    digests: &Digests<A>,
+    buffer: &mut OutBuffer,
+    out: &mut W,
+) -> Result<(), SendFault>
+    ensures { Puts (W.seen out.old) (W.seen out.new) buffer.old buffer.new result
+        (fixity_text rows.now digests.now) }
+{
+    'listing: for position in 0..rows.len() {
+        let Some(row) = rows.get(position) else {
+            unreachable!()
+        };
+        let verdict = digests.verdict(position);
+        let digest = digests.at(position);
+        put_if(position as u64, verdict, &row, digest, buffer, out)?;
+    }
+    put_counts(digests.counts(), buffer, out)
+}
+
 /// An archive whose blocks were compared with the digests that their heads state. Contracts see its listing, and the
 /// values of the digests by which blocks aren't good.
 #[derive(Drop)]
@@ -408,16 +436,7 @@ impl<S: Source, A: Allocator> Fixity<S, A> {
             (fixity_text self.now.listing.rows self.now.judged) }
     {
         let mut buffer = OutBuffer::new();
-        let rows = &self.opened.rows;
-        'listing: for position in 0..rows.len() {
-            let Some(row) = rows.get(position) else {
-                unreachable!()
-            };
-            let verdict = self.opened.kept.verdict(position);
-            let digest = self.opened.kept.at(position);
-            put_if(position as u64, verdict, &row, digest, &mut buffer, out)?;
-        }
-        put_counts(self.counts(), &mut buffer, out)?;
+        put_fixity(&self.opened.rows, &self.opened.kept, &mut buffer, out)?;
         buffer.flush(out)?;
         Ok(())
     }

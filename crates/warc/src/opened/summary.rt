@@ -7,7 +7,7 @@ ghost use Rattle.warc_index.specs.Captures.{is_earlier};
 ghost use Rattle.warc_reading.specs.Opening.{Opens, source_left, without_source};
 ghost use Rattle.warc_checking.specs.Batch.{verdict_with};
 ghost use Rattle.warc.specs.Fixity.{stated_on};
-ghost use Rattle.warc.specs.Summary.{IsDateOf, IsSummarized, IsSummaryOf, has_segment_number, is_nearer, is_numbered, number_line, summary_numbers};
+ghost use Rattle.warc.specs.Summary.{IsDateOf, IsSummarized, IsSummaryOf, flags_with, has_segment_number, is_nearer, is_numbered, number_line, summary_numbers};
 ghost use Rattle.warc.specs.Summary.{segmented_count, shown_date, summary_text, text_line};
 ghost use Rattle.warc.specs.Tallies.{IsEndSoFar, IsTalliedTo, column_of, nearest};
 
@@ -67,17 +67,15 @@ impl<A: Allocator> Model for RecordFlags<A> {
     ghost view = { λ s. record { segmented = s.segmented.items; verdicts = s.verdicts } };
 }
 
-impl<A: Allocator> RecordFlags<A> {
-    /// How many records are segments.
-    fn segmented_count(&self) -> usize
-        ensures { result ≡ segmented_count self.now.segmented }
-    {
-        let mut count = 0usize;
-        'counting: for position in 0..self.segmented.len() {
-            count += one_if(self.segmented[position]);
-        }
-        count
+/// How many of these flags are set.
+fn segmented_count(flags: &[bool]) -> usize
+    ensures { result ≡ segmented_count flags.now }
+{
+    let mut count = 0usize;
+    'counting: for position in 0..flags.len() {
+        count += one_if(flags[position]);
     }
+    count
 }
 
 /// Whether a head has a segment number, whatever its value, if it isn't empty.
@@ -371,15 +369,22 @@ impl<'a> Summary<'a> {
         ]
     }
 
+    /// Adds the lines to the output.
+    pub(crate) fn put<W: Sink>(&self, buffer: &mut OutBuffer, out: &mut W) -> Result<(), SendFault>
+        ensures { Puts (W.seen out.old) (W.seen out.new) buffer.old buffer.new result (summary_text self.now) }
+    {
+        put_numbers(&self.numbers(), buffer, out)?;
+        put_text("first date", shown_date(self.first_date), buffer, out)?;
+        put_text("last date", shown_date(self.last_date), buffer, out)
+    }
+
     /// Writes a line for each number, and one for each date: its name, a tab and its value. An absent date is `-`. It
     /// takes no memory.
     pub fn write<W: Sink>(&self, out: &mut W) -> Result<(), OutFault>
         ensures { SendsText (W.seen out.old) (W.seen out.new) result (summary_text self.now) }
     {
         let mut buffer = OutBuffer::new();
-        put_numbers(&self.numbers(), &mut buffer, out)?;
-        put_text("first date", shown_date(self.first_date), &mut buffer, out)?;
-        put_text("last date", shown_date(self.last_date), &mut buffer, out)?;
+        self.put(&mut buffer, out)?;
         buffer.flush(out)?;
         Ok(())
     }
@@ -392,6 +397,39 @@ fn shown_date(date: Option<&[u8]>) -> &[u8]
     match date {
         Some(date) => date,
         None => b"-",
+    }
+}
+
+/// What is said of records, by their rows, whether each is a segment, and the verdicts on their blocks.
+pub(crate) fn summary_of<'a, A: Allocator>(
+    rows: &'a Rows<A>,
+    segmented: &[bool],
+    verdicts: &Verdicts<A>,
+) -> Summary<'a>
+    ensures { IsSummaryOf rows.now (flags_with segmented.now verdicts.now) result }
+{
+    let tally = tally_rows(rows);
+    let kinds = tally.kinds;
+    Summary {
+        records: rows.len(),
+        bytes: rows.end(),
+        warcinfo: kinds[place_of(Kind::Warcinfo)],
+        response: kinds[place_of(Kind::Response)],
+        resource: kinds[place_of(Kind::Resource)],
+        request: kinds[place_of(Kind::Request)],
+        metadata: kinds[place_of(Kind::Metadata)],
+        revisit: kinds[place_of(Kind::Revisit)],
+        conversion: kinds[place_of(Kind::Conversion)],
+        continuation: kinds[place_of(Kind::Continuation)],
+        other: kinds[place_of(Kind::Other)],
+        captures: tally.captures,
+        good: verdicts.count(Verdict::Good),
+        bad: verdicts.count(Verdict::Bad),
+        unchecked: verdicts.count(Verdict::Unchecked),
+        truncated: tally.truncated,
+        segmented: segmented_count(segmented),
+        first_date: date_of(rows, tally.first),
+        last_date: date_of(rows, tally.last),
     }
 }
 
@@ -417,31 +455,8 @@ impl<S: Source, A: Allocator> Summarized<S, A> {
     pub fn summary(&self) -> Summary<'_>
         ensures { IsSummaryOf self.now.listing.rows self.now.flags result }
     {
-        let rows = &self.opened.rows;
         let flags = &self.opened.kept;
-        let tally = tally_rows(rows);
-        let kinds = tally.kinds;
-        Summary {
-            records: rows.len(),
-            bytes: rows.end(),
-            warcinfo: kinds[place_of(Kind::Warcinfo)],
-            response: kinds[place_of(Kind::Response)],
-            resource: kinds[place_of(Kind::Resource)],
-            request: kinds[place_of(Kind::Request)],
-            metadata: kinds[place_of(Kind::Metadata)],
-            revisit: kinds[place_of(Kind::Revisit)],
-            conversion: kinds[place_of(Kind::Conversion)],
-            continuation: kinds[place_of(Kind::Continuation)],
-            other: kinds[place_of(Kind::Other)],
-            captures: tally.captures,
-            good: flags.verdicts.count(Verdict::Good),
-            bad: flags.verdicts.count(Verdict::Bad),
-            unchecked: flags.verdicts.count(Verdict::Unchecked),
-            truncated: tally.truncated,
-            segmented: flags.segmented_count(),
-            first_date: date_of(rows, tally.first),
-            last_date: date_of(rows, tally.last),
-        }
+        summary_of(&self.opened.rows, &flags.segmented, &flags.verdicts)
     }
 
     /// Returns the source.

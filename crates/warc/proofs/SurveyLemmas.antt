@@ -1,0 +1,305 @@
+-- The parts of a survey, and the verdicts by the digests that are wanted.
+use Rattle.std.proofs.Common.{◌≡◌, ◌≢◌, ◌==◌, ℕ, zero, suc, ◌+◌, ◌<◌, ◌≤◌, min, Bool, true, false, true≢false, List, [], ◌∷◌, ◌++◌, length, map, take, codes, add-one, append_assoc, Option, Some, None, option_and_then, Result, Ok, Err, IfErr, OnOk, is_err, if◌then◌else◌, get_or, refl, sym, ap, ap₂, subst, ◌∙◌, arith}
+use Rattle.std.proofs.Math.ListN.{set}
+use Rattle.std.proofs.lemmas.List.{length-map, map-append, take_all}
+use Rattle.std.proofs.lemmas.List.Elements.{All-append, All-cons, All-contains, All-nil}
+use Rattle.std.proofs.lemmas.Result.{IfErr-weaker, on_ok_weaker}
+use Rattle.std.specs.Io.KnownBytes.{append_known}
+use Rattle.std.specs.List.{All, Contains, enumerate_from, flat_map}
+use Rattle.std.specs.Option.{option_map_or, unwrap_or}
+use Rattle.std.specs.Str.{bytes_eq}
+use Rattle.sha1.specs.Sha1.{sha1}
+use Rattle.warc_field.specs.Area.{first_value}
+use Rattle.warc_value.specs.Digests.{verdict_of, wanted_digest}
+use Rattle.warc_value.specs.declared.hash.Verdict.{Verdict}
+use Rattle.warc_value.specs.declared.hash.Verdict.TheVariants.{Good, Bad, Unchecked}
+use Rattle.warc_value.specs.declared.hash.Wanted.{Wanted}
+use Rattle.warc_value.specs.declared.hash.Wanted.TheVariants.{Sha1, Unchecked as NoDigest}
+use Rattle.warc_fixity.specs.Judged.{stated_verdict}
+use Rattle.warc_frame.specs.Count.{raised}
+use Rattle.warc_frame.specs.Device.{Staged}
+use Rattle.warc_frame.specs.Effects.{Puts}
+use Rattle.warc_frame.specs.Failing.{HasFailedBy, MayHaveFailedBy, failed_by, is_read}
+use Rattle.warc_frame.specs.Names.{warc_block_digest}
+use Rattle.warc_frame.specs.Record.{Record}
+use Rattle.warc_frame.specs.Seen.{Seen, SeenSource}
+use Rattle.warc_frame.specs.Send.{WentOut}
+use Rattle.warc_frame.specs.declared.fault.OutFault.{OutFault}
+use Rattle.warc_frame.specs.declared.fault.OutFault.TheVariants.{Read, Write, Memory}
+use Rattle.warc_frame.specs.declared.send.SendFault.{SendFault}
+use Rattle.warc_frame.proofs.LawLemmas.{longer, same_out, same_staged}
+use Rattle.warc_record.specs.Kinds.{kind_named}
+use Rattle.warc_record.specs.Readings.{unless_empty}
+use Rattle.warc_index.specs.Captures.{is_capture}
+use Rattle.warc_index.specs.Orders.{Indexes}
+use Rattle.warc_segment.specs.Kept.{Kept as Parts}
+use Rattle.warc_reading.specs.Archive.{IsArchiveOf, contents}
+use Rattle.warc_reading.specs.Judging.{verdict_on}
+use Rattle.warc_reading.specs.Row.{Placed, Row, row_of}
+use Rattle.warc_reading.proofs.PlaceLemmas.{HeadsAreRead, checkable_archive}
+use Rattle.warc_checking.specs.Checking.{check_text}
+use Rattle.warc_checking.specs.Lines.{PutsLines}
+use Rattle.warc_checking.specs.OwnFindings.{AreJudged}
+use Rattle.warc.specs.Captures.{capture_positions, captures_text, position_if}
+use Rattle.warc.specs.Capturing.{AreFirstOutcomes, AreKnownBlocks, AreOutcomes, PutsCaptures}
+use Rattle.warc.specs.Fixity.{Judgements, fixity_text, stated_on}
+use Rattle.warc.specs.Listing.{listing}
+use Rattle.warc.specs.Outcomes.{CaptureSeen}
+use Rattle.warc.specs.Summary.{IsSummaryOf, flags_with, is_numbered, summary_text}
+use Rattle.warc.specs.Survey.{IsSurveyFront, IsSurveyKept, IsSurveyOf, IsSurveyOut, PutsPart, Survey, SurveyKept, SurveyMarks, WritesSurvey, claimed, claimed_on, known_text, part_name, settled_claim, settled_claims, survey_text}
+use Rattle.warc.specs.declared.opened.summary.Summary.{Summary}
+use Rattle.warc.proofs.KnownLemmas.{known_as}
+
+-- a text after another one
+pub puts_then : {X Y : Type 0} {old mid new : Seen} {waits staged waiting : Staged} {x : X} {answer : Result Y SendFault} {a b : List ℕ}
+    → Puts old mid waits staged (Ok x) a → Puts mid new staged waiting answer b → Puts old new waits waiting answer (a ++ b)
+puts_then {X} {Y} {old} {mid} {new} {waits} {staged} {waiting} {x} {answer} {a} {b} first second = record {
+  out = λ start output is. on_ok_weaker answer (same_staged (append_assoc output a b)) (second.out start (output ++ a) (first.out start output is));
+  cut = λ start output is. IfErr-weaker answer _ _ (λ e went. same_out (append_assoc output a b) went) (second.cut start (output ++ a) (first.out start output is));
+  cause = second.cause ∙ ap (λ n. if is_err answer then raised n else n) first.cause;
+  left = second.left;
+}
+
+-- a text whose write failed, and another one that would follow
+pub puts_cut : {X Y : Type 0} {old new : Seen} {waits waiting : Staged} {e : SendFault} {a : List ℕ} (b : List ℕ)
+    → Puts {X = X} old new waits waiting (Err e) a → Puts {X = Y} old new waits waiting (Err e) (a ++ b)
+puts_cut {X} {Y} {old} {new} {waits} {waiting} {e} {a} b puts = record {
+  out = λ start output is. tt;
+  cut = λ start output is. same_out (append_assoc output a b) (longer b (puts.cut start output is));
+  cause = puts.cause;
+  left = puts.left;
+}
+
+-- an answer without its number
+abbrev pub without_number : Result ℕ OutFault → Result (Unit {0}) OutFault
+without_number (Ok n) = Ok tt
+without_number (Err e) = Err e
+
+-- a text that was put to an output, as a part of it
+pub part_of : {X : Type 0} {old new : Seen} {waits waiting : Staged} {x : X} {a : List ℕ} → Puts old new waits waiting (Ok x) a
+    → PutsPart a old new waits waiting (Ok tt)
+part_of puts = record { out = puts.out; cut = λ start output is. tt }
+
+-- lines that are counted, as a part
+pub unnumbered : {text : List ℕ} {count : ℕ} {old new : Seen} {waits waiting : Staged} {answer : Result ℕ OutFault} → PutsLines text count old new waits waiting answer
+    → PutsPart text old new waits waiting (without_number answer)
+unnumbered {text} {count} {old} {new} {waits} {waiting} {answer = Ok n} puts = record { out = puts.out; cut = λ start output is. tt }
+unnumbered {text} {count} {old} {new} {waits} {waiting} {answer = Err e} puts = record { out = λ start output is. tt; cut = puts.cut }
+
+-- one part after another
+pub parts_then : {old mid new : Seen} {waits staged waiting : Staged} {answer : Result (Unit {0}) OutFault} {a b : List ℕ}
+    → PutsPart a old mid waits staged (Ok tt) → PutsPart b mid new staged waiting answer → PutsPart (a ++ b) old new waits waiting answer
+parts_then {old} {mid} {new} {waits} {staged} {waiting} {answer} {a} {b} first second = record {
+  out = λ start output is. on_ok_weaker answer (same_staged (append_assoc output a b)) (second.out start (output ++ a) (first.out start output is));
+  cut = λ start output is. IfErr-weaker answer _ _ (λ e went. same_out (append_assoc output a b) went) (second.cut start (output ++ a) (first.out start output is));
+}
+
+-- a part that was cut, and another one that would follow
+pub parts_cut : {old new : Seen} {waits waiting : Staged} {e : OutFault} {a : List ℕ} (b : List ℕ) → PutsPart a old new waits waiting (Err e)
+    → PutsPart (a ++ b) old new waits waiting (Err e)
+parts_cut {old} {new} {waits} {waiting} {e} {a} b puts = record {
+  out = λ start output is. tt;
+  cut = λ start output is. same_out (append_assoc output a b) (longer b (puts.cut start output is));
+}
+
+-- a text whose write failed, as a part
+pub part_cut : {X : Type 0} {old new : Seen} {waits waiting : Staged} {e : SendFault} {a : List ℕ} → Puts {X = X} old new waits waiting (Err e) a
+    → PutsPart a old new waits waiting (Err (Write e.sent))
+part_cut puts = record { out = λ start output is. tt; cut = puts.cut }
+
+-- ---- the whole text
+
+ten : (a b c d e f g h i j : List ℕ)
+    → (((a ++ b) ++ (c ++ d)) ++ ((e ++ f) ++ ((g ++ h) ++ i))) ++ j ≡ a ++ b ++ c ++ d ++ e ++ f ++ g ++ h ++ i ++ j
+ten a b c d e f g h i j = simp append_assoc
+
+pub survey_whole : (rows : List Row) (judged : Judgements) (records : List Record) (summary : Summary) (captures : List CaptureSeen)
+    → known_text rows judged records summary ++ captures_text rows captures
+    ≡ survey_text (record { rows = rows; judged = judged; records = records; summary = summary; captures = captures })
+unfolding survey_text
+survey_whole rows judged records summary captures =
+    ten (part_name (codes "list")) (listing rows) (part_name (codes "fixity")) (fixity_text rows judged) (part_name (codes "check")) (check_text records)
+    (part_name (codes "summary")) (summary_text summary) (part_name (codes "captures")) (captures_text rows captures)
+
+-- ---- what is kept
+
+pub unread_may : (e : OutFault) (n : ℕ) → is_read e ≡ false → MayHaveFailedBy {X = Unit {0}} (Err e) n n
+unread_may (Read sent) n is = absurd (true≢false is)
+unread_may (Write sent) n is = refl
+unread_may (Memory sent) n is = refl
+
+pub unread_has : (e : OutFault) (n : ℕ) → is_read e ≡ false → HasFailedBy {X = Unit {0}} (Err e) n n
+unread_has (Read sent) n is = absurd (true≢false is)
+unread_has (Write sent) n is = refl
+unread_has (Memory sent) n is = refl
+
+-- how often a sink has failed, after calls of which none failed
+pub failed_on : (e : OutFault) {n m : ℕ} → n ≡ m → failed_by {X = Unit {0}} (Err e) n ≡ failed_by {X = Unit {0}} (Err e) m
+failed_on e same = ap (λ k. failed_by {X = Unit {0}} (Err e) k) same
+
+-- the survey of the archive that bytes are, with the captures at these positions
+pub survey_is : (bytes : List ℕ) (rows : List Row) (kept : SurveyKept) (is : IsArchiveOf bytes rows) → IsSurveyKept is.are.records kept
+    → (summary : Summary) → IsSummaryOf rows (flags_with kept.segmented kept.judged.verdicts) summary
+    → (positions : List ℕ) (captures : List CaptureSeen) → AreOutcomes (contents is.are.records) positions captures
+    → IsSurveyOf bytes positions (record { rows = rows; judged = kept.judged; records = contents is.are.records; summary = summary; captures = captures })
+survey_is bytes rows kept is has summary counted positions captures outcomes = record {
+  listed = is;
+  digested = record { listed = is; verdicts_are = has.verdicts_are; digests_are = has.digests_are };
+  records_are = refl;
+  flags = flags_with kept.segmented kept.judged.verdicts;
+  flagged = record { listed = is; segmented_are = has.segmented_are; verdicts_are = has.verdicts_are };
+  summary_is = counted;
+  outcomes = outcomes;
+}
+
+-- ---- verdicts
+
+never_unchecked : (test : Bool) → (if test then Good else Bad) ≡ Unchecked → ⊥
+never_unchecked true is = cc is
+never_unchecked false is = cc is
+
+module _ (law : (value block : List ℕ) → verdict_of (wanted_digest value) block ≢ Unchecked → verdict_of (wanted_digest value) block ≡ stated_verdict value block) where
+  claim_if : (value block : List ℕ) (w : Wanted) → wanted_digest value ≡ w → settled_claim (claimed w) (stated_verdict value block) ≡ verdict_of w block
+  claim_if value block NoDigest is = refl
+  claim_if value block (Sha1 digest) is =
+      let same = ap (λ w. verdict_of w block) is in
+      sym (law value block (λ e. never_unchecked (bytes_eq digest (sha1 block)) (sym same ∙ e))) ∙ same
+
+  claim_at : (text block : List ℕ) (test : Bool)
+      → settled_claim (claimed (option_map_or wanted_digest (if test then None else Some text) NoDigest)) (stated_verdict text block)
+      ≡ verdict_of (option_map_or wanted_digest (if test then None else Some text) NoDigest) block
+  claim_at text block true = refl
+  claim_at text block false = claim_if text block (wanted_digest text) refl
+
+  claim_of : (value : Option (List ℕ)) (block : List ℕ)
+      → settled_claim (claimed (option_map_or wanted_digest (option_and_then unless_empty value) NoDigest)) (stated_verdict (unwrap_or value []) block)
+      ≡ verdict_of (option_map_or wanted_digest (option_and_then unless_empty value) NoDigest) block
+  claim_of None block = refl
+  claim_of (Some text) block = claim_at text block (length text == 0)
+
+  -- the verdicts by the digests that are wanted, from the claims and the verdicts that are stated
+  pub claims_settled : (records : List Placed) → settled_claims (map claimed_on records) (map stated_on records) ≡ map verdict_on records
+  claims_settled [] = refl
+  claims_settled (p ∷ ps) =
+      ap₂ (λ (v : Verdict) (l : List Verdict). v ∷ l) (claim_of (first_value warc_block_digest p.content.fields) p.content.block) (claims_settled ps)
+
+settled_step : (cs vs : List Verdict) (i : ℕ) (c v : Verdict) → i < length cs → i < length vs
+    → set (settled_claims cs (take i vs)) i (settled_claim (get_or (settled_claims cs (take i vs)) i c) (get_or vs i v)) ≡ settled_claims cs (take (suc i) vs)
+settled_step [] vs i c v low less = absurd (omega (arith, low))
+settled_step (d ∷ cs) [] i c v low less = absurd (omega (arith, less))
+settled_step (d ∷ []) (w ∷ ws) zero c v low less = refl
+settled_step (d ∷ e ∷ cs) (w ∷ ws) zero c v low less = refl
+settled_step (d ∷ cs) (w ∷ ws) (suc i) c v low less = ap (λ l. settled_claim d w ∷ l) (settled_step cs ws i c v (omega (arith, low)) (omega (arith, less)))
+
+-- the next claim is settled
+pub settled_next : (cs vs : List Verdict) (i : ℕ) (c v : Verdict) → i < length cs → i < length vs
+    → set (settled_claims cs (take i vs)) i (settled_claim (get_or (settled_claims cs (take i vs)) i c) (get_or vs i v)) ≡ settled_claims cs (take (i + 1) vs)
+settled_next cs vs i c v low less = settled_step cs vs i c v low less ∙ ap (λ n. settled_claims cs (take n vs)) (sym (add-one i))
+
+-- nothing is settled yet
+pub settled_none : (cs : List Verdict) → settled_claims cs [] ≡ cs
+settled_none [] = refl
+settled_none (c ∷ cs) = refl
+
+-- all that can be settled are
+pub settled_rest : (cs vs : List Verdict) (n : ℕ) → min (length cs) (length vs) ≤ n → settled_claims cs (take n vs) ≡ settled_claims cs vs
+settled_rest [] vs n le = refl
+settled_rest (c ∷ cs) [] zero le = refl
+settled_rest (c ∷ cs) [] (suc n) le = refl
+settled_rest (c ∷ cs) (v ∷ vs) zero le = absurd (omega (arith, le))
+settled_rest (c ∷ cs) (v ∷ vs) (suc n) le = ap (λ l. settled_claim c v ∷ l) (settled_rest cs vs n (omega (arith, le)))
+
+pub settled_len : (cs vs : List Verdict) → length (settled_claims cs vs) ≡ length cs
+settled_len [] vs = refl
+settled_len (c ∷ cs) [] = refl
+settled_len (c ∷ cs) (v ∷ vs) = ap (λ n. suc n) (settled_len cs vs)
+
+-- one more record's marks
+pub marks_more : {E : Type 0} (answer : Result (Unit {0}) E) (old new : SurveyMarks) (records : List Placed) (p : Placed) (segmented : Bool) (claim : Verdict)
+    → (old.segmented ≡ map is_numbered records) × (old.claims ≡ map claimed_on records) → segmented ≡ is_numbered p → claim ≡ claimed_on p
+    → OnOk answer ((new.segmented ≡ old.segmented ++ segmented ∷ []) × (new.claims ≡ old.claims ++ claim ∷ []))
+    → OnOk answer ((new.segmented ≡ map is_numbered (records ++ p ∷ [])) × (new.claims ≡ map claimed_on (records ++ p ∷ [])))
+marks_more (Ok u) old new records p segmented claim is numbered claims added = (
+  added.0 ∙ ap₂ (λ (l : List Bool) (x : Bool). l ++ x ∷ []) is.0 numbered ∙ sym (map-append is_numbered records (p ∷ [])),
+  added.1 ∙ ap₂ (λ (l : List Verdict) (x : Verdict). l ++ x ∷ []) is.1 claims ∙ sym (map-append claimed_on records (p ∷ [])),
+)
+marks_more (Err e) old new records p segmented claim is numbered claims added = tt
+
+-- ---- the captures are those of records
+
+position_low : (b : Bool) (p n : ℕ) → p < n → All (λ q. q < n) (if b then p ∷ [] else [])
+position_low true p n low = All-cons (λ q. q < n) p [] low (All-nil (λ q. q < n))
+position_low false p n low = All-nil (λ q. q < n)
+
+captures_low : (rows : List Row) (first n : ℕ) → first + length rows ≤ n → All (λ q. q < n) (flat_map (λ (e : ℕ × Row). position_if e.0 e.1.kind) (enumerate_from first rows))
+captures_low [] first n le = All-nil (λ q. q < n)
+captures_low (row ∷ rows) first n le =
+    All-append (λ q. q < n) (position_if first row.kind) (flat_map (λ (e : ℕ × Row). position_if e.0 e.1.kind) (enumerate_from (first + 1) rows))
+    (position_low (is_capture (kind_named row.kind)) first n (omega (arith, le))) (captures_low rows (first + 1) n (omega (arith, le)))
+
+pub captures_inside : (rows : List Row) (records : List Placed) → rows ≡ map row_of records → (p : ℕ) → Contains (capture_positions rows) p → p < length (contents records)
+captures_inside rows records are p in_ =
+    let low = captures_low rows 0 (length rows) (omega arith) in
+    omega (arith, All-contains (λ q. q < length rows) (capture_positions rows) p low in_, ap length are, length-map records row_of, length-map records (λ (r : Placed). r.content))
+
+-- ---- writing a survey
+
+-- the same marks and verdicts, whatever they are called
+pub summary_as : {rows : List Row} {s t : List Bool} {v w : List Verdict} {x : Summary} → s ≡ t → v ≡ w → IsSummaryOf rows (flags_with s v) x → IsSummaryOf rows (flags_with t w) x
+summary_as {rows} {s} {t} {v} {w} {x} a b is =
+    let P : List Bool → Type 0 = λ l. IsSummaryOf rows (flags_with l w) x in
+    let Q : List Verdict → Type 0 = λ l. IsSummaryOf rows (flags_with s l) x in
+    subst P a (subst Q b is)
+
+-- the same positions
+pub captures_at : {Right : List Placed → Type 0} {rows : List Row} {index : Indexes} {parts : Parts} {positions other : List ℕ} {old new : SeenSource} {before after : Seen}
+    {waits waiting : Staged} {answer : Result (Unit {0}) OutFault} → positions ≡ other
+    → PutsCaptures Right rows index parts positions old new before after waits waiting answer → PutsCaptures Right rows index parts other old new before after waits waiting answer
+captures_at {Right} {rows} {index} {parts} {positions} {other} {old} {new} {before} {after} {waits} {waiting} {answer} same puts =
+    let P : List ℕ → Type 0 = λ l. PutsCaptures Right rows index parts l old new before after waits waiting answer in
+    subst P same puts
+
+-- what is kept, whatever it is called
+pub writes_as : {rows : List Row} {old new : SeenSource} {before after : Seen} {answer : Result (Unit {0}) OutFault} (kept other : SurveyKept) → kept ≡ other
+    → WritesSurvey rows kept old new before after answer → WritesSurvey rows other old new before after answer
+writes_as {rows} {old} {new} {before} {after} {answer} kept other same writes =
+    let P : SurveyKept → Type 0 = λ k. WritesSurvey rows k old new before after answer in
+    subst P same writes
+
+module _ (bytes : List ℕ) (rows : List Row) (kept : SurveyKept) (is : IsArchiveOf bytes rows) (has : IsSurveyKept is.are.records kept) (summary : Summary)
+    (counted : IsSummaryOf rows (flags_with kept.segmented kept.judged.verdicts) summary) where
+  -- the findings that are kept are the records'
+  pub survey_judged : HeadsAreRead → AreJudged bytes is.are.records rows kept.findings
+  survey_judged law = record { can = checkable_archive law bytes rows is rows refl; found_is = has.findings_are }
+
+  pub survey_known : AreKnownBlocks kept.wanted is.are.records
+  survey_known = known_as kept.wanted is.are.records has.wanted_are
+
+  -- a front of the survey went out
+  pub survey_front : (before after : Seen) (count sent : ℕ) (captures : List CaptureSeen) → AreOutcomes (contents is.are.records) (take count (capture_positions rows)) captures
+      → WentOut before.tells (known_text rows kept.judged (contents is.are.records) summary ++ captures_text rows captures) after.tells sent → IsSurveyFront bytes sent before after
+  survey_front before after count sent captures outcomes front = record {
+    survey = record { rows = rows; judged = kept.judged; records = contents is.are.records; summary = summary; captures = captures };
+    count = count;
+    is = survey_is bytes rows kept is has summary counted (take count (capture_positions rows)) captures outcomes;
+    front = same_out (survey_whole rows kept.judged (contents is.are.records) summary captures) front;
+  }
+
+  -- a front of what comes before the captures
+  pub survey_begun : (before after : Seen) (sent : ℕ) → WentOut before.tells (known_text rows kept.judged (contents is.are.records) summary) after.tells sent
+      → IsSurveyFront bytes sent before after
+  survey_begun before after sent front =
+      survey_front before after 0 sent [] (record { chosen = refl; each = tt }) (longer (captures_text rows []) front)
+
+  -- all of it went out
+  pub survey_out : (before after : Seen) (captures : List CaptureSeen) → AreFirstOutcomes (contents is.are.records) (capture_positions rows) captures
+      → length captures ≡ length (capture_positions rows)
+      → after.tells ≡ append_known before.tells (known_text rows kept.judged (contents is.are.records) summary ++ captures_text rows captures) → IsSurveyOut bytes before after
+  survey_out before after captures outcomes all told =
+      let positions = capture_positions rows in
+      let whole = subst (λ (l : List ℕ). AreOutcomes (contents is.are.records) l captures) (ap (λ n. take n positions) all ∙ take_all (length positions) positions (omega arith)) outcomes in
+      record {
+        survey = record { rows = rows; judged = kept.judged; records = contents is.are.records; summary = summary; captures = captures };
+        is = survey_is bytes rows kept is has summary counted positions captures whole;
+        told = told ∙ ap (append_known before.tells) (survey_whole rows kept.judged (contents is.are.records) summary captures);
+      }

@@ -1,0 +1,20 @@
+use Rattle.std.proofs.Common.{ap, ap₂, ◌∙◌}
+use Rattle.warc_reading.proofs.IndexedLemmas.{are_of_same}
+use Rattle.warc.specs.Fixity.{Judgements}
+use Rattle.warc.specs.Survey.{SurveyMarks, settled_claims}
+use Rattle.warc.proofs.SurveyLemmas.{claims_settled}
+use Rattle.warc.proofs.opened.surveyed.into_parts.Goals as goal
+
+pub returns : goal.returns
+returns g c = λ records is.
+    let judged = c.into_digests-digests.ensures in
+    let verdicts = ap (λ (j : Judgements). j.verdicts) judged ∙ is.verdicts_are in
+    let wanted = c.settle_claims.ensures ∙ ap₂ settled_claims (ap (λ (m : SurveyMarks). m.claims) c.marks.view_is ∙ is.claims_are) (c.verdicts.ensures ∙ verdicts) ∙ claims_settled c.wanted_verdict_is_kept.ensures records in
+    record {
+      found = are_of_same _ _ _ _ _ c.into_lookup.ensures.index c.into_lookup.ensures.parts is.kept;
+      verdicts_are = verdicts;
+      digests_are = ap (λ (j : Judgements). j.digests) judged ∙ is.digests_are;
+      wanted_are = wanted;
+      segmented_are = ap (λ (m : SurveyMarks). m.segmented) c.marks.view_is ∙ is.segmented_are;
+      findings_are = c.mark_each.ensures records is.found_are (c.as_slice.ensures ∙ wanted);
+    }

@@ -1,0 +1,180 @@
+-- What `survey` writes of an archive: what `list`, `fixity`, `check`, `summary` and `captures` write, each after a line
+-- with its name. This project's own notion.
+use Rattle.std.specs.Prelude.{◌≡◌, ℕ, Bool, List, [], ◌∷◌, ◌++◌, map, take, codes, Option, Result, IfErr, OnOk}
+use Rattle.std.specs.Io.KnownBytes.{append_known}
+use Rattle.warc_frame.specs.Device.{Staged}
+use Rattle.warc_frame.specs.Effects.{FailsBy, Preserves}
+use Rattle.warc_frame.specs.Failing.{failed_by}
+use Rattle.warc_frame.specs.Record.{Record}
+use Rattle.warc_frame.specs.Seen.{IfHeld, Seen, SeenSource}
+use Rattle.warc_frame.specs.Send.{IsStaged, WentOut, sent_of}
+use Rattle.warc_frame.specs.declared.fault.OutFault.{OutFault}
+use Rattle.warc_record.specs.Findings.{SeenFinding}
+use Rattle.warc_record.specs.Readings.{digest_wanted}
+use Rattle.warc_value.specs.declared.hash.Verdict.{Verdict}
+use Rattle.warc_value.specs.declared.hash.Verdict.TheVariants.{Good, Bad, Unchecked}
+use Rattle.warc_value.specs.declared.hash.Wanted.{Wanted}
+use Rattle.warc_value.specs.declared.hash.Wanted.TheVariants.{Sha1, Unchecked as NoDigest}
+use Rattle.warc_index.specs.Orders.{Indexes}
+use Rattle.warc_segment.specs.Kept.{Kept as Parts}
+use Rattle.warc_reading.specs.Archive.{Contents, IsArchiveOf, contents}
+use Rattle.warc_reading.specs.Indexed.{AreOf}
+use Rattle.warc_reading.specs.Judging.{verdict_on}
+use Rattle.warc_reading.specs.Row.{Placed, Row}
+use Rattle.warc_checking.specs.Checking.{check_text}
+use Rattle.warc_checking.specs.Judged.{own_findings}
+use Rattle.warc_checking.specs.OwnFindings.{Found, unjudged}
+use Rattle.warc.specs.Captures.{capture_positions, captures_text}
+use Rattle.warc.specs.Capturing.{AreOutcomes}
+use Rattle.warc.specs.Fixity.{AreDigested, Judgements, digest_kept, fixity_text, stated_on}
+use Rattle.warc.specs.Listing.{listing}
+use Rattle.warc.specs.Outcomes.{CaptureSeen}
+use Rattle.warc.specs.Replaying.{AsksInside, IsIndexedBy}
+use Rattle.warc.specs.Summary.{AreFlagged, Flags, IsSummaryOf, is_numbered, summary_text}
+use Rattle.warc.specs.declared.opened.summary.Summary.{Summary}
+
+-- what the five commands write of: rows, verdicts, records, numbers, and the outcomes of captures
+pub record Survey : Type 0 where
+  pub rows : List Row
+  pub judged : Judgements
+  pub records : List Record
+  pub summary : Summary
+  pub captures : List CaptureSeen
+
+-- the line before what a command writes
+abbrev pub part_name : List ℕ → List ℕ
+part_name name = codes "# " ++ name ++ codes "\n"
+
+-- what each of the five writes, after a line with its name
+unfoldable pub survey_text : Survey → List ℕ
+survey_text s =
+    part_name (codes "list") ++ listing s.rows
+    ++ part_name (codes "fixity") ++ fixity_text s.rows s.judged
+    ++ part_name (codes "check") ++ check_text s.records
+    ++ part_name (codes "summary") ++ summary_text s.summary
+    ++ part_name (codes "captures") ++ captures_text s.rows s.captures
+
+-- each is what its command says of the archive that the bytes are; the outcomes are of the captures at these positions
+pub record IsSurveyOf (bytes : List ℕ) (positions : List ℕ) (s : Survey) : Type 0 where
+  pub listed : IsArchiveOf bytes s.rows
+  pub digested : AreDigested bytes s.rows s.judged
+  pub records_are : s.records ≡ contents listed.are.records
+  pub flags : Flags
+  pub flagged : AreFlagged bytes s.rows flags
+  pub summary_is : IsSummaryOf s.rows flags s.summary
+  pub outcomes : AreOutcomes s.records positions s.captures
+
+-- the survey of an archive, with all its captures
+abbrev pub IsWholeSurvey : List ℕ → Survey → Type 0
+IsWholeSurvey bytes s = IsSurveyOf bytes (capture_positions s.rows) s
+
+-- the same with its first captures, this many
+abbrev pub IsFrontSurvey : List ℕ → ℕ → Survey → Type 0
+IsFrontSurvey bytes count s = IsSurveyOf bytes (take count (capture_positions s.rows)) s
+
+-- what is kept of records for a survey: what finds and joins them, their verdicts by stated digests and those that
+-- `check` and replays go by, which are segments, and what each alone shows
+pub record SurveyKept : Type 0 where
+  pub index : Indexes
+  pub parts : Parts
+  pub judged : Judgements
+  pub wanted : List Verdict
+  pub segmented : List Bool
+  pub findings : List (List SeenFinding)
+
+-- it is kept of these records
+pub record IsSurveyKept (records : List Placed) (k : SurveyKept) : Type 0 where
+  pub found : AreOf records k.index k.parts
+  pub verdicts_are : k.judged.verdicts ≡ map stated_on records
+  pub digests_are : k.judged.digests ≡ map digest_kept records
+  pub wanted_are : k.wanted ≡ map verdict_on records
+  pub segmented_are : k.segmented ≡ map is_numbered records
+  pub findings_are : k.findings ≡ map own_findings (contents records)
+
+-- a listing, and what is kept for a survey
+pub record SurveyedArchive (S : Type 0) : Type 0 where
+  pub listing : Contents S
+  pub kept : SurveyKept
+
+-- they are of the archive that the bytes are
+pub record IsSurveyed {S : Type 0} (bytes : List ℕ) (a : SurveyedArchive S) : Type 0 where
+  pub listed : IsArchiveOf bytes a.listing.rows
+  pub kept : IsSurveyKept listed.are.records a.kept
+
+-- the survey of the archive went out
+pub record IsSurveyOut (bytes : List ℕ) (before after : Seen) : Type 0 where
+  pub survey : Survey
+  pub is : IsWholeSurvey bytes survey
+  pub told : after.tells ≡ append_known before.tells (survey_text survey)
+
+-- a front of the survey of the archive went out, as long as the fault says
+pub record IsSurveyFront (bytes : List ℕ) (sent : ℕ) (before after : Seen) : Type 0 where
+  pub survey : Survey
+  pub count : ℕ
+  pub is : IsFrontSurvey bytes count survey
+  pub front : WentOut before.tells (survey_text survey) after.tells sent
+
+-- The survey of an archive is written, by its rows and by what is kept. If its source holds the archive's bytes, all of
+-- it goes out, or a front. The source is asked for bytes of the archive alone
+pub record WritesSurvey (rows : List Row) (kept : SurveyKept) (old new : SeenSource) (before after : Seen)
+    (answer : Result (Unit {0}) OutFault) : Type 0 where
+  pub told : IfHeld old.holds (λ bytes. (is : IsArchiveOf bytes rows) → IsSurveyKept is.are.records kept
+      → OnOk answer (IsSurveyOut bytes before after))
+  pub cut : IfHeld old.holds (λ bytes. (is : IsArchiveOf bytes rows) → IsSurveyKept is.are.records kept
+      → IfErr answer (λ e. IsSurveyFront bytes (sent_of e) before after))
+  pub inside : AsksInside rows kept.index kept.parts old new
+  pub keeps : Preserves old new
+  pub fails : FailsBy (IsIndexedBy rows kept.index kept.parts) answer old new
+  pub cause : after.faults ≡ failed_by answer before.faults
+
+-- ---- on the way: verdicts that are claimed, and parts of the text
+
+-- the verdict on a block that has the digest that is wanted of it
+abbrev pub claimed : Wanted → Verdict
+claimed (Sha1 digest) = Good
+claimed NoDigest = Unchecked
+
+abbrev pub claimed_on : Placed → Verdict
+claimed_on p = claimed (digest_wanted p.content.fields)
+
+-- the verdict by the digest that is wanted, by the claim and by the verdict that is stated
+abbrev pub settled_claim : Verdict → Verdict → Verdict
+settled_claim Good stated = stated
+settled_claim Bad stated = Bad
+settled_claim Unchecked stated = Unchecked
+
+-- the same of each of the first records, as many as have a stated verdict
+abbrev pub settled_claims : List Verdict → List Verdict → List Verdict
+settled_claims [] stated = []
+settled_claims (c ∷ cs) [] = c ∷ cs
+settled_claims (c ∷ cs) (v ∷ vs) = settled_claim c v ∷ settled_claims cs vs
+
+-- what is kept of heads for a survey: which records are segments, and the verdicts that are claimed
+pub record SurveyMarks : Type 0 where
+  pub segmented : List Bool
+  pub claims : List Verdict
+
+-- what was gathered of these records while their archive was read
+pub record AreGathered (records : List Placed) (judged : Judgements) (marks : SurveyMarks) (found : List Found)
+    (index : Indexes) (parts : Parts) : Type 0 where
+  pub verdicts_are : judged.verdicts ≡ map stated_on records
+  pub digests_are : judged.digests ≡ map digest_kept records
+  pub segmented_are : marks.segmented ≡ map is_numbered records
+  pub claims_are : marks.claims ≡ map claimed_on records
+  pub found_are : found ≡ map unjudged (contents records)
+  pub kept : AreOf records index parts
+
+-- a text is added to an output: it is staged after what waits, or a front of it all went out
+pub record PutsPart (text : List ℕ) (old new : Seen) (waits waiting : Staged) (answer : Result (Unit {0}) OutFault)
+    : Type 0 where
+  pub out : (start : Option (List ℕ)) (output : List ℕ) → IsStaged start output old.tells waits
+      → OnOk answer (IsStaged start (output ++ text) new.tells waiting)
+  pub cut : (start : Option (List ℕ)) (output : List ℕ) → IsStaged start output old.tells waits
+      → IfErr answer (λ e. WentOut start (output ++ text) new.tells (sent_of e))
+
+-- what a survey says without its captures, and the text up to them
+abbrev pub known_text : List Row → Judgements → List Record → Summary → List ℕ
+known_text rows judged records summary =
+    ((part_name (codes "list") ++ listing rows) ++ (part_name (codes "fixity") ++ fixity_text rows judged))
+    ++ ((part_name (codes "check") ++ check_text records)
+    ++ ((part_name (codes "summary") ++ summary_text summary) ++ part_name (codes "captures")))
