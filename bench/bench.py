@@ -24,7 +24,7 @@ from shared import TOP, Usage, crawl_target, made_on, make, make_crawl, put_tabl
 RUNS = int(os.environ.get("RUNS", "9"))
 VISITS = 8_000
 SMALL, PAGES = 1_000_000, 50_000
-COMMANDS = ("list", "check", "fixity", "summary", "captures", "rewrite", "split", "replay")
+COMMANDS = ("list", "check", "fixity", "summary", "captures", "survey", "rewrite", "split", "replay")
 # Beside the commands: what a copy and a hash of the same bytes cost.
 OTHERS = ("cat", "sha1sum")
 ROWS = {
@@ -112,6 +112,7 @@ def check_lines(program: str, archive: Archive, out: str) -> None:
     for command, line in (
         ("fixity", f"records {archive.records} good {archive.records} bad 0 unchecked 0"),
         ("summary", f"records\t{archive.records}"),
+        ("survey", "# list"),
     ):
         written(archive.words(program, command), out)
         with open(out, encoding="utf-8") as text:

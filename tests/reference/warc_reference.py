@@ -923,6 +923,14 @@ def summary_command(archive: Archive) -> Answer:
     return b"".join(lines), b"", 0
 
 
+def survey_command(archive: Archive) -> Answer:
+    parts = []
+    for name in SURVEYED:
+        out, _, _ = run_on(archive, name, ())
+        parts.append(b"# %s\n" % name.encode() + out)
+    return b"".join(parts), b"", 0
+
+
 def rewrite_command(archive: Archive) -> Answer:
     return b"".join(record.canonical() for record in archive.records), b"", 0
 
@@ -977,7 +985,10 @@ COMMANDS: Dict[str, Callable[..., Answer]] = {
     "rewrite": rewrite_command,
     "convert": convert_command,
     "summary": summary_command,
+    "survey": survey_command,
 }
+# The commands of a survey, in its order.
+SURVEYED = ("list", "fixity", "check", "summary", "captures")
 
 
 def fault_text(fault: Fault) -> str:

@@ -3,7 +3,7 @@
 
     python3 tests/stress/differential.py WARC COUNT SEED
 
-Makes COUNT archives, from the seeds SEED to SEED + COUNT - 1, and runs thirteen command lines over each. Compares
+Makes COUNT archives, from the seeds SEED to SEED + COUNT - 1, and runs fourteen command lines over each. Compares
 standard output, standard error and the exit status. Then asks `replay` for each capture that is the chosen one of its
 own instant, and compares with what `captures` says of it. Prints each difference, and last a line with the counts. The
 exit status is 1 if there is a difference.

@@ -685,12 +685,13 @@ def pointed_command(chance: random.Random, data: bytes) -> Line:
     return line + ("--stored",) if command == "body" and yes(chance, 3) else line
 
 
-WHOLE = ("list", "check", "fixity", "fixity --payload", "salvage", "rewrite", "convert", "captures", "summary")
+SURVEYED = ("list", "fixity", "check", "summary", "captures")
+WHOLE = (*SURVEYED, "fixity --payload", "salvage", "rewrite", "convert", "survey")
 FLAGS = ("--stored", "--uri-hex", "--payload")
 
 
 def command_lines(seed: int, data: bytes) -> List[Line]:
-    """The thirteen command lines to run over the archive of a seed, without the name of the archive."""
+    """The fourteen command lines to run over the archive of a seed, without the name of the archive."""
     chance = random.Random("commands %d" % seed)
     return [tuple(line.split()) for line in WHOLE] + [pointed_command(chance, data) for _ in range(4)]
 

@@ -4,7 +4,7 @@
 #
 #   STRESS_COUNT=1000 STRESS_SEED=7 STRESS_ARCHIVES=100 bash tests/stress/run.sh
 #
-# STRESS_COUNT is the number of generated archives, over each of which thirteen command lines are run; STRESS_ARCHIVES
+# STRESS_COUNT is the number of generated archives, over each of which fourteen command lines are run; STRESS_ARCHIVES
 # the number of archives of the collection. As root on Debian it installs what it needs and isn't there.
 set -u
 cd "$(dirname "$0")/../.." || exit 1

@@ -107,7 +107,7 @@ COMMANDS: Tuple[Command, ...] = (
     ("split", "50000"),
     ("write",),
 )
-COMMANDS += tuple((name,) for name in ("captures", "summary") if name in warc_reference.COMMANDS)
+COMMANDS += tuple((name,) for name in ("captures", "summary", "survey") if name in warc_reference.COMMANDS)
 COMMANDS += (("body", "701", "--stored"), ("captures", TARGET), ("fixity", "--payload"))
 SHORT = ("list", "check", "fixity", "head", "body", "captures", "summary")
 

@@ -305,6 +305,7 @@ def hostile_contents(stress: Stress) -> None:
         ("fixity",),
         ("fixity", "--payload"),
         ("summary",),
+        ("survey",),
         ("head", "0"),
         ("head", "6"),
         ("rewrite",),

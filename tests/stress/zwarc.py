@@ -47,6 +47,7 @@ OTHERS: tuple[tuple[str, ...], ...] = (
     ("block", "1"),
     ("body", "2"),
     ("captures",),
+    ("survey",),
     ("captures", TARGET),
     ("fixity", "--payload"),
     ("replay", TARGET, "9999"),

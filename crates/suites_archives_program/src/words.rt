@@ -48,6 +48,7 @@ pub(crate) fn is_command(word: &str) -> bool {
             | "convert"
             | "pieces"
             | "summary"
+            | "survey"
             | "fixity"
             | "salvage"
             | "extract"

@@ -31,6 +31,7 @@ view_of (command.Fixity archive payload) = (codes "fixity", archive.now ∷ [])
 view_of (command.Pieces archive) = (codes "pieces", archive.now ∷ [])
 view_of (command.Salvage archive all) = (codes "salvage", archive.now ∷ [])
 view_of (command.Summary archive) = (codes "summary", archive.now ∷ [])
+view_of (command.Survey archive) = (codes "survey", archive.now ∷ [])
 view_of (command.Explain number) = (codes "explain", number.now ∷ [])
 
 -- whether each of its flags is given, in order; `--quiet` and `--hints`, which every command has, aren't among them
@@ -72,6 +73,7 @@ path_word (command.Fixity archive payload) = archive.now
 path_word (command.Pieces archive) = archive.now
 path_word (command.Salvage archive all) = archive.now
 path_word (command.Summary archive) = archive.now
+path_word (command.Survey archive) = archive.now
 path_word (command.Explain number) = []
 
 -- the path of the file that it reads before its archive, if it reads two

@@ -106,6 +106,7 @@ other_layouts =
     ∷ layout (codes "pieces") (codes "archive" ∷ [])
     ∷ salvage_layout
     ∷ layout (codes "summary") (codes "archive" ∷ [])
+    ∷ layout (codes "survey") (codes "archive" ∷ [])
     ∷ layout (codes "explain") (codes "number" ∷ [])
     ∷ []
 

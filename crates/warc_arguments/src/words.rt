@@ -107,6 +107,10 @@ pub enum Command<'a> {
     Summary {
         archive: &'a str,
     },
+    /// What `list`, `fixity`, `check`, `summary` and `captures` give, in this order.
+    Survey {
+        archive: &'a str,
+    },
     /// What a number that the program prints means, and what to do.
     Explain {
         number: &'a str,
@@ -179,6 +183,7 @@ impl<'a> Command<'a> {
             Command::Pieces { archive } => archive,
             Command::Salvage { archive, all: _ } => archive,
             Command::Summary { archive } => archive,
+            Command::Survey { archive } => archive,
             Command::Explain { number: _ } => "",
         }
     }
@@ -560,6 +565,18 @@ Exit status: 0 written; 2 the archive is refused, and nothing was written;
 
 Example: warc summary examples/crawl.warc";
 
+const SURVEY_NOTES: &str =
+    "What 'list', 'fixity', 'check', 'summary' and 'captures' write, in this order,
+each after a line with its name: '# list', '# fixity', '# check', '# summary'
+and '# captures'. No line of theirs begins with '#'. The archive is read once
+for the first four; then 'captures' reads HTTP heads again, and the blocks of
+records in several segments. What is found changes no status.
+
+Exit status: 0 written; 2 the archive is refused, and nothing was written;
+3 see 'warc --help'. There is no status 1.
+
+Example: warc survey examples/crawl.warc";
+
 const EXPLAIN_NOTES: &str = "The number is one that the program prints: F1 to F14, why an archive is
 refused; G1 to G6, why segments don't join; P1 to P10, why there is no body;
 M1 to M5 and S1 to S7, why a record isn't made or split; E1 and E2, what isn't
@@ -733,7 +750,7 @@ const FIRST_COMMANDS: [Entry; 6] = [
 ];
 
 /// The other commands, in that order. Two tables are cheaper to prove than one.
-const OTHER_COMMANDS: [Entry; 12] = [
+const OTHER_COMMANDS: [Entry; 13] = [
     Entry {
         name: "rewrite",
         about: "Writes the archive in canonical form",
@@ -818,6 +835,14 @@ const OTHER_COMMANDS: [Entry; 12] = [
         name: "summary",
         about: "Prints how many records there are, of which types, and dates",
         notes: SUMMARY_NOTES,
+        words: &[ARCHIVE],
+        optional: &[],
+        flags: &[],
+    },
+    Entry {
+        name: "survey",
+        about: "Prints what list, fixity, check, summary and captures print",
+        notes: SURVEY_NOTES,
         words: &[ARCHIVE],
         optional: &[],
         flags: &[],
@@ -1046,6 +1071,7 @@ fn read_command<'a>(name: &str, texts: &ArgMatches<'a>) -> Command<'a>
             all: is_given(texts, "all"),
         },
         "summary" => Command::Summary { archive },
+        "survey" => Command::Survey { archive },
         "explain" => Command::Explain {
             number: text_at(texts, "number"),
         },

@@ -8,21 +8,18 @@ use Rattle.warc_frame.specs.Count.{raised}
 use Rattle.warc_frame.specs.Record.{Record}
 use Rattle.warc_frame.proofs.EffectLemmas.{fails_as, fails_more, fails_never}
 use Rattle.warc_frame.specs.Send.{WentOut}
-use Rattle.warc_frame.specs.Seen.{AsksOnly, Seen, SeenSource}
+use Rattle.warc_frame.specs.Seen.{Seen, SeenSource}
 use Rattle.warc_frame.specs.declared.fault.OutFault.{OutFault}
 use Rattle.warc_frame.specs.declared.fault.OutFault.TheVariants as outs
 use Rattle.warc_reading.specs.Opening.{Opens}
-use Rattle.std.proofs.lemmas.List.Elements.{All-append, All-cons, All-contains, All-nil}
 use Rattle.std.proofs.lemmas.Option.{slice_get_within}
-use Rattle.std.specs.List.{All, Contains, enumerate_from, flat_map}
-use Rattle.warc_record.specs.Kinds.{kind_named}
-use Rattle.warc_index.specs.Captures.{is_capture}
+use Rattle.std.specs.List.{Contains}
 use Rattle.warc_index.specs.Orders.{Indexes}
 use Rattle.warc_segment.specs.Kept.{Kept as Parts}
 use Rattle.warc_reading.specs.Archive.{IsArchiveOf, contents}
 use Rattle.warc_reading.specs.Indexed.{AreOf, indexed_record}
 use Rattle.warc_reading.specs.Row.{Placed, Row, row_of}
-use Rattle.warc.specs.Captures.{capture_positions, captures_text, position_if}
+use Rattle.warc.specs.Captures.{captures_text}
 use Rattle.warc.specs.Capturing.{AreFirstOutcomes, AreIndexedAt, AreOutcomes, SendsCaptures}
 use Rattle.warc.specs.Outcomes.{CaptureSeen}
 use Rattle.warc_arguments.specs.Digits.{uri_named}
@@ -33,6 +30,7 @@ use Rattle.warc_commands.specs.Uris.{IsStarved, UriEnds, uri_fault_text, uri_lis
 use Rattle.warc_arguments.specs.declared.digits.UriFault.{UriFault}
 use Rattle.warc_arguments.specs.declared.digits.UriFault.TheVariants.{Digits, Memory}
 use Rattle.warc_commands.proofs.ProgramLemmas.{has_failed, may_have_failed}
+use Rattle.warc.proofs.SurveyLemmas.{captures_inside}
 
 -- ---- how the lines end
 
@@ -102,21 +100,9 @@ all_outcomes records positions captures size are =
 
 -- ---- the captures that are listed
 
-position_low : (b : Bool) (p n : ℕ) → p < n → All (λ q. q < n) (if b then p ∷ [] else [])
-position_low true p n low = All-cons (λ q. q < n) p [] low (All-nil (λ q. q < n))
-position_low false p n low = All-nil (λ q. q < n)
-
-captures_low : (rows : List Row) (first n : ℕ) → first + length rows ≤ n → All (λ q. q < n) (flat_map (λ (e : ℕ × Row). position_if e.0 e.1.kind) (enumerate_from first rows))
-captures_low [] first n le = All-nil (λ q. q < n)
-captures_low (row ∷ rows) first n le =
-    All-append (λ q. q < n) (position_if first row.kind) (flat_map (λ (e : ℕ × Row). position_if e.0 e.1.kind) (enumerate_from (first + 1) rows))
-    (position_low (is_capture (kind_named row.kind)) first n (omega (arith, le))) (captures_low rows (first + 1) n (omega (arith, le)))
-
 -- each is a record's
 pub listed_inside : (uri : Option (List ℕ)) (records : List Placed) (positions : List ℕ) → AreListed uri records positions → (p : ℕ) → Contains positions p → p < length (contents records)
-listed_inside None records positions are p in_ =
-    let low = captures_low (map row_of records) 0 (length (map row_of records)) (omega arith) in
-    omega (arith, All-contains (λ q. q < length (map row_of records)) (capture_positions (map row_of records)) p low (subst (λ l. Contains l p) are in_), length-map records row_of, length-map records (λ (r : Placed). r.content))
+listed_inside None records positions are p in_ = captures_inside (map row_of records) records refl p (subst (λ l. Contains l p) are in_)
 listed_inside (Some uri) records positions are p in_ =
     let found = (are.each p).0 in_ in
     omega (arith, slice_get_within (map indexed_record records) p found.it found.there, length-map records indexed_record, length-map records (λ (r : Placed). r.content))

@@ -20,6 +20,7 @@ use Rattle.warc_commands.specs.Pieces.{PiecesEnd, SalvageAllEnds}
 use Rattle.warc_commands.specs.Selected.{SelectEnds}
 use Rattle.warc_commands.specs.Stored.{ReplayedAs, StoredEnds}
 use Rattle.warc_commands.specs.Summaries.{SummaryEnds}
+use Rattle.warc_commands.specs.Surveys.{SurveyEnds}
 use Rattle.warc_commands.specs.Uris.{UriEnds, uri_listed}
 use Rattle.warc_arguments.specs.declared.words.Command.{Command}
 use Rattle.warc_arguments.specs.declared.words.Command.TheVariants as command
@@ -51,6 +52,7 @@ Ends (command.Pieces archive) list old new status = PiecesEnd old new status
 Ends (command.Salvage archive false) list old new status = SalvageEnds old new status
 Ends (command.Salvage archive true) list old new status = SalvageAllEnds old new status
 Ends (command.Summary archive) list old new status = SummaryEnds old new status
+Ends (command.Survey archive) list old new status = SurveyEnds old new status
 Ends (command.Explain number) list old new status = ExplainEnds (explained number.now) old new status
 
 -- the exit statuses of a command
@@ -75,6 +77,7 @@ IsStatusOf (command.Fixity archive payload) status =
 IsStatusOf (command.Pieces archive) status = (status ≡ 0) ⊎ ((status ≡ 2) ⊎ (status ≡ 3))
 IsStatusOf (command.Salvage archive all) status = (status ≡ 0) ⊎ ((status ≡ 2) ⊎ (status ≡ 3))
 IsStatusOf (command.Summary archive) status = (status ≡ 0) ⊎ ((status ≡ 2) ⊎ (status ≡ 3))
+IsStatusOf (command.Survey archive) status = (status ≡ 0) ⊎ ((status ≡ 2) ⊎ (status ≡ 3))
 IsStatusOf (command.Explain number) status = (status ≡ 0) ⊎ (status ≡ 3)
 
 -- whether a command writes of an archive that it refuses: `pieces` and `salvage` alone do

@@ -17,5 +17,6 @@ pub mod Salvage
 pub mod Selected
 pub mod Stored
 pub mod Summaries
+pub mod Surveys
 pub mod Uris
 pub mod Walking

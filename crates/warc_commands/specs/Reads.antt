@@ -47,6 +47,7 @@ CommandReads (command.Select archive positions except false) old new = ReadsTime
 CommandReads (command.Select archive positions except true) old new = ReadsTimes 3 old new
 CommandReads (command.Write draft file) old new = ReadsForRecord old new
 CommandReads (command.Captures archive uri hex) old new = AsksNear old new
+CommandReads (command.Survey archive) old new = AsksNear old new
 CommandReads (command.Pieces archive) old new = AsksNear old new
 CommandReads (command.Salvage archive false) old new = ReadsTimes 2 old new
 CommandReads (command.Salvage archive true) old new = AsksNear old new

@@ -21,6 +21,7 @@ mod selecting;
 mod splitting;
 mod stored;
 mod summary;
+mod survey;
 mod uris;
 mod walking;
 

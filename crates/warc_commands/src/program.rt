@@ -25,6 +25,7 @@ use crate::selecting::{Wanted, select};
 use crate::splitting::split;
 use crate::stored::stored;
 use crate::summary::summary;
+use crate::survey::survey;
 use crate::uris::replay_named;
 use arrayvec::ArrayString;
 use itoa::Buffer;
@@ -171,6 +172,7 @@ where
             all: true,
         } => salvage_all(alloc, source, out, err),
         Command::Summary { archive: _ } => summary(alloc, source, out, err),
+        Command::Survey { archive: _ } => survey(alloc, source, out, err),
         Command::Explain { number } => explain(number, source, out, err),
     }
 }
