@@ -9,13 +9,15 @@ import json
 import os
 import socket
 import subprocess
+import tempfile
 import time
-from typing import Dict, IO, Iterator, List, Optional, Set, Tuple
+from typing import Dict, IO, Iterator, List, Optional, Sequence, Set, Tuple
 
 from .damaged import Pieces, TooSlow, counted_pieces, good_records, patience_for
 from .disk import Stamp, open_regular, open_stamp, reason_of, stamp_of, temporary_folder
 from .program import Settings, said
 from .states import READ
+from .survey import split_survey
 from .texts import counted
 from .unpack import PIECE, Damaged, pieces_of, unpacked
 
@@ -29,16 +31,15 @@ COMMANDS = {
     "payloads": ("fixity", "--payload"),
 }
 DONE = {
+    "survey": (0,),
     "list": (0,),
     "fixity": (0, 1, 4),
     "check": (0, 1),
     "summary": (0,),
-    "captures": (0, 1),
     "payloads": (0, 1, 4),
 }
-# These read at any offset, and so no pipe.
-SEEKING = ("captures", "payloads")
-NO_CAPTURES = "P1 NoCapture"
+# These read in order, and so also a pipe.
+IN_ORDER = ("list", "fixity", "check", "summary")
 # The digest of no bytes, which wget states in each revisit, though the revisit has a block.
 OF_NO_BYTES = b"sha1:3I42H3S6NNFQ2MSVX7XZKYAYSCX5QBYJ"
 
@@ -145,6 +146,16 @@ def summary_of(folder: str) -> Dict[str, str]:
     return {name: value for name, value in pairs}
 
 
+def failure_of(command: str, status: int, message: str) -> Optional[Tuple[str, str]]:
+    """The state of a file of which a command failed, and why it did."""
+    if status == 2:
+        return "refused", message
+    if status in DONE[command]:
+        return None
+    why = "ended by signal %d" % -status if status < 0 else message or "status %d" % status
+    return "failed", "%s: %s" % (command, why)
+
+
 class Job:
     """The commands over one file, with what they wrote in a folder."""
 
@@ -227,19 +238,47 @@ class Job:
         return "refused", words and "; of the good records: " + words
 
     def run_commands(self, source: Source) -> Tuple[str, str]:
-        """Runs the commands, up to one that fails. A pipe is read for those alone that read in order."""
-        for command, words in COMMANDS.items():
-            if command in SEEKING and source.seekable is None:
-                continue
+        """Runs the survey and the command for payloads, or over a pipe the commands that read in order, up to one that
+        fails."""
+        if source.seekable is None:
+            stopped = self.run_each(source, IN_ORDER)
+        else:
+            stopped = self.run_survey(source) or self.run_each(source, ("payloads",))
+        return stopped or self.verdict(source)
+
+    def run_each(self, source: Source, commands: Sequence[str]) -> Optional[Tuple[str, str]]:
+        """Runs commands, up to one that fails. Returns the state and the words of a failure."""
+        for command in commands:
             with open(os.path.join(self.folder, command), "wb") as out:
-                status, message = source.run([self.settings.warc, *words, "-"], out)
+                status, message = source.run([self.settings.warc, *COMMANDS[command], "-"], out)
             self.outcome.statuses[command] = status
-            if status == 2:
-                return "refused", message
-            if status not in DONE[command] or (command == "captures" and status and message != NO_CAPTURES):
-                why = "ended by signal %d" % -status if status < 0 else message or "status %d" % status
-                return "failed", "%s: %s" % (command, why)
-        return self.verdict(source)
+            stopped = failure_of(command, status, message)
+            if stopped:
+                return stopped
+        return None
+
+    def run_survey(self, source: Source) -> Optional[Tuple[str, str]]:
+        """Runs `survey`, and splits what it writes. If it fails, `list`, its first part, gets its status."""
+        with tempfile.TemporaryFile(dir=self.folder) as survey:
+            status, message = source.run([self.settings.warc, "survey", "-"], survey)
+            if status:
+                self.outcome.statuses["list"] = status
+                return failure_of("survey", status, message)
+            survey.seek(0)
+            try:
+                split_survey(survey, self.folder)
+            except ValueError as error:
+                return "failed", "survey: %s" % error
+        self.outcome.statuses.update(self.part_statuses())
+        return None
+
+    def part_statuses(self) -> Dict[str, int]:
+        """The status with which each command of the survey ends by itself."""
+        found = summary_of(self.folder)
+        lines = {name: os.path.getsize(os.path.join(self.folder, name)) > 0 for name in ("check", "captures")}
+        digests = 1 if int(found["bad"]) else 4 if int(found["unchecked"]) else 0
+        captures = 0 if lines["captures"] else 1
+        return {"list": 0, "fixity": digests, "check": int(lines["check"]), "summary": 0, "captures": captures}
 
     def verdict(self, source: Source) -> Tuple[str, str]:
         """The state of a file that could be read, and why it isn't better."""

@@ -246,18 +246,18 @@ def growing_files(trial: Trial, _archives: str) -> None:
     record = warc_reference.read_record(generate.archive(1), 0, 0).canonical()
     for name in ("whole.warc", "torn.warc"):
         put(os.path.join(folder, name), record * 20)
-    parts = {"whole": record, "list": record[:-9], "salvage": record[-9:]}
+    parts = {"whole": record, "survey": record[:-9], "salvage": record[-9:]}
     paths = {name: put(trial.path("parts", name), data) for name, data in parts.items()}
     append = (
         '[ "$1" = --version ] && exec {warc} --version\nfile=$(readlink /proc/self/fd/0)\n'
-        'case $file:$1 in\n*/whole.warc:*) cat {whole} >> "$file" ;;\n*/torn.warc:list) cat {list} >> "$file" ;;\n'
+        'case $file:$1 in\n*/whole.warc:*) cat {whole} >> "$file" ;;\n*/torn.warc:survey) cat {survey} >> "$file" ;;\n'
         '*/torn.warc:salvage) cat {salvage} >> "$file" ;;\nesac\nexec {warc} "$@"\n'
     )
     growing = put_script(trial.path("growing-warc"), append.format(warc=trial.warc, **paths))
     done = trial.run("grown", "run", "--warc", growing, folder)
     trial.judge(b"changing\t2\t" in done.stdout and done.returncode == 1, "they grow", done.stdout + done.stderr)
     sizes = {name: os.path.getsize(os.path.join(folder, name)) // len(record) for name in ("whole.warc", "torn.warc")}
-    trial.judge(sizes == {"whole.warc": 25, "torn.warc": 21}, "they have grown", sizes)
+    trial.judge(sizes == {"whole.warc": 22, "torn.warc": 21}, "they have grown", sizes)
     trial.judge(trial.count("grown", "records") == 0, "nothing of them is kept")
     done = trial.run("grown", "run")
     trial.judge(to_read(done) == 2, "afterwards", done.stderr)

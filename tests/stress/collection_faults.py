@@ -361,9 +361,9 @@ def no_regular_files(trial: Trial) -> None:
 def limited_time(trial: Trial) -> None:
     """The time holds for all that a job does: the commands together, and unpacking."""
     put(trial.path("archives", "a.warc"), page())
-    slow = put_script(trial.path("slow"), '[ "$1" = --version ] || sleep 1\nexec %s "$@"\n' % trial.warc)
+    slow = put_script(trial.path("slow"), '[ "$1" = --version ] || sleep 2\nexec %s "$@"\n' % trial.warc)
     trial.run("c", "run", "--warc", slow, "--timeout", "3", trial.path("archives"), seconds=60)
-    trial.judge(trial.states("c") == {"a.warc": "failed"}, "five seconds in three", trial.states("c"))
+    trial.judge(trial.states("c") == {"a.warc": "failed"}, "four seconds in three", trial.states("c"))
     trial.judge("took too long" in trial.detail("c"), "the words", trial.detail("c"))
     bomb = gzip.compress(bytes(1 << 27)) * 400
     put(trial.path("bombs", "bomb.warc.gz"), bomb)
@@ -1204,6 +1204,29 @@ def program_without_payloads(trial: Trial) -> None:
     trial.judge(rows == [(1,)] and trial.count("c", "records") == 1, "its rows", rows)
 
 
+def torn_surveys(trial: Trial) -> None:
+    """Where a line with the name of a part is missing or comes twice, the file is failed, and its rows stay."""
+    put(trial.path("archives", "a.warc"), page())
+    trial.run("c", "run", trial.path("archives"))
+    text = '[ "$1" = survey ] || exec %s "$@"\n%s "$@" | %s\n'
+    for place, (words, detail) in enumerate(TEARS_OF_SURVEYS.items()):
+        torn = put_script(trial.path("torn%d" % place), text % (trial.warc, trial.warc, words))
+        done = trial.run("c", "run", "--all", "--warc", torn)
+        trial.judge(done.returncode == 1 and trial.states("c") == {"a.warc": "failed"}, words, done.stdout)
+        trial.judge("survey: " + detail in trial.detail("c"), "the detail after " + words, trial.detail("c"))
+        trial.judge(trial.count("c", "records") == 1, "the rows after " + words)
+
+
+TEARS_OF_SURVEYS = {
+    "sed '/^# list/d'": "its first line isn't '# list'",
+    "sed '/^# check/d'": "there is no line '# check' before '# summary'",
+    "sed '/^# captures/,$d'": "there is no line '# captures'",
+    "sed 's/^# summary/# check/'": "there is a second line '# check'",
+    "sed 's/^# summary/# sums/'": "a line that begins with '#' names no part",
+    "head -c -1": "a line without an end",
+}
+
+
 WITHOUT_PAYLOADS = "DROP TABLE payloads; ALTER TABLE checks DROP COLUMN payloads_status;" + "".join(
     "ALTER TABLE %s DROP COLUMN payloads_%s;" % (table, name)
     for table in ("runs", "readings")
@@ -1304,7 +1327,7 @@ PARTS: List[Callable[[Trial], None]] = [
     *(stored_bodies, decoded_bodies, agreeing_files),
     *(damaged_files, joined_damaged_files, later_damage, damage_without_room, changed_damaged_file, many_damages),
     *(slow_pieces, unknown_pieces, catalogue_without_pieces),
-    *(payload_digests, payloads_without_room, program_without_payloads, catalogue_without_payloads),
+    *(payload_digests, payloads_without_room, program_without_payloads, catalogue_without_payloads, torn_surveys),
     *(odd_settings, many_users, old_runs, revisits_of_wget, moves, named_files, rot, older_catalogue),
 ]
 
