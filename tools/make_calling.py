@@ -20,11 +20,11 @@ from shared import TOP, matched, read
 
 # Beside each crate the functions of crates above it that its page shows as callers, by file.
 CALLERS: dict[str, tuple[str, tuple[str, ...]]] = {
-    "warc_field": ("warc_frame/src/reading.rt", ("read_fields",)),
+    "warc_field": ("warc_frame/src/front.rt", ("read_fields",)),
     "warc_lanes": ("warc_checking/src/batch.rt", ("judge_each",)),
-    "warc_value": ("warc_commands/src/extracting.rt", ("replay_date",)),
+    "warc_value": ("warc_commands/src/extract.rt", ("replay_date",)),
     "warc_frame": ("warc_digest/src/lib.rt", ("update_range",)),
-    "warc_record": ("warc_reading/src/rereading.rt", ("judged",)),
+    "warc_record": ("warc_reading/src/reread.rt", ("judged",)),
     "warc_quick": ("warc/src/replay/origin.rt", ("origin_in",)),
     "warc_fixity": ("warc/src/record/stated.rt", ("block_verdict",)),
     "warc_digest": ("warc/src/rewrite/segments.rt", ("put_segment",)),

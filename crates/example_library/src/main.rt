@@ -1,17 +1,17 @@
 //! What README.md and docs/LIBRARY.md show of the library, over small archives.
 #![tactic(auto)]
 
-mod describing;
-mod growing;
+mod description;
+mod growth;
 mod pieces;
-mod replaying;
+mod replays;
 
 use std::{fs, io};
 use warc::{Archive, MemSource, Moment, read_date};
 
 /// Prints how many records an archive has, what is listed and found, or why it isn't described.
 fn tell_described(rt: &HostRuntime, bytes: Vec<u8>) -> io::Result<()> {
-    match describing::describe(rt.alloc(), bytes) {
+    match description::describe(rt.alloc(), bytes) {
         Ok((count, lines, findings)) => {
             println!(rt; "records: {count}")?;
             print!(rt; "{}", str::from_utf8(&lines).unwrap_or(""))?;
@@ -33,7 +33,7 @@ fn tell_in_pieces(rt: &HostRuntime, bytes: &[u8]) -> io::Result<()> {
 /// Prints the lengths of the second block before an archive grows by it and after.
 fn tell_grown(rt: &HostRuntime, early: Vec<u8>, late: Vec<u8>) -> io::Result<()> {
     let id = b"urn:uuid:00000000-0000-4000-8000-000000000002";
-    match growing::lengths_of(rt.alloc(), early, late, id) {
+    match growth::lengths_of(rt.alloc(), early, late, id) {
         Ok((before, after)) => println!(rt; "length before: {before:?}, after: {after:?}"),
         Err(fault) => println!(rt; "not grown: {fault}"),
     }
@@ -45,8 +45,8 @@ fn tell_replayed(
     archive: &mut Archive<MemSource>,
     moment: &Moment,
 ) -> io::Result<()> {
-    replaying::print_rows(rt, archive)?;
-    match replaying::body(rt.alloc(), archive, b"http://a.example/x", moment) {
+    replays::print_rows(rt, archive)?;
+    match replays::body(rt.alloc(), archive, b"http://a.example/x", moment) {
         Ok(body) => println!(rt; "bytes of the body: {}", body.len()),
         Err(fault) => println!(rt; "no body: {fault}"),
     }

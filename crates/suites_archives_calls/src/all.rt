@@ -1,7 +1,7 @@
 //! All that an archive answers, as one text.
 
 use crate::calls::{checked, extracted, listed, replayed};
-use crate::telling::{add_check, add_done, add_extract, add_line, add_number, add_replay};
+use crate::text::{add_check, add_done, add_extract, add_line, add_number, add_replay};
 use std::alloc::{AllocError, Allocator, Global};
 use warc::{Archive, Listing};
 use warc_frame::{MemSink, Source};

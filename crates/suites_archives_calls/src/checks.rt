@@ -2,7 +2,7 @@
 
 use crate::calls::{checked, close, opened};
 use crate::sources::{broken, changing};
-use crate::telling::{add_check, add_line, add_number, add_text};
+use crate::text::{add_check, add_line, add_number, add_text};
 use std::alloc::{AllocError, Global};
 use suites_script::Case;
 use warc::Archive;

@@ -2,7 +2,7 @@
 
 use crate::calls::{close, opened};
 use crate::sources::source_of;
-use crate::telling::{add_number, add_text};
+use crate::text::{add_number, add_text};
 use std::alloc::{AllocError, Global};
 use suites_script::Case;
 use warc_frame::{Fault, MemSource};

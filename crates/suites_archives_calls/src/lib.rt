@@ -3,18 +3,18 @@
 #![tactic(auto)]
 
 mod all;
-mod asking;
 mod calls;
 mod checks;
-mod copying;
+mod copies;
 mod fronts;
-mod judging;
 mod kept;
 mod places;
+mod refused_checks;
 mod replays;
+mod single_calls;
 mod sources;
 mod subjects;
-mod telling;
+mod text;
 mod turns;
 mod verbs;
 
@@ -23,5 +23,5 @@ pub use calls::{close, opened, refused, replayed};
 pub use replays::{Asked, add_replayed};
 pub use sources::{broken, source_of};
 pub use subjects::Subject;
-pub use telling::{add_line, add_number, add_record, add_replay, add_text};
+pub use text::{add_line, add_number, add_record, add_replay, add_text};
 pub use verbs::{answer_by, answer_once};

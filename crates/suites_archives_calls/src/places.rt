@@ -2,7 +2,7 @@
 
 use crate::calls::located;
 use crate::replays::Asked;
-use crate::telling::{add_line, add_replay, add_text};
+use crate::text::{add_line, add_replay, add_text};
 use std::alloc::{AllocError, Allocator, Global};
 use std::fmt::Display;
 use suites_script::Case;

@@ -2,7 +2,7 @@
 
 use crate::calls::{close, extracted, listed, opened, replayed};
 use crate::sources::changing;
-use crate::telling::{add_extract, add_line, add_record, add_replay, add_text};
+use crate::text::{add_extract, add_line, add_record, add_replay, add_text};
 use std::alloc::{AllocError, Global};
 use suites_script::Case;
 use warc::Archive;

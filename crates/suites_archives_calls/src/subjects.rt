@@ -1,8 +1,8 @@
 //! What a case asks and lets grow: an archive or a listing.
 
 use crate::all::{all_of, all_of_listing};
-use crate::asking::{ask_archive, ask_listing};
 use crate::calls::{close, opened};
+use crate::single_calls::{ask_archive, ask_listing};
 use std::alloc::{AllocError, Allocator, Global};
 use suites_script::Case;
 use warc::{Archive, Listing};

@@ -2,7 +2,7 @@
 
 use crate::sources::{broken, source_of};
 use crate::subjects::Subject;
-use crate::telling::{add_number, add_text};
+use crate::text::{add_number, add_text};
 use std::alloc::{AllocError, Allocator, Global};
 use suites_script::Case;
 use warc_frame::{Fault, FaultKind, MemSink, MemSource, Source};

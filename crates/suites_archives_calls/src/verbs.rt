@@ -1,10 +1,10 @@
 //! What answers each verb of a case.
 
 use crate::checks::{add_check_changed, add_check_of, add_check_thrice, add_check_unread};
-use crate::copying::add_front;
+use crate::copies::add_front;
 use crate::fronts::add_fronts;
-use crate::judging::add_refusals;
 use crate::kept::{add_kept, add_kept_same};
+use crate::refused_checks::add_refusals;
 use crate::replays::{add_given_case, add_replay_case, add_unread};
 use crate::sources::source_of;
 use crate::turns::add_turns;

@@ -2,14 +2,14 @@
 #![tactic(auto)]
 
 mod chains;
-mod failing;
+mod failures;
 mod growth;
 mod listings;
 mod torn;
 mod wanted;
 
 use chains::{add_chain_answers, add_chain_case};
-use failing::{add_unkept, add_unread};
+use failures::{add_unkept, add_unread};
 use growth::add_growth_case;
 use listings::add_from_nothing;
 use std::alloc::{AllocError, Global};

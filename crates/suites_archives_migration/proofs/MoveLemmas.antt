@@ -16,7 +16,7 @@ use Rattle.warc_frame.specs.declared.fault.FaultKind.TheVariants.{Memory, Read}
 use Rattle.warc_record.specs.Good.{IsGood}
 use Rattle.warc_write.specs.Making.{made}
 use Rattle.warc_write.specs.Rendering.{AllGood, canonical_texts}
-use Rattle.warc_write.specs.declared.making.MakeFault.{MakeFault}
+use Rattle.warc_write.specs.declared.made.MakeFault.{MakeFault}
 use Rattle.warc_answer.specs.Answers.{Given, IsAnswer}
 use Rattle.warc_answer.specs.declared.answer.Reason.{Reason}
 use Rattle.warc_reading.specs.Archive.{AreGood, IsArchiveOf, IsFaultOf, contents}

@@ -2,5 +2,5 @@
 #![tactic(auto)]
 
 pub mod migration;
-mod opening;
+mod opened;
 pub mod round_trip;

@@ -6,7 +6,7 @@ ghost use Rattle.warc.specs.Forms.{texts_as};
 ghost use Rattle.warc.specs.declared.rewrite.forms.Form.TheVariants.{Converted};
 ghost use Rattle.suites_archives_migration.specs.Migration.{IsNotMoved, IsMigrationOf};
 
-use crate::opening::opened;
+use crate::opened::opened;
 use std::alloc::Global;
 use warc::laws::{migration_keeps_answers, no_fault_where_spelled, written_opens_as_same};
 use warc::{Archive, Form, Listing};

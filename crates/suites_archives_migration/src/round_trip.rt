@@ -6,7 +6,7 @@ ghost use Rattle.warc_write.specs.Rendering.{AllGood, canonical_texts};
 ghost use Rattle.warc_reading.specs.Archive.{IsArchiveOf, contents};
 ghost use Rattle.suites_archives_migration.specs.RoundTrip.{IsNotReadBack, plan_of_draft};
 
-use crate::opening::opened;
+use crate::opened::opened;
 use std::alloc::Global;
 use warc::laws::{no_fault_where_spelled, written_opens_as_same};
 use warc::{Archive, TakeFault};

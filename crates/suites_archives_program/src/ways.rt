@@ -6,7 +6,7 @@ use crate::lines::{tell, tell_count, tell_end};
 use crate::runs::{
     Asked, Ended, run_broken, run_changing, run_cut, run_endless, run_in_pieces, run_streamed,
 };
-use crate::salvaging::answer_salvaging;
+use crate::salvage_failures::answer_salvaging;
 use crate::turns::{tell_as_alone, tell_reads, tell_requests, tell_writes};
 use crate::usage::answer_usage;
 use crate::words::{is_command, line_of};

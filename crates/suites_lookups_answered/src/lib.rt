@@ -3,6 +3,6 @@
 
 mod replays;
 mod stored;
-mod telling;
+mod text;
 
 pub use replays::Replays;

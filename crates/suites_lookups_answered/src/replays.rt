@@ -1,7 +1,7 @@
 //! Replays of joined blocks: what is answered and what goes out, and what where a read or a write fails.
 
 use crate::stored::{Block, Named, stored};
-use crate::telling::{fault_of, tell};
+use crate::text::{fault_of, tell};
 use std::alloc::{AllocError, Global};
 use suites_script::{Case, Trial};
 use warc_answer::{Answer, Path, ReplayFault, is_http_response, replay_joined};

@@ -1,8 +1,8 @@
 //! Orders of entries, asked beside a plain reading of all entries.
 
+use crate::ascent::{Rising, Waiting};
 use crate::lists::list;
 use crate::plain::{holds, steps};
-use crate::rising::{Rising, Waiting};
 use crate::rows::{Row, drawn_lines, front, lines, rows};
 use std::alloc::{AllocError, Global};
 use suites_script::{Case, Refusal, Refusals, Trial};

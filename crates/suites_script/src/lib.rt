@@ -23,10 +23,10 @@ mod cases;
 mod chains;
 mod escapes;
 mod refusals;
-mod trying;
+mod report;
 
 pub use cases::Case;
 pub use chains::add_link;
 pub use escapes::add_unescaped;
 pub use refusals::{Refusal, Refusals};
-pub use trying::{Report, Trial, try_script};
+pub use report::{Report, Trial, try_script};

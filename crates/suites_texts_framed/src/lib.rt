@@ -4,15 +4,15 @@
 
 mod devices;
 mod faults;
-mod making;
+mod made;
 mod odd;
 mod pieces;
 mod ranges;
 mod records;
-mod splitting;
+mod split;
 mod steps;
 mod turns;
-mod writing;
+mod written;
 
 use std::alloc::{AllocError, Global};
 use suites_script::Case;
@@ -29,7 +29,7 @@ pub fn answer(
     let is_of_pieces = pieces::answer(alloc, case, kept, answer)?;
     let is_of_faults = faults::answer(alloc, case, answer)?;
     let is_of_devices = devices::answer(alloc, case, kept, answer)?;
-    let is_of_writing = writing::answer(alloc, case, kept, answer)?;
+    let is_of_writing = written::answer(alloc, case, kept, answer)?;
     let is_of_turns = turns::answer(alloc, case, kept, answer)?;
     let is_of_all = is_of_records || is_of_pieces || is_of_faults || is_of_devices;
     Ok(is_of_all || is_of_writing || is_of_turns)

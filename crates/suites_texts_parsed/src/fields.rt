@@ -2,7 +2,7 @@
 
 use crate::bytes::{Reading, keeps_name, keeps_value, tell_bytes};
 use crate::refusals::{Attempt, tell_refusals};
-use crate::telling::{tell_fields, tell_line, tell_parts, tell_sameness, text_of};
+use crate::text::{tell_fields, tell_line, tell_parts, tell_sameness, text_of};
 use crate::written::{tell_written, tell_written_twice};
 use std::alloc::{AllocError, Allocator, Global};
 use suites_script::Case;

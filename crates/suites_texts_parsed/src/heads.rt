@@ -2,7 +2,7 @@
 
 use crate::refusals::{Attempt, tell_refusals};
 use crate::said::{tell_optional, tell_reference, tell_segment, tell_typed};
-use crate::telling::{tell_line, tell_parts, tell_sameness, text_of};
+use crate::text::{tell_line, tell_parts, tell_sameness, text_of};
 use std::alloc::{AllocError, Allocator, Global};
 use std::cmp::Ordering;
 use suites_script::Case;

@@ -7,14 +7,14 @@ mod heads;
 mod payloads;
 mod refusals;
 mod said;
-mod telling;
+mod text;
 mod values;
 mod written;
 
 pub use refusals::{Attempt, tell_refusals};
 use std::alloc::{AllocError, Global};
 use suites_script::Case;
-pub use telling::{
+pub use text::{
     tell, tell_done, tell_fields, tell_line, tell_outcome, tell_parts, tell_text, text_of,
 };
 pub use written::{tell_written, tell_written_twice};

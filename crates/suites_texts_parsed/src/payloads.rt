@@ -1,6 +1,6 @@
 //! HTTP heads at the front of a block.
 
-use crate::telling::{tell_line, text_of};
+use crate::text::{tell_line, text_of};
 use std::alloc::{AllocError, Global};
 use suites_script::Case;
 use warc_payload::{MOST_HEAD_BYTES, body_start, front};

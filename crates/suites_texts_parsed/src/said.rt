@@ -1,6 +1,6 @@
 //! What a head that reads says.
 
-use crate::telling::{tell, tell_line, tell_parts};
+use crate::text::{tell, tell_line, tell_parts};
 use crate::values::{tell_moment, tell_wanted};
 use std::alloc::{AllocError, Global};
 use warc_record::{IdKey, NamedPair, Reference, Segment, SegmentNumber, Typed};

@@ -1,6 +1,6 @@
 //! Dates and digests.
 
-use crate::telling::{tell_hex, tell_line, tell_parts, text_of};
+use crate::text::{tell_hex, tell_line, tell_parts, text_of};
 use std::alloc::{AllocError, Global};
 use std::cmp::Ordering;
 use suites_script::Case;

@@ -14,8 +14,8 @@ use Rattle.warc_frame.proofs.LawLemmas.{same_out, same_staged, staged_went_out, 
 use Rattle.warc_frame.proofs.EffectLemmas.{fails_after, fails_as, fails_more, fails_never}
 use Rattle.warc_reading.proofs.HeadLemmas.{fails_ended}
 use Rattle.warc_reading.specs.Rereading.{ended_by}
-use Rattle.warc_reading.specs.declared.rereading.RereadFault.{RereadFault}
-use Rattle.warc_reading.specs.declared.rereading.RereadFault.TheVariants.{Read as NotRead, Memory as NoMemory}
+use Rattle.warc_reading.specs.declared.reread.RereadFault.{RereadFault}
+use Rattle.warc_reading.specs.declared.reread.RereadFault.TheVariants.{Read as NotRead, Memory as NoMemory}
 
 -- what the bytes of a source have to give
 abbrev pub Giving : Type 1

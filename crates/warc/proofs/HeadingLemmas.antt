@@ -3,7 +3,7 @@ use Rattle.std.proofs.Common.{◌≡◌, ◌≢◌, ℕ, List, [], ◌∷◌, So
 use Rattle.std.specs.List.{slice_get}
 use Rattle.std.specs.Option.{option_to_list}
 use Rattle.warc_frame.specs.Seen.{SeenSource}
-use Rattle.warc_frame.specs.declared.reading.Head.{Head}
+use Rattle.warc_frame.specs.declared.front.Head.{Head}
 use Rattle.warc_frame.specs.Effects.{FailsBy}
 use Rattle.warc_frame.proofs.EffectLemmas.{fails_more, fails_never}
 use Rattle.warc_reading.specs.Rereading.{HasHeadOf, ReadsHeads}

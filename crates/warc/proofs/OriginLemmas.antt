@@ -31,8 +31,8 @@ use Rattle.warc_reading.specs.Archive.{SpellsFrom, contents}
 use Rattle.warc_reading.specs.Indexed.{placed_record}
 use Rattle.warc_reading.specs.Rereading.{ReadsHeads, ended_by}
 use Rattle.warc_reading.specs.Row.{Placed, Row, row_of}
-use Rattle.warc_reading.specs.declared.rereading.RereadFault.{RereadFault}
-use Rattle.warc_reading.specs.declared.rereading.RereadFault.TheVariants.{Read, Memory}
+use Rattle.warc_reading.specs.declared.reread.RereadFault.{RereadFault}
+use Rattle.warc_reading.specs.declared.reread.RereadFault.TheVariants.{Read, Memory}
 use Rattle.warc.specs.Looking.{ArePlacesIn}
 use Rattle.warc.specs.Origins.{IsOriginAt, IsOriginBy, IsOriginFound, IsOriginOf, IsPlacedBy, IsUnjoined, place_in, placed_by}
 use Rattle.warc.specs.declared.replay.origin.Origin.{Origin}

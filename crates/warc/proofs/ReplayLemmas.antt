@@ -34,8 +34,8 @@ use Rattle.warc.specs.Looking.{ArePlacesFor}
 use Rattle.warc.specs.Replaying.{IsOfOrigin, joined_len, origin_joined, reads_of}
 use Rattle.warc_reading.specs.Row.{Placed, Row, row_of}
 use Rattle.warc_reading.specs.Placing.{IsPlacedIn}
-use Rattle.warc_reading.specs.declared.rereading.RereadFault.{RereadFault}
-use Rattle.warc_reading.specs.declared.rereading.RereadFault.TheVariants.{Read, Memory}
+use Rattle.warc_reading.specs.declared.reread.RereadFault.{RereadFault}
+use Rattle.warc_reading.specs.declared.reread.RereadFault.TheVariants.{Read, Memory}
 use Rattle.warc_reading.proofs.ReadLemmas.{one_row}
 use Rattle.warc_reading.proofs.StandLemmas.{written}
 

@@ -15,10 +15,10 @@ use Rattle.warc_write.specs.Rendering.{canonical_texts}
 use Rattle.warc_frame.specs.Reading.{◌>>=◌}
 use Rattle.warc_write.specs.Refusals.{checks}
 use Rattle.warc_write.specs.Splitting.{cut_of, part_of, piece_at, segment_count, segment_fields, segment_of, split_of, splittable}
-use Rattle.warc_write.specs.declared.splitting.SplitFault.{SplitFault}
-use Rattle.warc_write.specs.declared.splitting.SplitFault.TheVariants.{BadDigest}
-use Rattle.warc_write.specs.declared.splitting.Part.{Part}
-use Rattle.warc_frame.specs.declared.reading.Head.{Head}
+use Rattle.warc_write.specs.declared.segments.SplitFault.{SplitFault}
+use Rattle.warc_write.specs.declared.segments.SplitFault.TheVariants.{BadDigest}
+use Rattle.warc_write.specs.declared.segments.Part.{Part}
+use Rattle.warc_frame.specs.declared.front.Head.{Head}
 use Rattle.warc_frame.specs.declared.version.Version.{Version}
 use Rattle.warc_value.specs.Digests.{is_bad, verdict_of}
 use Rattle.warc_record.specs.Blocks.{has_bad_digest}

@@ -14,8 +14,8 @@ use Rattle.warc_reading.specs.Archive.{IsArchiveOf}
 use Rattle.warc_reading.specs.Indexed.{placed_record}
 use Rattle.warc_reading.specs.Rereading.{HasHeadOf, IsInHead, ReadsHeads, ended_by, heads_len}
 use Rattle.warc_reading.specs.Row.{Placed, Row, row_of}
-use Rattle.warc_reading.specs.declared.rereading.RereadFault.{RereadFault}
-use Rattle.warc_reading.specs.declared.rereading.RereadFault.TheVariants.{Read, Memory}
+use Rattle.warc_reading.specs.declared.reread.RereadFault.{RereadFault}
+use Rattle.warc_reading.specs.declared.reread.RereadFault.TheVariants.{Read, Memory}
 use Rattle.warc_reading.proofs.PlaceLemmas.{HeadsAreRead, checkable_archive}
 use Rattle.warc_reading.proofs.PlacedLemmas.{placed, take_one}
 use Rattle.warc_reading.proofs.ReadLemmas.{one_row}

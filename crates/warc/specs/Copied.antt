@@ -5,7 +5,7 @@ use Rattle.warc_field.specs.Area.{canonical_fields}
 use Rattle.warc_field.specs.Lines.{crlf}
 use Rattle.warc_frame.specs.Effects.{HasRange}
 use Rattle.warc_frame.specs.Record.{Record, head_text}
-use Rattle.warc_frame.specs.declared.reading.Head.{Head}
+use Rattle.warc_frame.specs.declared.front.Head.{Head}
 use Rattle.warc_reading.specs.Archive.{contents}
 use Rattle.warc_reading.specs.Rereading.{HasHead, IsHeadReadOf, IsHeadText}
 use Rattle.warc.specs.Forms.{read_len, split_len, split_text, text_as}

@@ -3,7 +3,7 @@ use Rattle.std.specs.Prelude.{◌≡◌, ◌↔◌, ℕ, ◌+◌, List, length, 
 use Rattle.std.specs.Option.{option_to_list}
 use Rattle.warc_frame.specs.Effects.{FailsBy}
 use Rattle.warc_frame.specs.Seen.{IfHeld, SeenSource}
-use Rattle.warc_frame.specs.declared.reading.Head.{Head}
+use Rattle.warc_frame.specs.declared.front.Head.{Head}
 use Rattle.warc_reading.specs.Rereading.{ReadsHeads}
 use Rattle.warc_reading.specs.Archive.{IsArchiveOf}
 use Rattle.warc_reading.specs.Row.{Placed, Row}

@@ -6,7 +6,7 @@ use Rattle.std.proofs.lemmas.List.{drop-drop, drop-take, take-append-drop, take-
 use Rattle.std.proofs.lemmas.List.Elements.{All-cons, All-nil, Contains-push_cases}
 use Rattle.std.proofs.lemmas.List.Sums.{sum_by-cons}
 use Rattle.httparse.specs.Grammar.{ResponseHead}
-use Rattle.warc_fixity.specs.declared.hashing.Digest.{Digest}
+use Rattle.warc_fixity.specs.declared.hasher.Digest.{Digest}
 use Rattle.warc_fixity.specs.declared.names.Algorithm.{Algorithm}
 use Rattle.warc_fixity.specs.Judged.{digest_seen}
 use Rattle.warc_fixity.specs.Stated.{block_hash}

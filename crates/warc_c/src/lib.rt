@@ -8,8 +8,8 @@
 mod bodies;
 mod heads;
 mod open;
+mod output;
 mod pieces;
 mod problems;
 mod rows;
 mod texts;
-mod writing;

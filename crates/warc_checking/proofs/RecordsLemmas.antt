@@ -17,8 +17,8 @@ use Rattle.warc_frame.proofs.EffectLemmas.{fails_never}
 use Rattle.warc_reading.specs.Archive.{contents}
 use Rattle.warc_reading.specs.Rereading.{AreCheckable, ended_by}
 use Rattle.warc_reading.specs.Row.{Placed, Row, row_of}
-use Rattle.warc_reading.specs.declared.rereading.RereadFault.{RereadFault}
-use Rattle.warc_reading.specs.declared.rereading.RereadFault.TheVariants.{Read, Memory}
+use Rattle.warc_reading.specs.declared.reread.RereadFault.{RereadFault}
+use Rattle.warc_reading.specs.declared.reread.RereadFault.TheVariants.{Read, Memory}
 use Rattle.warc_reading.proofs.PlacedLemmas.{below, content_at, take_one}
 use Rattle.warc_checking.specs.Checking.{Line, about_record, findings_at, findings_behind, findings_of_records, line_text}
 use Rattle.warc_checking.specs.Lines.{findings_of_first, first_text, record_lines, records_text}

@@ -10,8 +10,8 @@ use Rattle.warc_frame.specs.Record.{Record}
 use Rattle.warc_record.specs.Findings.{SeenFinding}
 use Rattle.warc_record.specs.Heads.{head_fault}
 use Rattle.warc_record.specs.Readings.{digest_wanted}
-use Rattle.warc_reading.specs.declared.rereading.RereadFault.{RereadFault}
-use Rattle.warc_reading.specs.declared.rereading.RereadFault.TheVariants.{Memory}
+use Rattle.warc_reading.specs.declared.reread.RereadFault.{RereadFault}
+use Rattle.warc_reading.specs.declared.reread.RereadFault.TheVariants.{Memory}
 use Rattle.warc_checking.specs.OwnFindings.{Found, all_of, shown_by, with_bad}
 
 -- what a record shows, once it is known whether its digest differs

@@ -13,9 +13,9 @@ ghost use Rattle.warc_checking.specs.Checks.{Checks};
 ghost use Rattle.warc_checking.specs.Judged.{own_findings};
 ghost use Rattle.warc_checking.specs.OwnFindings.{all_of};
 
-use crate::judging::Judging;
+use crate::findings::Judging;
+use crate::output::write_findings;
 use crate::own_findings::OwnFindings;
-use crate::writing::write_findings;
 use std::alloc::Allocator;
 use warc_digest::judge_range;
 use warc_field::Fields;

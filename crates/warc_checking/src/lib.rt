@@ -3,17 +3,17 @@
 
 mod batch;
 mod check;
-mod judging;
+mod findings;
 pub mod laws;
 mod lines;
+mod output;
 mod own_findings;
 mod unjudged;
 mod used_ids;
-mod writing;
 
 pub use batch::{Batch, BlockCheck, MAX_WAITING, PIECE_LEN};
 pub use check::{Rejudged, check_rows, judge_again};
-pub use judging::Judging;
+pub use findings::Judging;
+pub use output::{put_findings, write_findings};
 pub use own_findings::OwnFindings;
 pub use unjudged::mark_each;
-pub use writing::{put_findings, write_findings};

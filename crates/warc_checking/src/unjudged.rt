@@ -6,7 +6,7 @@ ghost use Rattle.warc_reading.specs.Row.{Placed};
 ghost use Rattle.warc_checking.specs.Judged.{own_findings};
 ghost use Rattle.warc_checking.specs.OwnFindings.{all_of, unjudged};
 
-use crate::judging::{add_plain_head, mark_last};
+use crate::findings::{add_plain_head, mark_last};
 use crate::own_findings::OwnFindings;
 use std::alloc::{AllocError, Allocator};
 use warc_quick::{QuickHead, QuickRecord};

@@ -8,8 +8,8 @@ use Rattle.warc_frame.specs.Record.{Record, max_block}
 use Rattle.warc_record.specs.Kinds.{kind_named}
 use Rattle.warc_record.specs.declared.types.Kind.{Kind}
 use Rattle.warc_write.specs.Making.{Makes, Plan}
-use Rattle.warc_write.specs.declared.making.MakeFault.{MakeFault}
-use Rattle.warc_write.specs.declared.making.MakeFault.TheVariants.{Date, Text, TooLong, Memory, Kind as BadKind}
+use Rattle.warc_write.specs.declared.made.MakeFault.{MakeFault}
+use Rattle.warc_write.specs.declared.made.MakeFault.TheVariants.{Date, Text, TooLong, Memory, Kind as BadKind}
 use Rattle.warc_commands.specs.Program.{plan_of}
 use Rattle.warc_arguments.specs.declared.words.Draft.{Draft}
 

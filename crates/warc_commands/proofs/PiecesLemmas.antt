@@ -18,8 +18,8 @@ use Rattle.warc_commands.specs.Devices.{devices}
 use Rattle.warc_commands.specs.Pieces.{ArePrinted, ArePrintedInPart, TellsEach, has_damage, piece_line, pieces_status, pieces_text, stop_lines}
 use Rattle.warc_commands.specs.Program.{Tells, told_line}
 use Rattle.warc_commands.specs.Walking.{HasEnded, HasPut, HasWalked, PutsPieces, SendsPieces}
-use Rattle.warc_commands.specs.declared.walking.Found.{Found}
-use Rattle.warc_commands.specs.declared.walking.Tally.{Tally}
+use Rattle.warc_commands.specs.declared.walk.Found.{Found}
+use Rattle.warc_commands.specs.declared.walk.Tally.{Tally}
 
 -- the line of one more piece
 pub text_more : (pieces : List Piece) (piece : Piece) → pieces_text (pieces ++ piece ∷ []) ≡ pieces_text pieces ++ piece_line piece

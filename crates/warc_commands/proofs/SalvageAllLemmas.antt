@@ -25,8 +25,8 @@ use Rattle.warc_commands.specs.Pieces.{AreSalvaged, AreSalvagedInPart, TellsEach
 use Rattle.warc_commands.specs.Program.{Tells, told_line}
 use Rattle.warc_commands.specs.Reads.{AsksNear}
 use Rattle.warc_commands.specs.Walking.{CopiesPieces, CopiesRuns, HasCopied, HasEnded, HasWalked, IsGoodOf, IsTallyOf, ReadsGood, SendsRuns}
-use Rattle.warc_commands.specs.declared.walking.Found.{Found}
-use Rattle.warc_commands.specs.declared.walking.Tally.{Tally}
+use Rattle.warc_commands.specs.declared.walk.Found.{Found}
+use Rattle.warc_commands.specs.declared.walk.Tally.{Tally}
 use Rattle.warc_commands.proofs.PiecesLemmas.{tells_as}
 use Rattle.warc_commands.proofs.ProgramLemmas.{has_failed, may_have_failed}
 use Rattle.warc_commands.proofs.WalkLemmas.{asks_both, last_within, walk_on}

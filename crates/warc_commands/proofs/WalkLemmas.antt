@@ -14,7 +14,7 @@ use Rattle.warc_pieces.proofs.PieceLemmas.{first_within, piece_within}
 use Rattle.warc_commands.specs.Pieces.{good_bytes_in, has_damage, records_in}
 use Rattle.warc_commands.specs.Reads.{AsksNear}
 use Rattle.warc_commands.specs.Walking.{HasEnded, HasWalked, IsTallyOf}
-use Rattle.warc_commands.specs.declared.walking.Tally.{Tally}
+use Rattle.warc_commands.specs.declared.walk.Tally.{Tally}
 
 -- ---- one more piece in the counts
 

@@ -22,7 +22,7 @@ use Rattle.warc.specs.Extracting.{IsExtract, extracted}
 use Rattle.warc.specs.Parts.{extract_result}
 use Rattle.warc_record.specs.Kinds.{kind_named}
 use Rattle.warc_write.specs.Making.{Makes, Plan, made, make_fault_text}
-use Rattle.warc_write.specs.declared.making.MakeFault.{MakeFault}
+use Rattle.warc_write.specs.declared.made.MakeFault.{MakeFault}
 use Rattle.warc.specs.Forms.{split_texts}
 use Rattle.warc.specs.TakeText.{extract_fault_text}
 use Rattle.warc.specs.declared.fault.ExtractFault.{ExtractFault}

@@ -14,10 +14,10 @@ use Rattle.warc_commands.specs.Devices.{devices}
 use Rattle.warc_commands.specs.Ends.{Ends, IsStatusOf, writes_front}
 use Rattle.warc_commands.specs.Program.{FaultEnds, IsNotRead, Tells, told_line}
 use Rattle.warc_commands.specs.Reads.{CommandReads}
-use Rattle.warc_commands.specs.declared.running.Place.{Place}
-use Rattle.warc_commands.specs.declared.running.Place.TheVariants.{File, Memory as InMemory, Input, Nowhere}
-use Rattle.warc_commands.specs.declared.running.RunSource.{RunSource}
-use Rattle.warc_commands.specs.declared.running.RunSource.TheVariants as sources
+use Rattle.warc_commands.specs.declared.runs.Place.{Place}
+use Rattle.warc_commands.specs.declared.runs.Place.TheVariants.{File, Memory as InMemory, Input, Nowhere}
+use Rattle.warc_commands.specs.declared.runs.RunSource.{RunSource}
+use Rattle.warc_commands.specs.declared.runs.RunSource.TheVariants as sources
 use Rattle.warc_arguments.specs.declared.words.Command.{Command}
 use Rattle.warc_arguments.specs.declared.words.CommandFault.{CommandFault}
 use Rattle.warc_arguments.specs.declared.words.Request.{Request}

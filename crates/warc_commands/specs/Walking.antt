@@ -18,10 +18,10 @@ use Rattle.warc_pieces.specs.declared.piece.Piece.{Piece}
 use Rattle.warc_pieces.specs.declared.piece.Piece.TheVariants.{Records, Damage}
 use Rattle.warc_commands.specs.Pieces.{AreRead, TellsEach, good_bytes_in, damage_lines, has_damage, pieces_text, records_in}
 use Rattle.warc_commands.specs.Reads.{AsksNear}
-use Rattle.warc_commands.specs.declared.walking.Found.{Found}
-use Rattle.warc_commands.specs.declared.walking.Step.{Step}
-use Rattle.warc_commands.specs.declared.walking.Step.TheVariants.{More, End}
-use Rattle.warc_commands.specs.declared.walking.Tally.{Tally}
+use Rattle.warc_commands.specs.declared.walk.Found.{Found}
+use Rattle.warc_commands.specs.declared.walk.Step.{Step}
+use Rattle.warc_commands.specs.declared.walk.Step.TheVariants.{More, End}
+use Rattle.warc_commands.specs.declared.walk.Tally.{Tally}
 
 -- how many records and bytes the runs among pieces have, and whether there is damage
 pub record IsTallyOf (tally : Tally) (pieces : List Piece) : Type 0 where

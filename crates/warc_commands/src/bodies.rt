@@ -6,7 +6,7 @@ ghost use Rattle.warc_commands.specs.Parts.{position_of};
 ghost use Rattle.warc_commands.specs.Program.{Tells};
 ghost use Rattle.warc_commands.specs.Reads.{ReadsTimes};
 
-use crate::extracting::tell_replay;
+use crate::extract::tell_replay;
 use crate::parts::position_of;
 use crate::program::{FAILED, FOUND, tell, tell_refusal};
 use std::alloc::Allocator;

@@ -3,30 +3,30 @@
 
 mod bodies;
 mod captures;
-mod checking;
-mod closed;
-mod explaining;
-mod extracting;
+mod check;
+mod explain;
+mod extract;
 mod fixity;
 mod lists;
-mod making;
 mod parts;
 mod payloads;
 mod pieces;
 mod program;
-mod running;
+mod runs;
 mod salvage;
-mod salvaging;
-mod selecting;
-mod splitting;
+mod salvage_all;
+mod select;
+mod select_closed;
+mod split;
 mod stored;
 mod summary;
 mod survey;
 mod uris;
-mod walking;
+mod walk;
+mod write;
 
 pub use program::{perform, refuse};
-pub use running::{RunSource, System, run};
+pub use runs::{RunSource, System, run};
 
 // What the calls above take, so that a caller needs this crate alone.
 pub use warc_arguments::{Command, CommandFault, Draft, EXPLANATIONS, Request, parse};

@@ -4,7 +4,7 @@ ghost use Rattle.warc_commands.specs.Devices.{devices};
 ghost use Rattle.warc_commands.specs.Parts.{PartEnds, position_of};
 ghost use Rattle.warc_commands.specs.Reads.{ReadsTimes};
 
-use crate::extracting::tell_extract;
+use crate::extract::tell_extract;
 use crate::program::{FAILED, tell, tell_refusal};
 use std::alloc::Allocator;
 use warc::{Listing, Part};

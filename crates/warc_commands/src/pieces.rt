@@ -9,7 +9,7 @@ ghost use Rattle.warc_commands.specs.Reads.{AsksNear};
 ghost use Rattle.warc_commands.specs.Walking.{PutsPieces, SendsPieces};
 
 use crate::program::{DONE, REFUSED, tell_cut, tell_refusal};
-use crate::walking::{Found, Step, Tally, next_step};
+use crate::walk::{Found, Step, Tally, next_step};
 use itoa::Buffer;
 use std::alloc::Allocator;
 use warc_frame::{Fault, OutBuffer, OutFault, SendFault, Sink, Source, put_all};

@@ -11,7 +11,7 @@ ghost use Rattle.warc_commands.specs.Reads.{ReadsTimes};
 ghost use Rattle.warc_commands.specs.Stored.{StoredEnds, StoredReplayEnds, coded_text, stored_line, stored_status};
 
 use crate::bodies::tell_body;
-use crate::extracting::{line_of_answer, tell_replay};
+use crate::extract::{line_of_answer, tell_replay};
 use crate::parts::position_of;
 use crate::program::{DONE, FAILED, tell, tell_refusal};
 use std::alloc::Allocator;

@@ -7,7 +7,7 @@ ghost use Rattle.warc_commands.specs.Stored.{ReplayedAs};
 ghost use Rattle.warc_commands.specs.Uris.{UriEnds, uri_fault_text};
 ghost use Rattle.warc_arguments.specs.Digits.{uri_named};
 
-use crate::extracting::{AsOf, replay};
+use crate::extract::{AsOf, replay};
 use crate::program::{FAILED, tell, tell_cut};
 use std::alloc::Allocator;
 use warc_arguments::{UriFault, bytes_of};

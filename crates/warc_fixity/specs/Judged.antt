@@ -9,12 +9,12 @@ use Rattle.warc_value.specs.declared.hash.Verdict.{Verdict}
 use Rattle.warc_value.specs.declared.hash.Verdict.TheVariants.{Good, Bad, Unchecked}
 use Rattle.warc_fixity.specs.declared.names.Algorithm.{Algorithm}
 use Rattle.warc_fixity.specs.declared.names.Algorithm.TheVariants as algorithm
-use Rattle.warc_fixity.specs.declared.hashing.Digest.{Digest}
-use Rattle.warc_fixity.specs.declared.hashing.Digest.TheVariants as digest
-use Rattle.warc_fixity.specs.declared.hashing.Hasher.{Hasher}
-use Rattle.warc_fixity.specs.declared.hashing.Hashing.{Hashing}
-use Rattle.warc_fixity.specs.declared.hashing.Hashing.TheVariants as hashing
-use Rattle.warc_fixity.specs.declared.judging.Judge.{Judge}
+use Rattle.warc_fixity.specs.declared.hasher.Digest.{Digest}
+use Rattle.warc_fixity.specs.declared.hasher.Digest.TheVariants as digest
+use Rattle.warc_fixity.specs.declared.hasher.Hasher.{Hasher}
+use Rattle.warc_fixity.specs.declared.hasher.Hashing.{Hashing}
+use Rattle.warc_fixity.specs.declared.hasher.Hashing.TheVariants as hashing
+use Rattle.warc_fixity.specs.declared.judge.Judge.{Judge}
 use Rattle.warc_fixity.specs.Stated.{block_hash}
 use Rattle.warc_fixity.specs.Decoded.{stated_digest}
 

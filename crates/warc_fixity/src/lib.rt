@@ -2,13 +2,13 @@
 #![tactic(auto)]
 
 mod encoded;
-mod hashing;
-mod judging;
+mod hasher;
+mod judge;
 pub mod laws;
 mod names;
 #[cfg(test)]
 mod tests;
 
-pub use hashing::{Digest, Hasher};
-pub use judging::{Judge, stated_verdict};
+pub use hasher::{Digest, Hasher};
+pub use judge::{Judge, stated_verdict};
 pub use names::Algorithm;

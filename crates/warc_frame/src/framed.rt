@@ -4,7 +4,7 @@ ghost use Rattle.warc_frame.specs.Record.{Record, Frames, IsFramed, framed_of, f
 ghost use Rattle.warc_field.specs.Area.{canonical_fields};
 
 use crate::fault::{FaultKind, Mandatory};
-use crate::reading::{fits_head, read_block_len};
+use crate::front::{fits_head, read_block_len};
 use crate::version::Version;
 use std::alloc::{Allocator, Global};
 use std::fmt;

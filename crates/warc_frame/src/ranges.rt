@@ -3,11 +3,11 @@ ghost use Rattle.std.specs.Prelude.{◌≡◌, ◌+◌, ◌^◌, ◌<◌, ◌≤
 ghost use Rattle.warc_frame.specs.Effects.{Emits, FailsBy, IsOfDevice, IsRange, ReadsRange, read_result};
 ghost use Rattle.warc_frame.specs.Seen.{IfHeld};
 
+use crate::buffer::OutBuffer;
 use crate::fault::OutFault;
 use crate::laws::{staged_went_out, went_out_of_longer};
 use crate::sink::Sink;
 use crate::source::{ReadFault, Source};
-use crate::staging::OutBuffer;
 
 /// The length of the pieces in which a part of a source is copied.
 pub const PIECE: usize = 8_192;

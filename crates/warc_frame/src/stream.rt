@@ -10,7 +10,7 @@ ghost use Rattle.warc_frame.specs.Record.{max_archive};
 
 use crate::ends::{closes_on, find_end, version_across};
 use crate::fault::{Fault, FaultKind};
-use crate::reading::{MAX_HEAD, read_fields};
+use crate::front::{MAX_HEAD, read_fields};
 use crate::version::Version;
 use std::alloc::{Allocator, Global};
 use std::marker::Model;

@@ -5,7 +5,7 @@ use Rattle.warc_index.specs.Captures.{Indexed}
 use Rattle.warc_index.specs.Linked.{link_of}
 use Rattle.warc_index.specs.Links.{link_seen}
 use Rattle.warc_index.specs.Orders.{capture_entry, id_entry}
-use Rattle.warc_index.specs.declared.adding.Kept.{Kept}
+use Rattle.warc_index.specs.declared.addition.Kept.{Kept}
 use Rattle.warc_index.specs.declared.key.Key.{Key}
 
 -- the entry of a position

@@ -16,7 +16,7 @@ ghost use Rattle.warc_index.specs.Linked.{instant_mark, revisit_link};
 ghost use Rattle.warc_index.specs.Orders.{IsIndexOf, IsBelow, id_entry, capture_entry, text_bytes};
 ghost use Rattle.warc_index.specs.Orders.{step_of};
 
-use crate::adding::{Kept, add_record, kept_of, truncate_all};
+use crate::addition::{Kept, add_record, kept_of, truncate_all};
 use crate::key::OTHERS;
 use crate::link::{FIRST, Link, Links, Role};
 use crate::linked::mark_at;

@@ -1,7 +1,7 @@
 //! Which capture of a target answers at a moment, and which record a revisit leads to.
 #![tactic(auto)]
 
-mod adding;
+mod addition;
 mod index;
 mod key;
 pub mod laws;

@@ -18,8 +18,8 @@ use Rattle.warc_answer.specs.declared.answer.Reason.TheVariants.{NotFound, Segme
 use Rattle.warc_answer.specs.declared.answer.ReplayFault.{ReplayFault}
 use Rattle.warc_answer.specs.declared.answer.ReplayFault.TheVariants as replays
 use Rattle.warc_write.specs.Making.{make_fault_text}
-use Rattle.warc_write.specs.declared.making.MakeFault.{MakeFault}
-use Rattle.warc_write.specs.declared.making.MakeFault.TheVariants as makes
+use Rattle.warc_write.specs.declared.made.MakeFault.{MakeFault}
+use Rattle.warc_write.specs.declared.made.MakeFault.TheVariants as makes
 use Rattle.warc.specs.declared.fault.BodyFault.{BodyFault}
 use Rattle.warc.specs.declared.fault.BodyFault.TheVariants as bodies
 use Rattle.warc.specs.declared.fault.TakeFault.{TakeFault}

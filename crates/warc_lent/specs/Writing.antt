@@ -14,8 +14,8 @@ use Rattle.warc_reading.specs.Archive.{IsArchiveOf, contents}
 use Rattle.warc_reading.specs.Row.{Row}
 use Rattle.warc_segment.specs.Joined.{ReadRecord}
 use Rattle.warc_write.specs.Making.{Plan, made, planned}
-use Rattle.warc_write.specs.declared.making.MakeFault.{MakeFault}
-use Rattle.warc_write.specs.declared.making.MakeFault.TheVariants.{Memory as NoMemory}
+use Rattle.warc_write.specs.declared.made.MakeFault.{MakeFault}
+use Rattle.warc_write.specs.declared.made.MakeFault.TheVariants.{Memory as NoMemory}
 use Rattle.warc.specs.Closing.{AreWithNeeded, AreWithout}
 use Rattle.warc.specs.Closure.{records_read}
 use Rattle.warc.specs.Selecting.{AreOthers, ArePositions, selected_text}

@@ -6,21 +6,22 @@ mod bodies;
 mod buffers;
 mod captures;
 mod fronts;
-mod growing;
+mod growth;
 mod heads;
+mod output;
 mod pieces;
 mod problem;
 mod rows;
 mod texts;
 mod verdicts;
-mod writing;
 
 pub use bodies::{AnswerNumbers, SpanNumbers, put_body, put_replay, status_number};
 pub use buffers::{put_positions, put_text, put_text_at};
 pub use captures::put_captures;
 pub use fronts::good_front;
-pub use growing::{begins_alike, grow_lent};
+pub use growth::{begins_alike, grow_lent};
 pub use heads::{FieldNumbers, HttpFieldNumbers, HttpNumbers, put_fields, put_http};
+pub use output::{make_lent, select_closed_lent, select_lent, split_lent, write_lent};
 pub use pieces::{PieceNumbers, put_pieces};
 pub use problem::{Numbers, Problem};
 pub use rows::{
@@ -31,4 +32,3 @@ pub use texts::{
     put_fixity, put_list, put_problem,
 };
 pub use verdicts::{payload_verdict_at, stated_verdict_at};
-pub use writing::{make_lent, select_closed_lent, select_lent, split_lent, write_lent};

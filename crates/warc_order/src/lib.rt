@@ -25,27 +25,27 @@ ghost use Rattle.std.specs.List.{sum_by};
 ghost use Rattle.warc_order.specs.Entries.{entry_of, entry_at, IsUpTo, IsFrom, IsAfter, IsBefore, IsFirst, IsLast};
 ghost use Rattle.warc_order.specs.Entries.{IsNone, HasPosition, IsTextAt};
 
-mod adding;
 mod block;
 mod column;
 mod compare;
 mod entries;
+mod entry_list;
 mod hash;
 mod lookup;
 mod mark;
 mod ranked;
 mod slot;
-mod waiting;
+mod unsorted;
 
-pub use adding::{EntryList, HasEntries};
 pub use column::Column;
 pub use entries::Entries;
+pub use entry_list::{EntryList, HasEntries};
 pub use lookup::narrow;
 pub use mark::Mark;
 use ranked::{Place, Ranked};
 use std::alloc::{AllocError, Allocator, Global};
 use std::marker::Model;
-use waiting::Waiting;
+use unsorted::Waiting;
 
 /// An entry that a look-up found: the number of entries that were added before it. It also keeps the entry's place
 /// in the order, so that a step from it needs no search.

@@ -14,7 +14,7 @@ use crate::hash::hash_of;
 use crate::mark::Mark;
 use crate::ranked::{Place, Ranked, Standing};
 use crate::slot::Slot;
-use crate::waiting::Waiting;
+use crate::unsorted::Waiting;
 use std::alloc::{AllocError, Allocator};
 
 /// A number as 4 bytes. `Err` if it is 2^32 or more: no order is that long.

@@ -9,7 +9,7 @@ ghost use Rattle.warc_lent.specs.Bodies.{PutsAt, PutsReplay};
 ghost use Rattle.warc_page.specs.Shown.{EndsBy, IsReply, PutsChosen, Replies};
 
 use crate::archive::PageArchive;
-use crate::ending::{end_by, end_with};
+use crate::ends::{end_by, end_with};
 use crate::shapes::PageOutcome;
 use std::alloc::Allocator;
 use warc::Archive;

@@ -2,7 +2,7 @@
 ghost use Rattle.std.specs.Prelude.{◌≡◌};
 ghost use Rattle.warc_page.specs.Shown.{PutsFindingLines};
 
-use crate::ending::{end_by, ended};
+use crate::ends::{end_by, ended};
 use crate::shapes::{DONE, PageOutcome};
 use warc_heap::{Heap, Memory};
 use warc_lent::put_findings;

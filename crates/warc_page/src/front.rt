@@ -6,7 +6,7 @@ ghost use Rattle.warc_lent.specs.Buffers.{HoldsFront};
 ghost use Rattle.warc_lent.specs.Rows.{row_numbers, row_texts};
 ghost use Rattle.warc_page.specs.Shown.{EndsFront, PutsFront};
 
-use crate::ending::{end_by, ended};
+use crate::ends::{end_by, ended};
 use crate::shapes::{DONE, PageFront, PageOutcome};
 use std::alloc::Allocator;
 use warc::{Listing, open_front};

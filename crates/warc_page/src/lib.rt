@@ -7,19 +7,19 @@
 
 mod answers;
 mod archive;
-mod ending;
+mod ends;
 mod findings;
 mod front;
-mod judging;
 mod open;
 mod pieces;
 mod shapes;
+mod verdicts;
 
 pub use answers::{page_body, page_replay};
 pub use archive::{Open, PageArchive};
 pub use findings::page_findings;
 pub use front::page_front;
-pub use judging::page_verdict;
 pub use open::page_open;
 pub use pieces::{page_pieces, page_problem};
 pub use shapes::{PageFront, PageOutcome};
+pub use verdicts::page_verdict;

@@ -5,7 +5,7 @@ ghost use Rattle.warc_lent.specs.Texts.{IsRefusedFor};
 ghost use Rattle.warc_page.specs.Shown.{EndsOpened};
 
 use crate::archive::{Open, PageArchive};
-use crate::ending::{end_by, ended};
+use crate::ends::{end_by, ended};
 use crate::shapes::{DONE, MEMORY, PageOutcome};
 use warc::Archive;
 use warc_frame::SliceSource;

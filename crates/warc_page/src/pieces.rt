@@ -4,7 +4,7 @@ ghost use Rattle.warc_lent.specs.Pieces.{PutsPieceNumbers};
 ghost use Rattle.warc_lent.specs.Texts.{IsProblemPut};
 ghost use Rattle.warc_page.specs.Shown.{Replies};
 
-use crate::ending::end_with;
+use crate::ends::end_with;
 use crate::shapes::PageOutcome;
 use warc_heap::{Heap, Memory};
 use warc_lent::{Numbers, PieceNumbers, put_pieces, put_problem};

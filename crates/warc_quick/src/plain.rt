@@ -5,7 +5,7 @@ ghost use Rattle.warc_frame.specs.Record.{max_block};
 ghost use Rattle.warc_quick.specs.Quick.{IsQuickHead, IsQuickRecord};
 
 use crate::head::{QuickHead, quick_head};
-use crate::judging::judged_head;
+use crate::record_findings::judged_head;
 
 /// What closes a record.
 const CLOSING: &[u8] = b"\r\n\r\n";

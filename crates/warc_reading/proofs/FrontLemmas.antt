@@ -20,7 +20,7 @@ use Rattle.warc_reading.specs.Archive.{contents}
 use Rattle.warc_reading.specs.Fronts.{BeginsWithNone, IsLongestFront, reach_by, reach_of}
 use Rattle.warc_reading.specs.Row.{Placed, Row}
 use Rattle.warc_reading.specs.Stream.{HasRead, Stops}
-use Rattle.warc_reading.specs.declared.reading.Reading.{Reading}
+use Rattle.warc_reading.specs.declared.stream.Reading.{Reading}
 use Rattle.warc_reading.proofs.GoodLemmas.{are_good}
 use Rattle.warc_reading.proofs.KindLemmas.{head_kind, is_of_head, limited_kind}
 use Rattle.warc_reading.proofs.StreamLemmas.{same_front, spells_all}

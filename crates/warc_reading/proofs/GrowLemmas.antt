@@ -24,8 +24,8 @@ use Rattle.warc_reading.specs.Growing.{Grows, IsDeviceFault, grown}
 use Rattle.warc_reading.specs.Opening.{Opens, OpensFrom, faults_after, without_source}
 use Rattle.warc_reading.specs.Row.{Placed, Row, row_of}
 use Rattle.warc_reading.specs.Stream.{BeginsSince, Extends, Follows, HasGiven, HasGivenFrom, HasRead, IsKeptOf, IsLeft, Matches, Since, Stands, StaysRefused, Stops, WantsSince}
-use Rattle.warc_reading.specs.declared.reading.Current.{Current}
-use Rattle.warc_reading.specs.declared.reading.Reading.{Reading}
+use Rattle.warc_reading.specs.declared.stream.Current.{Current}
+use Rattle.warc_reading.specs.declared.stream.Reading.{Reading}
 use Rattle.warc_reading.proofs.FrontLemmas.{longest_cut, none_read}
 use Rattle.warc_reading.proofs.GoodLemmas.{accepted}
 use Rattle.warc_reading.proofs.IndexedLemmas.{opens_with, refuses_with}

@@ -22,7 +22,7 @@ use Rattle.warc_reading.specs.Row.{Placed}
 use Rattle.warc_frame.specs.Seen.{AsksOnly, SeenSource}
 use Rattle.warc_frame.specs.Ranges.{IsReadAt}
 use Rattle.warc_reading.specs.Stream.{BeginsSince, HasGiven, HasRead, StaysBy, StaysRefused, WantsSince}
-use Rattle.warc_reading.specs.declared.reading.Reading.{Reading}
+use Rattle.warc_reading.specs.declared.stream.Reading.{Reading}
 use Rattle.warc_reading.proofs.RefusalLemmas.{stays_more, stays_not_read}
 use Rattle.warc_reading.proofs.SourceLemmas.{not_raised, raised_by_one}
 use Rattle.warc_reading.proofs.StreamLemmas.{accepts_told, same_front}

@@ -17,8 +17,8 @@ use Rattle.warc_reading.specs.Archive.{SpellsFrom, contents}
 use Rattle.warc_reading.specs.Row.{Placed, Row, row_of}
 use Rattle.warc_reading.specs.Judging.{IsNextPlain}
 use Rattle.warc_reading.specs.Stream.{IsBetween, IsKeptOf, Matches, Stands, plain_row}
-use Rattle.warc_reading.specs.declared.reading.Current.{Current}
-use Rattle.warc_reading.specs.declared.reading.Reading.{Reading}
+use Rattle.warc_reading.specs.declared.stream.Current.{Current}
+use Rattle.warc_reading.specs.declared.stream.Reading.{Reading}
 use Rattle.warc_reading.proofs.GoodLemmas.{accepted, are_good}
 use Rattle.warc_reading.proofs.GrowLemmas.{at_behind, kept_stands}
 use Rattle.warc_reading.proofs.StreamLemmas.{accepted_more, kept_whole, spells_all, spells_more}

@@ -16,7 +16,7 @@ use Rattle.warc_record.specs.Heads.{head_fault}
 use Rattle.warc_reading.specs.Archive.{IsFaultOf, IsRecordEnd}
 use Rattle.warc_reading.specs.Row.{Placed}
 use Rattle.warc_reading.specs.Stream.{HasRead, StaysBy, StaysRefused}
-use Rattle.warc_reading.specs.declared.reading.Reading.{Reading}
+use Rattle.warc_reading.specs.declared.stream.Reading.{Reading}
 use Rattle.warc_reading.proofs.GoodLemmas.{are_good}
 use Rattle.warc_reading.proofs.KindLemmas.{head_kind, is_of_head, limited_kind}
 use Rattle.warc_reading.proofs.StreamLemmas.{accepts_told, same_front, spells_all}

@@ -16,8 +16,8 @@ use Rattle.warc_record.specs.Heads.{head_fault}
 use Rattle.warc_reading.specs.Judging.{IsNextOf}
 use Rattle.warc_reading.specs.Stream.{HasRead, IsHead, Stands, StaysRefused, Stops, row_by}
 use Rattle.warc_reading.specs.Row.{Placed, Row}
-use Rattle.warc_reading.specs.declared.reading.Current.{Current}
-use Rattle.warc_reading.specs.declared.reading.Reading.{Reading}
+use Rattle.warc_reading.specs.declared.stream.Current.{Current}
+use Rattle.warc_reading.specs.declared.stream.Reading.{Reading}
 use Rattle.warc_reading.proofs.StreamLemmas.{TakesPart, end_kept_by, head_kept, more_kept, part_kept}
 use Rattle.warc_reading.proofs.FrontLemmas.{head_stops_at, stops_more}
 use Rattle.warc_reading.proofs.RefusalLemmas.{head_refused, memory_at, stays_more}

@@ -15,8 +15,8 @@ use Rattle.warc_reading.specs.Judging.{IsNextOf}
 use Rattle.warc_reading.specs.Row.{Placed, row_of}
 use Rattle.warc_reading.specs.Stream.{HasRead, IsCurrent, IsHead, IsKeptOf, Matches, row_by}
 use Rattle.warc_reading.proofs.GoodLemmas.{are_good}
-use Rattle.warc_reading.specs.declared.reading.Current.{Current}
-use Rattle.warc_reading.specs.declared.reading.Reading.{Reading}
+use Rattle.warc_reading.specs.declared.stream.Current.{Current}
+use Rattle.warc_reading.specs.declared.stream.Reading.{Reading}
 
 -- the records themselves are spelled
 pub spells_all : (q : ℕ) (ps : List Placed) (text : List ℕ) → SpellsFrom q ps text → SpellsAll (contents ps) text

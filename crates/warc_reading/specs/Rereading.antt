@@ -11,13 +11,13 @@ use Rattle.warc_frame.specs.declared.fault.FaultKind.{FaultKind}
 use Rattle.warc_frame.specs.declared.fault.FaultKind.TheVariants.{Memory as NoMemory}
 use Rattle.warc_frame.specs.declared.fault.OutFault.{OutFault}
 use Rattle.warc_frame.specs.declared.fault.OutFault.TheVariants.{Read as ReadFailed, Memory as OutOfMemory}
-use Rattle.warc_frame.specs.declared.reading.Head.{Head}
+use Rattle.warc_frame.specs.declared.front.Head.{Head}
 use Rattle.warc_frame.specs.declared.version.Version.{Version}
 use Rattle.warc_record.specs.Heads.{head_fault}
 use Rattle.warc_reading.specs.Placing.{ArePlacedIn, IsInAnyRow, IsPlacedIn}
 use Rattle.warc_reading.specs.Row.{Placed, Row, row_of}
-use Rattle.warc_reading.specs.declared.rereading.RereadFault.{RereadFault}
-use Rattle.warc_reading.specs.declared.rereading.RereadFault.TheVariants.{Read, Memory}
+use Rattle.warc_reading.specs.declared.reread.RereadFault.{RereadFault}
+use Rattle.warc_reading.specs.declared.reread.RereadFault.TheVariants.{Read, Memory}
 
 -- the record's head is in the bytes where its place says, and it is good
 pub record HasHead (bytes : List ℕ) (p : Placed) : Type 0 where

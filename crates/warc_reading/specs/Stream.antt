@@ -16,8 +16,8 @@ use Rattle.warc_reading.specs.Archive.{IsArchiveOf, SpellsFrom, contents, IsFaul
 use Rattle.warc_reading.specs.Fronts.{IsLongestFront, reach_of}
 use Rattle.warc_reading.specs.Row.{Placed, Row, row_of}
 use Rattle.warc_frame.specs.Seen.{AsksOnly, IfHeld, SeenSource}
-use Rattle.warc_reading.specs.declared.reading.Current.{Current}
-use Rattle.warc_reading.specs.declared.reading.Reading.{Reading}
+use Rattle.warc_reading.specs.declared.stream.Current.{Current}
+use Rattle.warc_reading.specs.declared.stream.Reading.{Reading}
 
 -- what is kept of a good head
 pub record IsHead {A B : Type 0} (fields : List Pair) (c : Current A B) : Type 0 where

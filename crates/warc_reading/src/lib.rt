@@ -3,23 +3,23 @@
 #![tactic(auto)]
 
 mod block;
-mod iterating;
-mod keeping;
+mod kept;
 mod opened;
 mod pair;
-mod reading;
-mod rereading;
+mod reread;
+mod row_iter;
 mod rows;
 mod spare_fields;
+mod stream;
 
 pub use block::{BlockDigest, NoBlock, TakeBlock};
-pub use iterating::RowIter;
-pub use keeping::{Keep, Lookup, RecordLookup, RowsAlone, UnorderedLookup};
+pub use kept::{Keep, Lookup, RecordLookup, RowsAlone, UnorderedLookup};
 pub use opened::Opened;
 pub use pair::KeptPair;
-pub use reading::{read_front, read_on};
-pub use rereading::{
+pub use reread::{
     RereadFault, buffer_for, good_head_in, head_buffer, head_in, reread_good, reread_head,
     reread_text,
 };
+pub use row_iter::RowIter;
 pub use rows::{Row, Rows, rows_fit};
+pub use stream::{read_front, read_on};

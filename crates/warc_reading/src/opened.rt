@@ -4,9 +4,9 @@ ghost use Rattle.warc_reading.specs.Growing.{Grows};
 ghost use Rattle.warc_reading.specs.Opening.{Opens, source_left, without_source};
 ghost use Rattle.warc_reading.specs.Stream.{IsKeptOf};
 
-use crate::keeping::Keep;
-use crate::reading::read_on;
+use crate::kept::Keep;
 use crate::rows::Rows;
+use crate::stream::read_on;
 use std::alloc::{Allocator, Global};
 use std::mem;
 use warc_frame::{Fault, Source};

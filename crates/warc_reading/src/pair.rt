@@ -2,7 +2,7 @@
 ghost use Rattle.std.specs.Prelude.{◌&&◌};
 
 use crate::block::NoBlock;
-use crate::keeping::Keep;
+use crate::kept::Keep;
 use std::alloc::{AllocError, Allocator};
 use warc_quick::{QuickHead, QuickRecord};
 use warc_record::GoodHead;

@@ -17,7 +17,7 @@ use denote.Triple.Statement.{Contract}
 use denote.Triple.Spec.{triple_of}
 use base.Fml.{flft}
 use Rattle.std.specs.contracts.cell.Cell as CE
-use Rattle.warc_vectors.specs.contracts.refusing.is_refused as TK
+use Rattle.warc_vectors.specs.contracts.allocator.is_refused as TK
 
 abbrev Calls : RattleType
 Calls = CE.the_row u64

@@ -17,8 +17,8 @@ use Rattle.warc_write.specs.Splitting.{UnlessMemory, first_fields, has_room, kep
 use Rattle.warc_write.specs.Splitting.{origin_fields, part_of, piece_at, segment_fields, segment_of}
 use Rattle.warc_write.specs.Splitting.{split_of, splittable, total_at, total_fields}
 use Rattle.warc_write.specs.Written.{digest_text}
-use Rattle.warc_write.specs.declared.splitting.Part.{Part}
-use Rattle.warc_write.specs.declared.splitting.SplitFault.{SplitFault}
+use Rattle.warc_write.specs.declared.segments.Part.{Part}
+use Rattle.warc_write.specs.declared.segments.SplitFault.{SplitFault}
 use Rattle.warc_write.proofs.SegmentLemmas.{head_or_memory, one_more}
 use Rattle.warc_write.proofs.TextLemmas.{sha1_fits, sha1_len}
 

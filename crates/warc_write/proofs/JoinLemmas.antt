@@ -27,10 +27,10 @@ use Rattle.warc_record.specs.declared.types.Kind.TheVariants.{Revisit, Conversio
 use Rattle.warc_segment.specs.Joined.{ReadRecord, blocks_of, joined_block, piece_read, with_members}
 use Rattle.warc_segment.specs.Gaps.{joined}
 use Rattle.warc_segment.specs.Series.{member_of, series_of}
-use Rattle.warc_write.specs.declared.splitting.Part.{Part}
-use Rattle.warc_write.specs.declared.splitting.SplitFault.{SplitFault}
-use Rattle.warc_write.specs.declared.splitting.SplitFault.TheVariants.{AlreadySegmented, BadDigest, TooLong}
-use Rattle.warc_write.specs.declared.splitting.SplitFault.TheVariants.{Kind as BadKind}
+use Rattle.warc_write.specs.declared.segments.Part.{Part}
+use Rattle.warc_write.specs.declared.segments.SplitFault.{SplitFault}
+use Rattle.warc_write.specs.declared.segments.SplitFault.TheVariants.{AlreadySegmented, BadDigest, TooLong}
+use Rattle.warc_write.specs.declared.segments.SplitFault.TheVariants.{Kind as BadKind}
 use Rattle.warc_write.specs.Joining.{JoinsTo, NoBadDigest, SplitJoins, read_of}
 use Rattle.warc_value.specs.Digests.{is_bad}
 use Rattle.warc_record.specs.Blocks.{has_bad_digest}

@@ -25,8 +25,8 @@ use Rattle.warc_record.specs.Good.{IsGood}
 use Rattle.warc_record.specs.Heads.{head_fault, is_date}
 use Rattle.warc_record.specs.Ids.{bare_text}
 use Rattle.uuid.specs.Text.{parsed}
-use Rattle.warc_write.specs.declared.making.MakeFault.{MakeFault}
-use Rattle.warc_write.specs.declared.making.MakeFault.TheVariants.{Date, Text, TooLong, Memory, Kind as BadKind}
+use Rattle.warc_write.specs.declared.made.MakeFault.{MakeFault}
+use Rattle.warc_write.specs.declared.made.MakeFault.TheVariants.{Date, Text, TooLong, Memory, Kind as BadKind}
 use Rattle.warc_write.specs.Making.{Makes, Plan, fitted, made, made_fields, record_1_1, is_target, is_one_text}
 use Rattle.warc_write.specs.Making.{is_block, type_of}
 use Rattle.warc_write.proofs.TextLemmas.{decimal_is_read, decimal_is_value, id_is_id, id_is_value, sha1_fits}

@@ -24,7 +24,7 @@ use Rattle.warc_record.specs.Readings.{digest_wanted, key_in, kind_of, number_in
 use Rattle.warc_record.specs.Readings.{segment_number, unless_empty}
 use Rattle.warc_record.specs.Texts.{is_same_text}
 use Rattle.warc_segment.specs.Series.{Piece, member_of, numbered}
-use Rattle.warc_write.specs.declared.splitting.Part.{Part}
+use Rattle.warc_write.specs.declared.segments.Part.{Part}
 use Rattle.warc_value.specs.Digests.{is_bad}
 use Rattle.warc_write.specs.Splitting.{first_fields, kept, next_fields}
 use Rattle.warc_write.specs.Written.{digest_text}

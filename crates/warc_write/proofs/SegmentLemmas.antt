@@ -9,10 +9,10 @@ use Rattle.std.specs.List.{list_all, range_with_len}
 use Rattle.std.proofs.lemmas.List.{map-append, take_all}
 use Rattle.std.proofs.lemmas.List.Folds.{list_all_at}
 use Rattle.std.proofs.lemmas.List.FromFn.{get_or-map-range_with_len, length-map-range_with_len}
-use Rattle.warc_write.specs.declared.splitting.SplitFault.{SplitFault}
-use Rattle.warc_write.specs.declared.splitting.SplitFault.TheVariants.{NotUuid, AlreadySegmented}
-use Rattle.warc_write.specs.declared.splitting.SplitFault.TheVariants.{Kind as BadKind, Size}
-use Rattle.warc_write.specs.declared.splitting.SplitFault.TheVariants.{Memory, TooLong, BadDigest}
+use Rattle.warc_write.specs.declared.segments.SplitFault.{SplitFault}
+use Rattle.warc_write.specs.declared.segments.SplitFault.TheVariants.{NotUuid, AlreadySegmented}
+use Rattle.warc_write.specs.declared.segments.SplitFault.TheVariants.{Kind as BadKind, Size}
+use Rattle.warc_write.specs.declared.segments.SplitFault.TheVariants.{Memory, TooLong, BadDigest}
 use Rattle.warc_write.specs.Refusing.{RefusesSegment}
 use Rattle.warc_write.specs.Splitting.{AllFramed, UnlessMemory, has_room}
 use Rattle.warc_record.specs.Blocks.{has_bad_digest}
@@ -35,7 +35,7 @@ use Rattle.warc_record.specs.Good.{IsGood, SaysAll}
 use Rattle.warc_record.specs.Heads.{is_date, head_fault}
 use Rattle.warc_record.specs.Ids.{is_id}
 use Rattle.warc_record.specs.Readings.{reading_of}
-use Rattle.warc_write.specs.declared.splitting.Part.{Part}
+use Rattle.warc_write.specs.declared.segments.Part.{Part}
 use Rattle.warc_write.specs.Splitting.{first_fields, kept, next_fields, part_of, piece_at, segment_fields}
 use Rattle.warc_write.specs.Splitting.{segment_of}
 use Rattle.warc_write.specs.Written.{digest_text}

@@ -14,9 +14,9 @@ use Rattle.uuid.specs.Text.{parsed_urn}
 use Rattle.warc_record.specs.Heads.{head_fault}
 use Rattle.warc_record.specs.Ids.{bare_text}
 use Rattle.warc_record.specs.Readings.{kind_of, target_of}
-use Rattle.warc_write.specs.declared.splitting.Part.{Part}
-use Rattle.warc_write.specs.declared.splitting.SplitFault.TheVariants.{NotUuid, AlreadySegmented}
-use Rattle.warc_write.specs.declared.splitting.SplitFault.TheVariants.{Kind as BadKind, Size}
+use Rattle.warc_write.specs.declared.segments.Part.{Part}
+use Rattle.warc_write.specs.declared.segments.SplitFault.TheVariants.{NotUuid, AlreadySegmented}
+use Rattle.warc_write.specs.declared.segments.SplitFault.TheVariants.{Kind as BadKind, Size}
 use Rattle.warc_write.specs.Splitting.{is_kept, is_segmented, kept, may_be_split}
 use Rattle.warc_write.specs.Splitting.{next_fields, origin_fields, splittable}
 use Rattle.warc_write.specs.Splitting.{total_fields, with_len}

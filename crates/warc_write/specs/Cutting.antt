@@ -5,8 +5,8 @@ use Rattle.warc_frame.specs.Record.{Record}
 use Rattle.warc_frame.specs.declared.version.Version.{Version}
 use Rattle.warc_record.specs.Blocks.{has_bad_digest}
 use Rattle.warc_write.specs.Splitting.{segments_of, split_of, total_at}
-use Rattle.warc_write.specs.declared.splitting.Part.{Part}
-use Rattle.warc_write.specs.declared.splitting.SplitFault.{SplitFault}
+use Rattle.warc_write.specs.declared.segments.Part.{Part}
+use Rattle.warc_write.specs.declared.segments.SplitFault.{SplitFault}
 
 -- a record of this version and these fields, with a block of this length, and a bad digest or not
 pub record HasParts (version : Version) (fields : List Pair) (len : ℕ) (is_bad : Bool) (r : Record) : Type 0 where

@@ -16,8 +16,8 @@ use Rattle.warc_record.specs.declared.types.Kind.TheVariants.{Warcinfo, Response
 use Rattle.warc_record.specs.declared.types.Kind.TheVariants.{Revisit, Conversion, Continuation, Other}
 use Rattle.warc_record.specs.Heads.{is_date}
 use Rattle.warc_record.specs.Ids.{bare_text}
-use Rattle.warc_write.specs.declared.making.MakeFault.{MakeFault}
-use Rattle.warc_write.specs.declared.making.MakeFault.TheVariants.{Date, Text, TooLong, Memory, Kind as BadKind}
+use Rattle.warc_write.specs.declared.made.MakeFault.{MakeFault}
+use Rattle.warc_write.specs.declared.made.MakeFault.TheVariants.{Date, Text, TooLong, Memory, Kind as BadKind}
 use Rattle.warc_write.specs.Refusals.{checks}
 use Rattle.warc_write.specs.Written.{digest_text, id_text}
 

@@ -22,11 +22,11 @@ use Rattle.warc_record.specs.Heads.{head_fault}
 use Rattle.warc_record.specs.Ids.{bare_text}
 use Rattle.warc_record.specs.Blocks.{has_bad_digest}
 use Rattle.warc_record.specs.Readings.{kind_of, target_of}
-use Rattle.warc_write.specs.declared.splitting.Part.{Part}
-use Rattle.warc_write.specs.declared.splitting.SplitFault.{SplitFault}
-use Rattle.warc_write.specs.declared.splitting.SplitFault.TheVariants.{NotUuid, AlreadySegmented}
-use Rattle.warc_write.specs.declared.splitting.SplitFault.TheVariants.{Kind as BadKind, Size}
-use Rattle.warc_write.specs.declared.splitting.SplitFault.TheVariants.{Memory, TooLong, BadDigest}
+use Rattle.warc_write.specs.declared.segments.Part.{Part}
+use Rattle.warc_write.specs.declared.segments.SplitFault.{SplitFault}
+use Rattle.warc_write.specs.declared.segments.SplitFault.TheVariants.{NotUuid, AlreadySegmented}
+use Rattle.warc_write.specs.declared.segments.SplitFault.TheVariants.{Kind as BadKind, Size}
+use Rattle.warc_write.specs.declared.segments.SplitFault.TheVariants.{Memory, TooLong, BadDigest}
 use Rattle.warc_write.specs.Refusals.{checks}
 use Rattle.warc_write.specs.Written.{digest_text, id_text}
 

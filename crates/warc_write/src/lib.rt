@@ -2,16 +2,16 @@
 #![tactic(auto)]
 
 mod conversion;
-mod cutting;
+mod cuts;
 pub mod laws;
-mod making;
+mod made;
 mod parts;
-mod sending;
-mod splitting;
+mod segments;
+mod sent;
 mod written;
 
 pub use conversion::{convert, convert_fields};
-pub use cutting::cut;
-pub use making::{MakeFault, make, refusal_of_long};
-pub use sending::{put_head, render, render_one};
-pub use splitting::{Part, SplitFault, part_at, segment_count, segment_head, split, splittable};
+pub use cuts::cut;
+pub use made::{MakeFault, make, refusal_of_long};
+pub use segments::{Part, SplitFault, part_at, segment_count, segment_head, split, splittable};
+pub use sent::{put_head, render, render_one};

@@ -1,7 +1,7 @@
 use Rattle.std.proofs.Common.{Err, refl, ap, subst, ◌∙◌, arith}
 use Rattle.warc_frame.specs.Effects.{FailsBy}
 use Rattle.warc_reading.specs.Rereading.{HasHeadOf, ended_by}
-use Rattle.warc_reading.specs.declared.rereading.RereadFault.{RereadFault}
+use Rattle.warc_reading.specs.declared.reread.RereadFault.{RereadFault}
 use Rattle.warc_reading.specs.Row.{Row}
 use Rattle.warc.proofs.record.head.take_head.Goals as goal
 

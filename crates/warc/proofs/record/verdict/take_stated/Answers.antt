@@ -3,7 +3,7 @@ use Rattle.warc_frame.specs.Effects.{FailsBy}
 use Rattle.warc_frame.proofs.EffectLemmas.{fails_after, fails_more}
 use Rattle.warc_reading.specs.Rereading.{HasTextOf, ended_by}
 use Rattle.warc_reading.specs.Row.{Row}
-use Rattle.warc_reading.specs.declared.rereading.RereadFault.{RereadFault}
+use Rattle.warc_reading.specs.declared.reread.RereadFault.{RereadFault}
 use Rattle.warc_checking.proofs.JudgeLemmas.{block_there, head_there}
 use Rattle.warc.specs.Fixity.{digest_value}
 use Rattle.warc.proofs.JudgedLemmas.{reads_one_row}

@@ -1,0 +1,60 @@
+use Rattle.std.proofs.Common.{ℕ, inl, inr, min, refl, ap, ◌∙◌}
+use Rattle.warc_reading.specs.Archive.{contents}
+use Rattle.warc_checking.specs.Checking.{findings_of_archive}
+use Rattle.warc_commands.proofs.ProgramLemmas.{good_records_of, not_opened, status_by}
+use Rattle.warc_checking.proofs.RecordsLemmas.{unread}
+use Rattle.warc_commands.proofs.ReadLemmas.{opened}
+use Rattle.warc_commands.proofs.check.check.Goals as goal
+
+pub returns-in-Err-clause-ends : goal.returns-in-Err-clause-ends
+returns-in-Err-clause-ends g c = inr (inl (not_opened _ _ _ _ _ _ c.in-Err.fault _ c.in-Err.ensures c.tell_refusal.ensures.told c.tell_refusal.ensures.status))
+
+pub returns-in-Ok-check-clause-ends : goal.returns-in-Ok-check-clause-ends
+returns-in-Ok-check-clause-ends g c = inl (record {
+  is = λ bytes held.
+      let archive = c.in-Ok.ensures.accepted bytes held in
+      let rs = contents archive.listed.are.records in
+      let tells = c.in-Ok-check.ensures.tells bytes archive in
+      record {
+        records = rs;
+        are = good_records_of archive.listed;
+        told = tells.told;
+        status_is = c.status_of_count.ensures.value ∙ ap (λ n. min n 1) tells.number ∙ status_by (findings_of_archive rs);
+      };
+  unfailed = c.in-Ok-check.ensures.cause;
+  sound = ap (λ s. (g.S.Source.seen s).faults) c.into_source.ensures ∙ c.in-Ok.ensures.reads.cause;
+  silent = refl;
+  status_in = c.status_of_count.ensures.cases;
+})
+
+pub returns-in-Err-check-clause-ends : goal.returns-in-Err-check-clause-ends
+returns-in-Err-check-clause-ends g c =
+    let same = ap (λ s. (g.S.Source.seen s).faults) c.into_source-in-Err-check.ensures ∙ c.in-Ok.ensures.reads.cause in
+    inr (inr (record {
+      cut = record {
+        fault = c.in-Err-check.fault;
+        is = λ bytes held.
+            let archive = c.in-Ok.ensures.accepted bytes held in
+            record {
+              records = contents archive.listed.are.records;
+              are = good_records_of archive.listed;
+              front = (c.in-Err-check.ensures.tells bytes archive).cut;
+              source = (unread ℕ c.in-Err-check.fault _ _ c.in-Err-check.ensures.unread same).1;
+            };
+        source = (unread ℕ c.in-Err-check.fault _ _ c.in-Err-check.ensures.unread same).0;
+        failed = c.in-Err-check.ensures.cause;
+        told = c.tell_cut.ensures.told;
+        status_is = c.tell_cut.ensures.status;
+      };
+      unread = c.in-Err-check.ensures.unread;
+      sound = same;
+    }))
+
+pub returns-in-Err-clause-reads : goal.returns-in-Err-clause-reads
+returns-in-Err-clause-reads g c = opened c.in-Err.ensures refl
+
+pub returns-in-Ok-check-clause-reads : goal.returns-in-Ok-check-clause-reads
+returns-in-Ok-check-clause-reads g c = opened c.in-Ok.ensures (ap (λ s. g.S.Source.seen s) c.into_source.ensures)
+
+pub returns-in-Err-check-clause-reads : goal.returns-in-Err-check-clause-reads
+returns-in-Err-check-clause-reads g c = opened c.in-Ok.ensures (ap (λ s. g.S.Source.seen s) c.into_source-in-Err-check.ensures)

@@ -1,4 +1,0 @@
-use Rattle.warc_frame.proofs.reading.length_value.Goals as goal
-
-pub returns : goal.returns
-returns g c = rw c.as_bytes.ensures.value at c.only_value.ensures

@@ -1,7 +1,0 @@
-use Rattle.std.proofs.Common.{sym, ◌∙◌}
-use Rattle.warc_reading.proofs.PlainLemmas.{finished}
-use Rattle.warc_reading.proofs.reading.plain_record.Goals as goal
-
-pub returns-clause-between : goal.returns-clause-between
-returns-clause-between g c = λ at taken told is.
-    finished c.finish.result (sym c.is_err.ensures.value ∙ c.if-is_err.false) at taken told (c.finish.ensures.history at taken told is)
