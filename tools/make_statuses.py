@@ -21,7 +21,7 @@ PAGE = "docs/PROGRAM.md"
 CONSTANT = re.compile(r'^const (\w+): &str =\s+"(.*?)";$', re.MULTILINE | re.DOTALL)
 FLAG = re.compile(r'^const (\w+): Word = Word \{\n    name: "([\w-]+)",$', re.MULTILINE)
 ENTRY = re.compile(
-    r'^    Entry \{\n        name: "(\w+)",\n        about: .*\n        notes: (\w+),\n(?:.*\n){2}'
+    r'^    CommandEntry \{\n        name: "(\w+)",\n        about: .*\n        notes: (\w+),\n(?:.*\n){2}'
     r"        flags: &\[(.*)\],$",
     re.MULTILINE,
 )
@@ -47,7 +47,10 @@ def commands() -> Iterator[Command]:
     """The commands, in the order of help."""
     text = read(WORDS)
     texts, flags = dict(CONSTANT.findall(text)), dict(FLAG.findall(text))
-    for name, notes, own in ENTRY.findall(text):
+    entries = ENTRY.findall(text)
+    if not entries:
+        raise ValueError(f"{WORDS}: the table of commands isn't as this script reads it")
+    for name, notes, own in entries:
         yield command(name, [f"--{flags[it]}" for it in own.split(", ") if it], texts[notes])
 
 

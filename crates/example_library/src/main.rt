@@ -10,7 +10,7 @@ use std::{fs, io};
 use warc::{Archive, MemSource, Moment, read_date};
 
 /// Prints how many records an archive has, what is listed and found, or why it isn't described.
-fn tell_described(rt: &HostRuntime, bytes: Vec<u8>) -> io::Result<()> {
+fn report_described(rt: &HostRuntime, bytes: Vec<u8>) -> io::Result<()> {
     match description::describe(rt.alloc(), bytes) {
         Ok((count, lines, findings)) => {
             println!(rt; "records: {count}")?;
@@ -22,7 +22,7 @@ fn tell_described(rt: &HostRuntime, bytes: Vec<u8>) -> io::Result<()> {
 }
 
 /// Prints how many bytes the blocks of an archive have that comes in two pieces.
-fn tell_in_pieces(rt: &HostRuntime, bytes: &[u8]) -> io::Result<()> {
+fn report_in_pieces(rt: &HostRuntime, bytes: &[u8]) -> io::Result<()> {
     let (front, back) = bytes.split_at(bytes.len() / 2);
     match pieces::block_bytes(rt.alloc(), &[front, back]) {
         Ok(count) => println!(rt; "bytes of blocks: {count}"),
@@ -31,7 +31,7 @@ fn tell_in_pieces(rt: &HostRuntime, bytes: &[u8]) -> io::Result<()> {
 }
 
 /// Prints the lengths of the second block before an archive grows by it and after.
-fn tell_grown(rt: &HostRuntime, early: Vec<u8>, late: Vec<u8>) -> io::Result<()> {
+fn report_grown(rt: &HostRuntime, early: Vec<u8>, late: Vec<u8>) -> io::Result<()> {
     let id = b"urn:uuid:00000000-0000-4000-8000-000000000002";
     match growth::lengths_of(rt.alloc(), early, late, id) {
         Ok((before, after)) => println!(rt; "length before: {before:?}, after: {after:?}"),
@@ -40,7 +40,7 @@ fn tell_grown(rt: &HostRuntime, early: Vec<u8>, late: Vec<u8>) -> io::Result<()>
 }
 
 /// Prints the rows of an archive, and how long the body of a page is as of a moment.
-fn tell_replayed(
+fn report_replayed(
     rt: &HostRuntime,
     archive: &mut Archive<MemSource>,
     moment: &Moment,
@@ -53,30 +53,30 @@ fn tell_replayed(
 }
 
 /// The same for the bytes of an archive.
-fn tell_page(rt: &HostRuntime, bytes: Vec<u8>, moment: &Moment) -> io::Result<()> {
+fn report_page(rt: &HostRuntime, bytes: Vec<u8>, moment: &Moment) -> io::Result<()> {
     match Archive::open(rt.alloc(), MemSource::new(bytes, usize::MAX)) {
-        Ok(mut archive) => tell_replayed(rt, &mut archive, moment),
+        Ok(mut archive) => report_replayed(rt, &mut archive, moment),
         Err((fault, _)) => println!(rt; "refused: {fault}"),
     }
 }
 
 /// The same for the first instant of a date.
-fn tell_as_of(rt: &HostRuntime, bytes: Vec<u8>, date: &[u8]) -> io::Result<()> {
+fn report_as_of(rt: &HostRuntime, bytes: Vec<u8>, date: &[u8]) -> io::Result<()> {
     match read_date(date) {
-        Some(moment) => tell_page(rt, bytes, &moment),
+        Some(moment) => report_page(rt, bytes, &moment),
         None => println!(rt; "no date"),
     }
 }
 
 fn main(rt: HostRuntime) -> io::Result<()> {
-    tell_described(&rt, fs::read(&rt, "described.warc")?)?;
-    tell_in_pieces(&rt, &fs::read(&rt, "late.warc")?)?;
-    tell_in_pieces(&rt, &fs::read(&rt, "torn.warc")?)?;
-    tell_grown(
+    report_described(&rt, fs::read(&rt, "described.warc")?)?;
+    report_in_pieces(&rt, &fs::read(&rt, "late.warc")?)?;
+    report_in_pieces(&rt, &fs::read(&rt, "torn.warc")?)?;
+    report_grown(
         &rt,
         fs::read(&rt, "early.warc")?,
         fs::read(&rt, "late.warc")?,
     )?;
-    tell_as_of(&rt, fs::read(&rt, "described.warc")?, b"2021")?;
-    tell_as_of(&rt, fs::read(&rt, "described.warc")?, b"2019")
+    report_as_of(&rt, fs::read(&rt, "described.warc")?, b"2021")?;
+    report_as_of(&rt, fs::read(&rt, "described.warc")?, b"2019")
 }

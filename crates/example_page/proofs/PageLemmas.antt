@@ -16,20 +16,20 @@ known_bytes one other same = cc same
 
 -- a sink that was empty tells what went out
 sent : (new text : List ℕ) → Some new ≡ append_known (Some []) text → new ≡ text
-sent new text told = cc told
+sent new text reported = cc reported
 
 -- a replay that answers writes the page into an empty sink
 pub page_of : (bytes uri : List ℕ) (moment : Instant) (archive : Archived Stored) (is : IsIndexed bytes archive)
     (answer : Answer) (old new : List ℕ) → old ≡ []
     → IsReplay (contents is.listed.are.records) uri moment (Ok answer) (Some old) (Some new)
     → IsPageOf bytes uri moment new
-page_of bytes uri moment archive is answer old new empty (body, answers, told) =
+page_of bytes uri moment archive is answer old new empty (body, answers, reported) =
     let records = contents is.listed.are.records in
     let Answers : List ℕ → Type 0 = λ page. IsAnswer records uri moment (given answer page) in
-    let Told : List ℕ → Type 0 = λ was. Some new ≡ append_known (Some was) body in record {
+    let Reported : List ℕ → Type 0 = λ was. Some new ≡ append_known (Some was) body in record {
       records = records;
       spelled = spells_all 0 is.listed.are.records bytes is.listed.are.spelled;
       good = is.listed.are.good;
       answer = answer;
-      answers = subst Answers (sym (sent new body (subst Told empty told))) answers;
+      answers = subst Answers (sym (sent new body (subst Reported empty reported))) answers;
     }

@@ -10,7 +10,7 @@ use warc::{Archive, MemSource, Moment, read_date};
 const PAGE: &[u8] = b"http://a.example/x";
 
 /// Prints the page of an archive as of a moment, or why there is none.
-fn tell_page(rt: &HostRuntime, bytes: Vec<u8>, moment: &Moment) -> io::Result<()> {
+fn report_page(rt: &HostRuntime, bytes: Vec<u8>, moment: &Moment) -> io::Result<()> {
     match page::page(rt.alloc(), bytes, PAGE, moment) {
         Ok(page) => println!(rt; "{}", str::from_utf8(&page).unwrap_or("not UTF-8")),
         Err(why) => println!(rt; "no page: {why}"),
@@ -18,15 +18,15 @@ fn tell_page(rt: &HostRuntime, bytes: Vec<u8>, moment: &Moment) -> io::Result<()
 }
 
 /// The same as of the first instant of a date.
-fn tell_as_of(rt: &HostRuntime, bytes: Vec<u8>, date: &[u8]) -> io::Result<()> {
+fn report_as_of(rt: &HostRuntime, bytes: Vec<u8>, date: &[u8]) -> io::Result<()> {
     match read_date(date) {
-        Some(moment) => tell_page(rt, bytes, &moment),
+        Some(moment) => report_page(rt, bytes, &moment),
         None => println!(rt; "no date"),
     }
 }
 
 /// Prints the page that an archive gives after a growth that is refused, as where a record isn't whole yet.
-fn tell_refused(
+fn report_refused(
     rt: &HostRuntime,
     archive: &mut Archive<MemSource>,
     longer: Vec<u8>,
@@ -44,37 +44,37 @@ fn tell_refused(
 }
 
 /// The same of the bytes of an archive.
-fn tell_grown(
+fn report_grown(
     rt: &HostRuntime,
     bytes: Vec<u8>,
     longer: Vec<u8>,
     moment: &Moment,
 ) -> io::Result<()> {
     match page::opened(rt.alloc(), bytes) {
-        Ok(mut archive) => tell_refused(rt, &mut archive, longer, moment),
+        Ok(mut archive) => report_refused(rt, &mut archive, longer, moment),
         Err(fault) => println!(rt; "no archive: {fault}"),
     }
 }
 
 /// The same of a file, and of the front of another record after it.
-fn tell_torn(rt: &HostRuntime, moment: &Moment) -> io::Result<()> {
+fn report_torn(rt: &HostRuntime, moment: &Moment) -> io::Result<()> {
     let bytes = fs::read(rt, "described.warc")?;
     let mut longer = bytes.clone()?;
     longer.extend_from_slice(b"WARC/1.1\r\n")?;
-    tell_grown(rt, bytes, longer, moment)
+    report_grown(rt, bytes, longer, moment)
 }
 
 /// The same as of the first instant of a date.
-fn tell_torn_as_of(rt: &HostRuntime, date: &[u8]) -> io::Result<()> {
+fn report_torn_as_of(rt: &HostRuntime, date: &[u8]) -> io::Result<()> {
     match read_date(date) {
-        Some(moment) => tell_torn(rt, &moment),
+        Some(moment) => report_torn(rt, &moment),
         None => println!(rt; "no date"),
     }
 }
 
 fn main(rt: HostRuntime) -> io::Result<()> {
-    tell_as_of(&rt, fs::read(&rt, "described.warc")?, b"2021")?;
-    tell_as_of(&rt, fs::read(&rt, "described.warc")?, b"2019")?;
-    tell_as_of(&rt, fs::read(&rt, "torn.warc")?, b"2021")?;
-    tell_torn_as_of(&rt, b"2021")
+    report_as_of(&rt, fs::read(&rt, "described.warc")?, b"2021")?;
+    report_as_of(&rt, fs::read(&rt, "described.warc")?, b"2019")?;
+    report_as_of(&rt, fs::read(&rt, "torn.warc")?, b"2021")?;
+    report_torn_as_of(&rt, b"2021")
 }

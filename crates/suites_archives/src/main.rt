@@ -23,7 +23,7 @@ struct Trials {
 }
 
 /// Says where an archive answers otherwise once that of a text is moved to WARC 1.1.
-fn tell_moved(
+fn say_moved(
     alloc: Global,
     archive: &[u8],
     text: &[u8],
@@ -38,7 +38,7 @@ fn tell_moved(
 
 /// Says where an archive that a case gives answers otherwise once it is moved, or where the last one answers otherwise
 /// than a text that is moved in its place.
-fn tell_moved_case(
+fn say_moved_case(
     alloc: Global,
     case: &Case<'_>,
     archive: &[u8],
@@ -46,8 +46,8 @@ fn tell_moved_case(
     answer: &mut Vec<u8>,
 ) -> Result<(), AllocError> {
     match case.text(0) {
-        "archive" | "by" => tell_moved(alloc, archive, archive, moves, answer),
-        "compared" => tell_moved(alloc, archive, case.given(), moves, answer),
+        "archive" | "by" => say_moved(alloc, archive, archive, moves, answer),
+        "compared" => say_moved(alloc, archive, case.given(), moves, answer),
         _ => Ok(()),
     }
 }
@@ -76,7 +76,7 @@ impl Trial for Trials {
         answer: &mut Vec<u8>,
     ) -> Result<(), AllocError> {
         if self.archives.answer(alloc, case, answer)? {
-            tell_moved_case(alloc, case, self.archives.bytes(), &mut self.moves, answer)
+            say_moved_case(alloc, case, self.archives.bytes(), &mut self.moves, answer)
         } else {
             answer_about(alloc, case, self.archives.bytes(), answer)
         }

@@ -43,8 +43,8 @@ fn add_extracted<S: Source, A: Allocator + Copy>(
     text: &mut Vec<u8>,
 ) -> Result<(), AllocError> {
     let mut out = MemSink::new(Vec::new(alloc));
-    let told = extracted(archive, id, &mut out);
-    add_extract(alloc, text, told)?;
+    let reported = extracted(archive, id, &mut out);
+    add_extract(alloc, text, reported)?;
     add_line(text, out.bytes())
 }
 
@@ -56,8 +56,8 @@ fn add_replayed<S: Source, A: Allocator + Copy>(
     text: &mut Vec<u8>,
 ) -> Result<(), AllocError> {
     let mut out = MemSink::new(Vec::new(alloc));
-    let told = replayed(archive, target, moment, &mut out);
-    add_replay(alloc, text, told)?;
+    let reported = replayed(archive, target, moment, &mut out);
+    add_replay(alloc, text, reported)?;
     add_line(text, out.bytes())
 }
 
@@ -68,8 +68,8 @@ fn add_checked<S: Source, A: Allocator + Copy>(
     text: &mut Vec<u8>,
 ) -> Result<(), AllocError> {
     let mut out = MemSink::new(Vec::new(alloc));
-    let told = checked(archive, &mut out);
-    add_check(alloc, text, told)?;
+    let reported = checked(archive, &mut out);
+    add_check(alloc, text, reported)?;
     add_line(text, out.bytes())
 }
 

@@ -15,8 +15,8 @@ fn add_checked<S: Source>(
     answer: &mut Vec<u8>,
 ) -> Result<(), AllocError> {
     let mut out = MemSink::new(Vec::new(alloc));
-    let told = checked(archive, &mut out);
-    add_check(alloc, answer, told)?;
+    let reported = checked(archive, &mut out);
+    add_check(alloc, answer, reported)?;
     answer.extend_from_slice(out.bytes())
 }
 
@@ -28,9 +28,9 @@ pub(crate) fn add_check_of<S: Source + Drop>(
 ) -> Result<(), AllocError> {
     match opened(alloc, source) {
         Ok(mut archive) => {
-            let told = add_checked(alloc, &mut archive, answer);
+            let reported = add_checked(alloc, &mut archive, answer);
             close(archive);
-            told
+            reported
         }
         Err(fault) => add_text(alloc, answer, &fault),
     }
@@ -57,9 +57,9 @@ pub(crate) fn add_check_thrice(
 ) -> Result<(), AllocError> {
     match opened(alloc, broken(alloc, archive, usize::MAX, number)?) {
         Ok(mut archive) => {
-            let told = add_thrice(alloc, &mut archive, answer);
+            let reported = add_thrice(alloc, &mut archive, answer);
             close(archive);
-            told
+            reported
         }
         Err(fault) => add_text(alloc, answer, &fault),
     }

@@ -23,7 +23,7 @@ type Front<S, A> = (Listing<S, A>, Option<Fault>);
 struct Copied {
     fault: Option<Fault>,
     records: usize,
-    told: Result<u64, OutFault>,
+    reported: Result<u64, OutFault>,
     sent: Vec<u8>,
 }
 
@@ -32,7 +32,7 @@ impl Copied {
     fn is_like(&self, other: &Copied) -> bool {
         self.fault == other.fault
             && self.records == other.records
-            && self.told == other.told
+            && self.reported == other.reported
             && self.sent.as_slice() == other.sent.as_slice()
     }
 
@@ -40,7 +40,7 @@ impl Copied {
     fn is_cut(&self, whole: &Copied, cause: OutFault) -> bool {
         self.fault == whole.fault
             && self.records == whole.records
-            && self.told == Err(cause)
+            && self.reported == Err(cause)
             && whole.sent.starts_with(&self.sent)
     }
 
@@ -48,7 +48,7 @@ impl Copied {
     fn ends_before(&self, fault: Fault, other: &Copied) -> bool {
         self.fault == Some(fault)
             && self.records == other.records
-            && self.told == other.told
+            && self.reported == other.reported
             && self.sent.as_slice() == other.sent.as_slice()
     }
 }
@@ -56,11 +56,11 @@ impl Copied {
 /// What a front gives that is copied to a sink in memory.
 fn copy_whole<S: Source, A: Allocator>(alloc: Global, front: &mut Front<S, A>) -> Copied {
     let mut out = MemSink::new(Vec::new(alloc));
-    let told = front.0.copy_to(&mut out);
+    let reported = front.0.copy_to(&mut out);
     Copied {
         fault: front.1,
         records: front.0.count(),
-        told,
+        reported,
         sent: out.into_inner(),
     }
 }
@@ -90,7 +90,7 @@ enum Turn {
     Opening,
 
     /// It came while it was copied.
-    Behind,
+    Following,
 
     /// It didn't come.
     Done,
@@ -126,7 +126,7 @@ fn turn_of(
         return Ok(Turn::Otherwise);
     }
     if first.is_cut(whole, OutFault::Read(first.sent.len() as u64)) && tried.again.is_like(whole) {
-        return Ok(Turn::Behind);
+        return Ok(Turn::Following);
     }
     let Some(fault) = first.fault else {
         return Ok(Turn::Otherwise);
@@ -144,26 +144,26 @@ fn turn_of(
 #[derive(Clone, Copy)]
 struct Turns {
     opening: u64,
-    behind: u64,
+    following: u64,
 }
 
 impl Turns {
     fn new() -> Turns {
         Turns {
             opening: 0,
-            behind: 0,
+            following: 0,
         }
     }
 
     /// Counts a failure, and says whether it came as it may.
     fn add(&mut self, turn: Turn) -> bool {
         match turn {
-            Turn::Opening if self.behind == 0 => {
+            Turn::Opening if self.following == 0 => {
                 self.opening = self.opening.saturating_add(1);
                 true
             }
-            Turn::Behind => {
-                self.behind = self.behind.saturating_add(1);
+            Turn::Following => {
+                self.following = self.following.saturating_add(1);
                 true
             }
             _ => false,
@@ -247,11 +247,11 @@ fn copied_to<S: Source, A: Allocator>(
     (number, how): (u64, Break),
 ) -> Result<Copied, AllocError> {
     let mut out = BrokenWriter::new(alloc, number, how).taking(PIECE);
-    let told = front.0.copy_to(&mut out);
+    let reported = front.0.copy_to(&mut out);
     Ok(Copied {
         fault: front.1,
         records: front.0.count(),
-        told,
+        reported,
         sent: out.bytes().to_vec(alloc)?,
     })
 }
@@ -273,7 +273,7 @@ fn turn_cut<S: Source, A: Allocator>(
     } else if first.is_like(whole) {
         Turn::Done
     } else if is_exact && first.is_cut(whole, OutFault::Write(sent)) {
-        Turn::Behind
+        Turn::Following
     } else {
         Turn::Otherwise
     })
@@ -288,7 +288,7 @@ fn count_cut<S: Source, A: Allocator>(
 ) -> Result<Option<u64>, AllocError> {
     for number in 0..MOST {
         match turn_cut(alloc, front, whole, (number, how))? {
-            Turn::Behind => {}
+            Turn::Following => {}
             Turn::Done => return Ok(Some(number)),
             Turn::Opening | Turn::Otherwise => return Ok(None),
         }
@@ -335,8 +335,8 @@ fn add_writes<S: Source, A: Allocator>(
 /// Adds how many reads fail in turn.
 fn add_reads(alloc: Global, turns: Option<Turns>, answer: &mut Vec<u8>) -> Result<(), AllocError> {
     let line = match turns {
-        Some(Turns { opening, behind }) => {
-            format!(in alloc; "{opening} reads while it is opened, {behind} behind that\n")?
+        Some(Turns { opening, following }) => {
+            format!(in alloc; "{opening} reads while it is opened, {following} behind that\n")?
         }
         None => format!(in alloc; "another outcome behind a read\n")?,
     };
@@ -352,13 +352,13 @@ fn add_requests(
     answer: &mut Vec<u8>,
 ) -> Result<(), AllocError> {
     let line = match turns {
-        Some(Turns { opening, behind }) if opening > few => {
+        Some(Turns { opening, following }) if opening > few => {
             format!(in alloc;
-                "more than {few} requests while it is opened, {behind} behind that\n"
+                "more than {few} requests while it is opened, {following} behind that\n"
             )?
         }
-        Some(Turns { opening, behind }) => {
-            format!(in alloc; "{opening} requests while it is opened, {behind} behind that\n")?
+        Some(Turns { opening, following }) => {
+            format!(in alloc; "{opening} requests while it is opened, {following} behind that\n")?
         }
         None => format!(in alloc; "another outcome behind a request\n")?,
     };
@@ -372,7 +372,7 @@ fn add_copied(alloc: Global, whole: &Copied, answer: &mut Vec<u8>) -> Result<(),
         None => answer.extend_from_slice(b"good\n")?,
     }
     add_number(alloc, answer, "records", whole.records as u64)?;
-    match whole.told {
+    match whole.reported {
         Ok(length) => add_number(alloc, answer, "length", length)?,
         Err(fault) => add_text(alloc, answer, &fault)?,
     }
@@ -393,7 +393,7 @@ pub(crate) fn add_front(
     let requests = turn_requests(alloc, archive, &whole)?;
     add_requests(alloc, requests, case.number(1), answer)?;
     let mut front = open_front(alloc, source_of(alloc, archive, usize::MAX)?);
-    let told = add_writes(alloc, &mut front, &whole, answer);
+    let reported = add_writes(alloc, &mut front, &whole, answer);
     front.0.into_source();
-    told
+    reported
 }

@@ -18,9 +18,9 @@ fn check_broken(
 ) -> Result<Option<Result<usize, OutFault>>, AllocError> {
     match opened(alloc, broken(alloc, bytes, usize::MAX, number)?) {
         Ok(mut archive) => {
-            let told = checked(&mut archive, out);
+            let reported = checked(&mut archive, out);
             close(archive);
-            Ok(Some(told))
+            Ok(Some(reported))
         }
         Err(_) => Ok(None),
     }
@@ -35,10 +35,10 @@ fn front_before(
     number: u64,
 ) -> Result<Option<usize>, AllocError> {
     let mut out = MemSink::new(Vec::new(alloc));
-    let told = check_broken(alloc, bytes, number, &mut out)?;
+    let reported = check_broken(alloc, bytes, number, &mut out)?;
     let sent = out.bytes().len();
     let is_front = whole.starts_with(out.bytes());
-    if is_front && told == Some(Err(OutFault::Read(sent as u64))) {
+    if is_front && reported == Some(Err(OutFault::Read(sent as u64))) {
         Ok(Some(sent))
     } else {
         Ok(None)

@@ -32,9 +32,9 @@ fn add_spans<A: Allocator>(
 pub(crate) fn add_located<E: Display + Copy, A: Allocator>(
     alloc: Global,
     text: &mut Vec<u8>,
-    told: Result<Located<A>, E>,
+    reported: Result<Located<A>, E>,
 ) -> Result<(), AllocError> {
-    match told {
+    match reported {
         Ok(located) => {
             add_replay(alloc, text, Ok::<_, E>(located.answer()))?;
             add_spans(alloc, text, &located)
@@ -52,8 +52,8 @@ pub(crate) fn add_located_for<S: Source, A: Allocator + Copy>(
 ) -> Result<(), AllocError> {
     match Asked::of(alloc, case, 3)? {
         Some(asked) => {
-            let told = located(archive, &asked.uri, &asked.moment);
-            add_located(alloc, text, told)
+            let reported = located(archive, &asked.uri, &asked.moment);
+            add_located(alloc, text, reported)
         }
         None => add_line(text, b"bad date"),
     }
@@ -79,9 +79,9 @@ fn add_stored<A: Allocator>(
 pub(crate) fn add_outcome<A: Allocator>(
     alloc: Global,
     text: &mut Vec<u8>,
-    told: Result<Outcome<A>, BodyFault>,
+    reported: Result<Outcome<A>, BodyFault>,
 ) -> Result<(), AllocError> {
-    match told {
+    match reported {
         Ok(outcome) => add_stored(alloc, text, outcome.chosen, outcome.stored),
         Err(fault) => add_text(alloc, text, &fault),
     }
@@ -91,9 +91,9 @@ pub(crate) fn add_outcome<A: Allocator>(
 pub(crate) fn add_head<A: Allocator>(
     alloc: Global,
     text: &mut Vec<u8>,
-    told: Result<Head<A>, TakeFault>,
+    reported: Result<Head<A>, TakeFault>,
 ) -> Result<(), AllocError> {
-    match told {
+    match reported {
         Ok(head) => {
             let (fields, len, block) = (head.fields.len(), head.len, head.block_len);
             let line = format!(in alloc;

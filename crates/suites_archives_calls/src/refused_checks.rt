@@ -42,16 +42,16 @@ fn requests(alloc: Global, bytes: &[u8]) -> Result<Option<u64>, AllocError> {
 fn add_refusal(
     alloc: Global,
     fault: Fault,
-    is_behind: bool,
+    is_following: bool,
     front: usize,
     answer: &mut Vec<u8>,
 ) -> Result<(), AllocError> {
-    let behind = if is_behind {
+    let following = if is_following {
         format!(in alloc; ", behind the requests of the first {front} bytes alone")?
     } else {
         String::new(alloc)
     };
-    let line = format!(in alloc; "{fault}{behind}\n")?;
+    let line = format!(in alloc; "{fault}{following}\n")?;
     answer.extend_from_slice(line.as_bytes())
 }
 

@@ -39,8 +39,8 @@ fn add_asked<S: Source, W: Sink>(
     out: &mut W,
     answer: &mut Vec<u8>,
 ) -> Result<(), AllocError> {
-    let told = replayed(archive, &asked.uri, &asked.moment, out);
-    add_replay(alloc, answer, told)
+    let reported = replayed(archive, &asked.uri, &asked.moment, out);
+    add_replay(alloc, answer, reported)
 }
 
 /// Adds what an archive answers to a replay, and what is written of it.
@@ -65,8 +65,8 @@ fn add_between<S: Source, W: Sink>(
 ) -> Result<(), AllocError> {
     let before = listed(alloc, archive)?;
     add_asked(alloc, archive, asked, out, answer)?;
-    let behind = listed(alloc, archive)?;
-    if before.as_slice() == behind.as_slice() {
+    let following = listed(alloc, archive)?;
+    if before.as_slice() == following.as_slice() {
         add_line(answer, b"lists the same")
     } else {
         add_line(answer, b"lists something else")
@@ -83,16 +83,16 @@ fn add_opened<S: Source + Drop, W: Sink>(
 ) -> Result<(), AllocError> {
     match opened(alloc, source) {
         Ok(mut archive) => {
-            let told = add_between(alloc, &mut archive, asked, out, answer);
+            let reported = add_between(alloc, &mut archive, asked, out, answer);
             close(archive);
-            told
+            reported
         }
         Err(fault) => add_text(alloc, answer, &fault),
     }
 }
 
 /// Adds what a replay answers, and what is written behind a text.
-fn add_behind_text<S: Source + Drop>(
+fn add_after_text<S: Source + Drop>(
     alloc: Global,
     source: S,
     asked: &Asked,
@@ -127,7 +127,7 @@ pub(crate) fn add_replay_case(
         return add_line(answer, b"bad date");
     };
     if case.text(0) == "replayed" {
-        add_behind_text(alloc, source, &asked, answer)
+        add_after_text(alloc, source, &asked, answer)
     } else {
         add_unwritten(alloc, source, &asked, case.number(3), answer)
     }
@@ -141,7 +141,7 @@ pub(crate) fn add_unread(
     answer: &mut Vec<u8>,
 ) -> Result<(), AllocError> {
     match Asked::of(alloc, case, 1)? {
-        Some(asked) => add_behind_text(
+        Some(asked) => add_after_text(
             alloc,
             changing(alloc, archive, Vec::new(alloc))?,
             &asked,
@@ -159,8 +159,8 @@ fn add_extracted(
     answer: &mut Vec<u8>,
 ) -> Result<(), AllocError> {
     let mut out = MemSink::new(Vec::new(alloc));
-    let told = extracted(archive, id, &mut out);
-    add_extract(alloc, answer, told)?;
+    let reported = extracted(archive, id, &mut out);
+    add_extract(alloc, answer, reported)?;
     answer.extend_from_slice(out.bytes())
 }
 
@@ -202,9 +202,9 @@ pub(crate) fn add_given_case(
 ) -> Result<(), AllocError> {
     match opened(alloc, source) {
         Ok(mut archive) => {
-            let told = add_given(alloc, &mut archive, case, answer);
+            let reported = add_given(alloc, &mut archive, case, answer);
             close(archive);
-            told
+            reported
         }
         Err(fault) => add_text(alloc, answer, &fault),
     }

@@ -29,9 +29,9 @@ fn add_taken<A: Allocator + Copy>(
 fn add_verdict(
     alloc: Global,
     text: &mut Vec<u8>,
-    told: Result<Verdict, TakeFault>,
+    reported: Result<Verdict, TakeFault>,
 ) -> Result<(), AllocError> {
-    match told {
+    match reported {
         Ok(Verdict::Good) => add_line(text, b"good"),
         Ok(Verdict::Bad) => add_line(text, b"bad"),
         Ok(Verdict::Unchecked) => add_line(text, b"unchecked"),
@@ -43,9 +43,9 @@ fn add_verdict(
 fn add_stored<A: Allocator>(
     alloc: Global,
     text: &mut Vec<u8>,
-    told: Result<StoredAt<A>, BodyFault>,
+    reported: Result<StoredAt<A>, BodyFault>,
 ) -> Result<(), AllocError> {
-    match told {
+    match reported {
         Ok(it) => {
             let (chosen, given, length) = (it.path.chosen, it.path.given, it.stored.length);
             let line = format!(in alloc; "chosen {chosen} given {given} length {length}\n")?;
@@ -65,8 +65,8 @@ fn add_replayed<S: Source, A: Allocator + Copy, W: Sink>(
 ) -> Result<(), AllocError> {
     match Asked::of(alloc, case, 3)? {
         Some(asked) => {
-            let told = replayed(archive, &asked.uri, &asked.moment, out);
-            add_replay(alloc, text, told)
+            let reported = replayed(archive, &asked.uri, &asked.moment, out);
+            add_replay(alloc, text, reported)
         }
         None => add_line(text, b"bad date"),
     }
@@ -82,20 +82,20 @@ fn add_capture<S: Source, A: Allocator + Copy, W: Sink>(
 ) -> Result<(), AllocError> {
     match case.text(2) {
         "body" => {
-            let told = archive.replay_at(case.number(3) as usize, out);
-            add_replay(alloc, text, told)
+            let reported = archive.replay_at(case.number(3) as usize, out);
+            add_replay(alloc, text, reported)
         }
         "stored" => {
-            let told = archive.stored_to(case.number(3) as usize, out);
-            add_stored(alloc, text, told)
+            let reported = archive.stored_to(case.number(3) as usize, out);
+            add_stored(alloc, text, reported)
         }
         "located" => {
-            let told = archive.locate_at(case.number(3) as usize);
-            add_located(alloc, text, told)
+            let reported = archive.locate_at(case.number(3) as usize);
+            add_located(alloc, text, reported)
         }
         "outcome" => {
-            let told = archive.outcome_at(case.number(3) as usize);
-            add_outcome(alloc, text, told)
+            let reported = archive.outcome_at(case.number(3) as usize);
+            add_outcome(alloc, text, reported)
         }
         _ => add_line(text, b"no such call"),
     }
@@ -115,8 +115,8 @@ pub(crate) fn ask_archive<S: Source, A: Allocator + Copy, W: Sink>(
         "captures" => add_done(alloc, &mut text, captured(archive, out))?,
         "replay" => add_replayed(alloc, archive, case, out, &mut text)?,
         "extract" => {
-            let told = extracted(archive, case.word(3), out);
-            add_extract(alloc, &mut text, told)?;
+            let reported = extracted(archive, case.word(3), out);
+            add_extract(alloc, &mut text, reported)?;
         }
         "locate" => add_located_for(alloc, archive, case, &mut text)?,
         "record" => {
@@ -124,8 +124,8 @@ pub(crate) fn ask_archive<S: Source, A: Allocator + Copy, W: Sink>(
             add_taken(alloc, &mut text, taken)?;
         }
         "verdict" => {
-            let told = archive.verdict(case.number(3) as usize);
-            add_verdict(alloc, &mut text, told)?;
+            let reported = archive.verdict(case.number(3) as usize);
+            add_verdict(alloc, &mut text, reported)?;
         }
         _ => add_capture(alloc, archive, case, out, &mut text)?,
     }
@@ -147,24 +147,24 @@ pub(crate) fn ask_listing<S: Source, A: Allocator + Copy, W: Sink>(
         "convert" => add_done(alloc, &mut text, listing.write_as(Form::Converted, out))?,
         "split" => add_done(alloc, &mut text, listing.split(case.number(3), out))?,
         "head" => {
-            let told = listing.head_to(case.number(3) as usize, out);
-            add_extract(alloc, &mut text, told)?;
+            let reported = listing.head_to(case.number(3) as usize, out);
+            add_extract(alloc, &mut text, reported)?;
         }
         "block" => {
-            let told = listing.block_to(case.number(3) as usize, out);
-            add_extract(alloc, &mut text, told)?;
+            let reported = listing.block_to(case.number(3) as usize, out);
+            add_extract(alloc, &mut text, reported)?;
         }
         "heading" => {
-            let told = listing.head(case.number(3) as usize);
-            add_head(alloc, &mut text, told)?;
+            let reported = listing.head(case.number(3) as usize);
+            add_head(alloc, &mut text, reported)?;
         }
         "record" => {
             let taken = listing.record(case.number(3) as usize);
             add_taken(alloc, &mut text, taken)?;
         }
         "verdict" => {
-            let told = listing.verdict(case.number(3) as usize);
-            add_verdict(alloc, &mut text, told)?;
+            let reported = listing.verdict(case.number(3) as usize);
+            add_verdict(alloc, &mut text, reported)?;
         }
         _ => add_line(&mut text, b"no such call")?,
     }

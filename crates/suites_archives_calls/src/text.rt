@@ -17,9 +17,9 @@ pub fn add_line(answer: &mut Vec<u8>, text: &[u8]) -> Result<(), AllocError> {
 pub fn add_text<T: Display>(
     alloc: Global,
     answer: &mut Vec<u8>,
-    told: &T,
+    reported: &T,
 ) -> Result<(), AllocError> {
-    let text = told.to_string(alloc)?;
+    let text = reported.to_string(alloc)?;
     add_line(answer, text.as_bytes())
 }
 
@@ -58,9 +58,9 @@ fn add_facts(alloc: Global, answer: &mut Vec<u8>, facts: Answer) -> Result<(), A
 pub fn add_replay<E: Display + Copy>(
     alloc: Global,
     answer: &mut Vec<u8>,
-    told: Result<Answer, E>,
+    reported: Result<Answer, E>,
 ) -> Result<(), AllocError> {
-    match told {
+    match reported {
         Ok(facts) => add_facts(alloc, answer, facts),
         Err(fault) => add_text(alloc, answer, &fault),
     }
@@ -70,9 +70,9 @@ pub fn add_replay<E: Display + Copy>(
 pub(crate) fn add_extract(
     alloc: Global,
     answer: &mut Vec<u8>,
-    told: Result<u64, ExtractFault>,
+    reported: Result<u64, ExtractFault>,
 ) -> Result<(), AllocError> {
-    match told {
+    match reported {
         Ok(length) => add_number(alloc, answer, "length", length),
         Err(fault) => add_text(alloc, answer, &fault),
     }
@@ -82,9 +82,9 @@ pub(crate) fn add_extract(
 pub(crate) fn add_check(
     alloc: Global,
     answer: &mut Vec<u8>,
-    told: Result<usize, OutFault>,
+    reported: Result<usize, OutFault>,
 ) -> Result<(), AllocError> {
-    match told {
+    match reported {
         Ok(count) => add_number(alloc, answer, "findings", count as u64),
         Err(fault) => add_text(alloc, answer, &fault),
     }

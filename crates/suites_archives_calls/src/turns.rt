@@ -16,13 +16,13 @@ const PIECE: usize = 7;
 
 /// What a call answers, as text, and the bytes that went out.
 #[derive(Drop)]
-struct Told {
+struct Reported {
     text: Vec<u8>,
     sent: Vec<u8>,
 }
 
-impl Told {
-    fn is_like(&self, other: &Told) -> bool {
+impl Reported {
+    fn is_like(&self, other: &Reported) -> bool {
         self.text.as_slice() == other.text.as_slice()
             && self.sent.as_slice() == other.sent.as_slice()
     }
@@ -43,16 +43,16 @@ enum Turn {
 /// be the front of the whole, and the fault must have their number.
 fn turn_of(
     alloc: Global,
-    first: &Told,
-    again: &Told,
-    whole: &Told,
+    first: &Reported,
+    again: &Reported,
+    whole: &Reported,
     cause: &str,
 ) -> Result<Turn, AllocError> {
     let sent = format!(in alloc; "{cause} after {}\n", first.sent.len())?;
     let alone = format!(in alloc; "{cause}\n")?;
     let text = first.text.as_slice();
-    let is_told = text == sent.as_bytes() || text == alone.as_bytes() && first.sent.is_empty();
-    Ok(if is_told && whole.sent.starts_with(&first.sent) && again.is_like(whole) {
+    let is_reported = text == sent.as_bytes() || text == alone.as_bytes() && first.sent.is_empty();
+    Ok(if is_reported && whole.sent.starts_with(&first.sent) && again.is_like(whole) {
         Turn::Failed
     } else {
         Turn::Otherwise
@@ -60,14 +60,14 @@ fn turn_of(
 }
 
 /// What the call of a case answers, and what goes out.
-fn told_by<S: Source + Drop, A: Allocator + Copy>(
+fn reported_by<S: Source + Drop, A: Allocator + Copy>(
     alloc: Global,
     subject: &mut Subject<S, A>,
     case: &Case<'_>,
-) -> Result<Told, AllocError> {
+) -> Result<Reported, AllocError> {
     let mut out = MemSink::new(Vec::new(alloc));
     let text = subject.ask(alloc, case, &mut out)?;
-    Ok(Told {
+    Ok(Reported {
         text,
         sent: out.into_inner(),
     })
@@ -79,13 +79,13 @@ fn turn_once<S: Source + Drop, A: Allocator + Copy>(
     alloc: Global,
     subject: &mut Subject<S, A>,
     case: &Case<'_>,
-    (whole, cause): (&Told, &str),
+    (whole, cause): (&Reported, &str),
 ) -> Result<Turn, AllocError> {
-    let first = told_by(alloc, subject, case)?;
+    let first = reported_by(alloc, subject, case)?;
     if first.is_like(whole) {
         return Ok(Turn::Done);
     }
-    let again = told_by(alloc, subject, case)?;
+    let again = reported_by(alloc, subject, case)?;
     turn_of(alloc, &first, &again, whole, cause)
 }
 
@@ -95,13 +95,13 @@ fn turn_opened<S: Source + Drop, A: Allocator + Copy>(
     heap: A,
     source: S,
     case: &Case<'_>,
-    whole: (&Told, &str),
+    whole: (&Reported, &str),
 ) -> Result<Turn, AllocError> {
     match Subject::open(case.text(1), heap, source) {
         Ok(mut subject) => {
-            let told = turn_once(alloc, &mut subject, case, whole);
+            let reported = turn_once(alloc, &mut subject, case, whole);
             subject.close();
-            told
+            reported
         }
         Err(fault) => Ok(Turn::Unopened(fault)),
     }
@@ -116,7 +116,7 @@ fn some_or_no(count: u64) -> &'static str {
 #[derive(Clone, Copy)]
 struct Turns {
     opening: u64,
-    behind: u64,
+    following: u64,
     /// Whether each came as it had to, until none did.
     is_whole: bool,
 }
@@ -125,7 +125,7 @@ impl Turns {
     fn new() -> Turns {
         Turns {
             opening: 0,
-            behind: 0,
+            following: 0,
             is_whole: false,
         }
     }
@@ -137,10 +137,10 @@ impl Turns {
             Turn::Unopened(fault) => {
                 let is_there = at.is_none() || at == Some(fault.offset);
                 self.opening = self.opening.saturating_add(1);
-                self.behind == 0 && fault.kind == kind && is_there
+                self.following == 0 && fault.kind == kind && is_there
             }
             Turn::Failed => {
-                self.behind = self.behind.saturating_add(1);
+                self.following = self.following.saturating_add(1);
                 true
             }
             Turn::Done => {
@@ -152,21 +152,21 @@ impl Turns {
     }
 
     /// Adds how many there were, or only whether there were any; or which one comes otherwise.
-    fn tell(
+    fn say(
         self,
         alloc: Global,
         of: &str,
         is_counted: bool,
         answer: &mut Vec<u8>,
     ) -> Result<(), AllocError> {
-        let (opening, behind) = (self.opening, self.behind);
+        let (opening, following) = (self.opening, self.following);
         let line = if self.is_whole && is_counted {
-            format!(in alloc; "{opening} {of} while it is opened, {behind} behind that\n")?
+            format!(in alloc; "{opening} {of} while it is opened, {following} behind that\n")?
         } else if self.is_whole {
-            let (opening, behind) = (some_or_no(opening), some_or_no(behind));
-            format!(in alloc; "{opening} {of} while it is opened, {behind} behind that\n")?
+            let (opening, following) = (some_or_no(opening), some_or_no(following));
+            format!(in alloc; "{opening} {of} while it is opened, {following} behind that\n")?
         } else {
-            let number = opening.saturating_add(behind);
+            let number = opening.saturating_add(following);
             format!(in alloc; "another outcome behind {number} {of}\n")?
         };
         answer.extend_from_slice(line.as_bytes())
@@ -178,7 +178,7 @@ fn turn_reads(
     alloc: Global,
     case: &Case<'_>,
     bytes: &[u8],
-    whole: &Told,
+    whole: &Reported,
 ) -> Result<Turns, AllocError> {
     let mut turns = Turns::new();
     for number in 1..MOST {
@@ -196,7 +196,7 @@ fn turn_refused(
     alloc: Global,
     case: &Case<'_>,
     bytes: &[u8],
-    whole: &Told,
+    whole: &Reported,
     number: u64,
 ) -> Result<Turn, AllocError> {
     let heap = RefusingAllocator::new(alloc, number);
@@ -213,7 +213,7 @@ fn turn_requests(
     alloc: Global,
     case: &Case<'_>,
     bytes: &[u8],
-    whole: &Told,
+    whole: &Reported,
 ) -> Result<Turns, AllocError> {
     let mut turns = Turns::new();
     for number in 1..MOST {
@@ -231,16 +231,16 @@ fn turn_cut(
     alloc: Global,
     subject: &mut Subject<MemSource, Global>,
     case: &Case<'_>,
-    whole: &Told,
+    whole: &Reported,
     (number, how): (u64, Break),
 ) -> Result<Turn, AllocError> {
     let mut out = BrokenWriter::new(alloc, number.saturating_add(1), how).taking(PIECE);
     let text = subject.ask(alloc, case, &mut out)?;
-    let first = Told {
+    let first = Reported {
         text,
         sent: out.bytes().to_vec(alloc)?,
     };
-    let again = told_by(alloc, subject, case)?;
+    let again = reported_by(alloc, subject, case)?;
     let turn = turn_of(alloc, &first, &again, whole, "write failed")?;
     let is_exact = first.sent.len() as u64 == (PIECE as u64).saturating_mul(number);
     Ok(if first.is_like(whole) && again.is_like(whole) {
@@ -257,7 +257,7 @@ fn count_cut(
     alloc: Global,
     subject: &mut Subject<MemSource, Global>,
     case: &Case<'_>,
-    whole: &Told,
+    whole: &Reported,
     how: Break,
 ) -> Result<Option<u64>, AllocError> {
     for number in 0..MOST {
@@ -275,7 +275,7 @@ fn count_short(
     alloc: Global,
     subject: &mut Subject<MemSource, Global>,
     case: &Case<'_>,
-    whole: &Told,
+    whole: &Reported,
     writes: u64,
 ) -> Result<u64, AllocError> {
     let mut count = 0u64;
@@ -287,11 +287,11 @@ fn count_short(
 }
 
 /// Adds how many writes fail in turn, take nothing and take one byte.
-fn tell_writes(
+fn say_writes(
     alloc: Global,
     subject: &mut Subject<MemSource, Global>,
     case: &Case<'_>,
-    whole: &Told,
+    whole: &Reported,
     answer: &mut Vec<u8>,
 ) -> Result<(), AllocError> {
     let failing = count_cut(alloc, subject, case, whole, Break::Fails)?;
@@ -318,12 +318,12 @@ fn add_all_turns(
     answer: &mut Vec<u8>,
 ) -> Result<(), AllocError> {
     let is_counted = case.text(0) == "in-turn";
-    let whole = told_by(alloc, subject, case)?;
+    let whole = reported_by(alloc, subject, case)?;
     answer.extend_from_slice(&whole.text)?;
     add_number(alloc, answer, "sent", whole.sent.len() as u64)?;
-    turn_reads(alloc, case, bytes, &whole)?.tell(alloc, "reads", is_counted, answer)?;
-    turn_requests(alloc, case, bytes, &whole)?.tell(alloc, "requests", is_counted, answer)?;
-    tell_writes(alloc, subject, case, &whole, answer)
+    turn_reads(alloc, case, bytes, &whole)?.say(alloc, "reads", is_counted, answer)?;
+    turn_requests(alloc, case, bytes, &whole)?.say(alloc, "requests", is_counted, answer)?;
+    say_writes(alloc, subject, case, &whole, answer)
 }
 
 /// Adds the same of what is opened of these bytes. Each failure is reported, and the same call goes well after it.
@@ -336,9 +336,9 @@ pub(crate) fn add_turns(
     let source = source_of(alloc, archive, usize::MAX)?;
     match Subject::open(case.text(1), alloc, source) {
         Ok(mut subject) => {
-            let told = add_all_turns(alloc, &mut subject, case, archive, answer);
+            let reported = add_all_turns(alloc, &mut subject, case, archive, answer);
             subject.close();
-            told
+            reported
         }
         Err(fault) => add_text(alloc, answer, &fault),
     }

@@ -68,9 +68,9 @@ pub(crate) fn add_chain_case(
 ) -> Result<(), AllocError> {
     match opened(alloc, source_of(alloc, b"", 1)?) {
         Ok(mut archive) => {
-            let told = add_chained(alloc, &mut archive, case, (bytes, most), answer);
+            let reported = add_chained(alloc, &mut archive, case, (bytes, most), answer);
             close(archive);
-            told
+            reported
         }
         Err(fault) => add_text(alloc, answer, &fault),
     }
@@ -91,9 +91,9 @@ fn all_grown(
 fn all_from_nothing(alloc: Global, case: &Case<'_>, bytes: &[u8]) -> Result<Vec<u8>, AllocError> {
     match opened(alloc, source_of(alloc, b"", 1)?) {
         Ok(mut archive) => {
-            let told = all_grown(alloc, &mut archive, case, bytes);
+            let reported = all_grown(alloc, &mut archive, case, bytes);
             close(archive);
-            told
+            reported
         }
         Err(_) => Ok(Vec::new(alloc)),
     }

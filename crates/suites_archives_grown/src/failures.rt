@@ -37,10 +37,10 @@ impl Outcome {
 fn outcome_of<S: Source + Drop, A: Allocator + Copy>(
     alloc: Global,
     subject: &mut Subject<S, A>,
-    told: Result<(), (Fault, S)>,
+    reported: Result<(), (Fault, S)>,
     wanted: &Wanted,
 ) -> Result<Outcome, AllocError> {
-    match told {
+    match reported {
         Ok(()) => {
             // A request that is to be refused may come with the first answers.
             let is_grown = answers(alloc, subject, &wanted.after)?;
@@ -78,8 +78,8 @@ fn grown_unread(
     number: u64,
     wanted: &Wanted,
 ) -> Result<Outcome, AllocError> {
-    let told = subject.grow(broken(alloc, longer, 1, number)?);
-    outcome_of(alloc, subject, told, wanted)
+    let reported = subject.grow(broken(alloc, longer, 1, number)?);
+    outcome_of(alloc, subject, reported, wanted)
 }
 
 /// The same of what is opened for it; nothing where it doesn't open.
@@ -178,9 +178,9 @@ fn grown_unkept(
     growth: Growth<'_>,
     wanted: &Wanted,
 ) -> Result<Request, AllocError> {
-    let told = subject.grow(source_of(alloc, growth.longer, usize::MAX)?);
+    let reported = subject.grow(source_of(alloc, growth.longer, usize::MAX)?);
     let has_refused = heap.has_refused();
-    let outcome = outcome_of(alloc, subject, told, wanted)?;
+    let outcome = outcome_of(alloc, subject, reported, wanted)?;
     Ok(request_of(outcome, has_refused, growth.bytes.len()))
 }
 
@@ -195,9 +195,9 @@ fn unkept(
     let source = source_of(alloc, growth.bytes, usize::MAX)?;
     match Subject::open(growth.name, &heap, source) {
         Ok(mut subject) => {
-            let told = grown_unkept(alloc, &heap, &mut subject, growth, wanted);
+            let reported = grown_unkept(alloc, &heap, &mut subject, growth, wanted);
             subject.close();
-            told
+            reported
         }
         Err(fault) if fault.kind == FaultKind::Memory => Ok(Request::Opening),
         Err(_) => Ok(Request::Otherwise),

@@ -181,9 +181,9 @@ pub(crate) fn add_growth_case(
 ) -> Result<(), AllocError> {
     match opened(alloc, source_of(alloc, bytes, most)?) {
         Ok(mut archive) => {
-            let told = add_growth(alloc, &mut archive, case, (bytes, most), answer);
+            let reported = add_growth(alloc, &mut archive, case, (bytes, most), answer);
             close(archive);
-            told
+            reported
         }
         Err(fault) => add_text(alloc, answer, &fault),
     }

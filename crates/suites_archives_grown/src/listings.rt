@@ -18,9 +18,9 @@ fn listing_grown(listing: &mut Listing<MemSource>, source: MemSource) -> (Option
 fn listing_from_nothing(alloc: Global, source: MemSource) -> (Option<Fault>, usize) {
     match Listing::open(alloc, MemSource::new(Vec::new(alloc), 1)) {
         Ok(mut listing) => {
-            let told = listing_grown(&mut listing, source);
+            let reported = listing_grown(&mut listing, source);
             listing.into_source();
-            told
+            reported
         }
         Err((fault, _source)) => (Some(fault), 0),
     }

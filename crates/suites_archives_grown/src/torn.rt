@@ -58,9 +58,9 @@ fn recovers_once_open(
 ) -> Result<bool, AllocError> {
     match Subject::open(name, alloc, source_of(alloc, bytes, most)?) {
         Ok(mut subject) => {
-            let told = recovers(alloc, &mut subject, (bytes, most), (record, len), wanted);
+            let reported = recovers(alloc, &mut subject, (bytes, most), (record, len), wanted);
             subject.close();
-            told
+            reported
         }
         Err(_) => Ok(false),
     }

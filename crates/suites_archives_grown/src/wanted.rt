@@ -15,9 +15,9 @@ pub(crate) struct Wanted {
 pub(crate) fn all_of_bytes(alloc: Global, name: &str, bytes: &[u8]) -> Result<Vec<u8>, AllocError> {
     match Subject::open(name, alloc, source_of(alloc, bytes, usize::MAX)?) {
         Ok(mut subject) => {
-            let told = subject.all(alloc);
+            let reported = subject.all(alloc);
             subject.close();
-            told
+            reported
         }
         Err(_) => Ok(Vec::new(alloc)),
     }

@@ -133,9 +133,9 @@ made_more records r plans i d lt so_far made_is =
     ∙ sym (map_more made_of plans i d lt)
 
 -- what a sink tells that told nothing before
-pub told_bytes : (new old text : List ℕ) → Some new ≡ append_known (Some old) text → old ≡ [] → new ≡ text
-told_bytes new old text told empty =
-    let e : Some new ≡ Some text = told ∙ ap (λ (l : List ℕ). Some (l ++ text)) empty in cc e
+pub reported_bytes : (new old text : List ℕ) → Some new ≡ append_known (Some old) text → old ≡ [] → new ≡ text
+reported_bytes new old text reported empty =
+    let e : Some new ≡ Some text = reported ∙ ap (λ (l : List ℕ). Some (l ++ text)) empty in cc e
 
 -- one more record is read
 pub read_more : (bytes : List ℕ) (rows before : List Row) (position : ℕ) (records : List Record) (r : Record) → before ≡ rows

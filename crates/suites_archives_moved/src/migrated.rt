@@ -23,9 +23,9 @@ pub(crate) fn questions_of(
 ) -> Result<Result<Questions, Fault>, AllocError> {
     match opened(alloc, source_of(alloc, bytes, usize::MAX)?) {
         Ok(archive) => {
-            let told = questions_in(alloc, &archive);
+            let reported = questions_in(alloc, &archive);
             close(archive);
-            told
+            reported
         }
         Err(fault) => Ok(Err(fault)),
     }
@@ -62,9 +62,9 @@ pub(crate) fn offsets_of(
 ) -> Result<Vec<usize>, AllocError> {
     match opened(alloc, source_of(alloc, bytes, usize::MAX)?) {
         Ok(archive) => {
-            let told = offsets_in(alloc, &archive, most);
+            let reported = offsets_in(alloc, &archive, most);
             close(archive);
-            told
+            reported
         }
         Err(_) => Ok(Vec::new(alloc)),
     }
@@ -88,9 +88,9 @@ pub(crate) fn answers_of(
 ) -> Result<Option<Answers>, AllocError> {
     match opened(alloc, source_of(alloc, bytes, most)?) {
         Ok(mut archive) => {
-            let told = answers_in(alloc, &mut archive, questions);
+            let reported = answers_in(alloc, &mut archive, questions);
             close(archive);
-            told
+            reported
         }
         Err(_) => Ok(None),
     }
@@ -113,9 +113,9 @@ pub(crate) fn answers_migrated(
 ) -> Result<Option<Answers>, AllocError> {
     match migrated(alloc, source_of(alloc, bytes, most)?) {
         Some(mut archive) => {
-            let told = answers_in(alloc, &mut archive, questions);
+            let reported = answers_in(alloc, &mut archive, questions);
             close(archive);
-            told
+            reported
         }
         None => Ok(None),
     }

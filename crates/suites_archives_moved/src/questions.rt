@@ -162,9 +162,9 @@ impl Answers {
         moment: &Moment,
     ) -> Result<(), AllocError> {
         let mut body = MemSink::new(Vec::new(alloc));
-        let told = replayed(archive, target, moment, &mut body);
-        self.bodies = self.bodies.saturating_add(u64::from(told.is_ok()));
-        add_replay(alloc, &mut self.text, told)?;
+        let reported = replayed(archive, target, moment, &mut body);
+        self.bodies = self.bodies.saturating_add(u64::from(reported.is_ok()));
+        add_replay(alloc, &mut self.text, reported)?;
         self.text.extend_from_slice(body.bytes())
     }
 }

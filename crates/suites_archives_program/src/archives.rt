@@ -97,9 +97,9 @@ impl Archives {
             "by" => self.replace(alloc, case.given(), answer)?,
             "first" => self.cut(alloc, case.number(1), answer)?,
             "flood" => self.flood(alloc, case)?,
-            "opens" => tell_opened(alloc, &self.bytes, &mut self.openings, answer)?,
+            "opens" => say_opened(alloc, &self.bytes, &mut self.openings, answer)?,
             "compared" => self.compare(alloc, case.given(), answer)?,
-            "each-front-opens" => tell_fronts(alloc, &self.bytes, &mut self.openings, answer)?,
+            "each-front-opens" => say_fronts(alloc, &self.bytes, &mut self.openings, answer)?,
             _ => return Ok(false),
         }
         Ok(true)
@@ -131,7 +131,7 @@ impl Archives {
         self.keep(alloc, name, bytes)?;
         self.given_count = self.given_count.saturating_add(1);
         self.damages.damage_both(alloc, bytes, answer)?;
-        tell_otherwise(alloc, bytes, bytes, &mut self.openings, answer)
+        say_otherwise(alloc, bytes, bytes, &mut self.openings, answer)
     }
 
     /// Takes an archive as it is.
@@ -178,7 +178,7 @@ impl Archives {
         self.bytes = bytes;
         self.made_count = self.made_count.saturating_add(1);
         self.damages.damage_both(alloc, &self.bytes, answer)?;
-        tell_otherwise(alloc, &self.bytes, &self.bytes, &mut self.openings, answer)
+        say_otherwise(alloc, &self.bytes, &self.bytes, &mut self.openings, answer)
     }
 
     /// Makes an archive of the one that was given and as many more records as the second word says. Each is the text
@@ -228,7 +228,7 @@ impl Archives {
         if !self.damages.opens(alloc, &self.bytes, text) {
             answer.extend_from_slice(b"read at once it opens otherwise\n")?;
         }
-        tell_otherwise(alloc, &self.bytes, text, &mut self.openings, answer)
+        say_otherwise(alloc, &self.bytes, text, &mut self.openings, answer)
     }
 
     /// A line of how often archives were damaged.
@@ -311,7 +311,7 @@ pub(crate) fn opens_as_read(
 }
 
 /// Says where an archive doesn't open as the plain reading of a text says.
-fn tell_otherwise(
+fn say_otherwise(
     alloc: Global,
     bytes: &[u8],
     text: &[u8],
@@ -326,7 +326,7 @@ fn tell_otherwise(
 }
 
 /// How many records an archive has, or why it isn't opened.
-fn tell_opened(
+fn say_opened(
     alloc: Global,
     bytes: &[u8],
     openings: &mut Openings,
@@ -338,11 +338,11 @@ fn tell_opened(
         Err(fault) => format!(in alloc; "{fault}\n")?,
     };
     answer.extend_from_slice(line.as_bytes())?;
-    tell_otherwise(alloc, bytes, bytes, openings, answer)
+    say_otherwise(alloc, bytes, bytes, openings, answer)
 }
 
 /// How many of the fronts that are shorter than an archive open as they read.
-fn tell_fronts(
+fn say_fronts(
     alloc: Global,
     bytes: &[u8],
     openings: &mut Openings,

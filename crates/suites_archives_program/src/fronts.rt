@@ -1,6 +1,6 @@
 //! What is salvaged of each front of an archive.
 
-use crate::lines::tell_count;
+use crate::lines::say_count;
 use crate::plain::good_len;
 use crate::runs::{Asked, run_in_pieces};
 use std::alloc::{AllocError, Global};
@@ -25,7 +25,7 @@ fn is_salvaged(alloc: Global, bytes: &[u8]) -> Result<bool, AllocError> {
 }
 
 /// Tells of how many fronts that are shorter than an archive the good records are salvaged, no more and no fewer.
-pub(crate) fn tell_salvaged(
+pub(crate) fn say_salvaged(
     alloc: Global,
     archive: &[u8],
     answer: &mut Vec<u8>,
@@ -36,5 +36,5 @@ pub(crate) fn tell_salvaged(
             count = count.saturating_add(1);
         }
     }
-    tell_count(alloc, count, "fronts", answer)
+    say_count(alloc, count, "fronts", answer)
 }

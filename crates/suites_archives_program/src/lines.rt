@@ -4,7 +4,7 @@ use crate::runs::Ended;
 use std::alloc::{AllocError, Global};
 
 /// Adds a number and a text behind it, as a line.
-pub(crate) fn tell_count(
+pub(crate) fn say_count(
     alloc: Global,
     count: u64,
     of: &str,
@@ -15,7 +15,7 @@ pub(crate) fn tell_count(
 }
 
 /// Adds what a run wrote, or that it wrote its archive as it stands.
-fn tell_output(out: &[u8], archive: &[u8], answer: &mut Vec<u8>) -> Result<(), AllocError> {
+fn say_output(out: &[u8], archive: &[u8], answer: &mut Vec<u8>) -> Result<(), AllocError> {
     if !out.is_empty() && out == archive {
         answer.extend_from_slice(b"as it stands\n")
     } else {
@@ -24,7 +24,7 @@ fn tell_output(out: &[u8], archive: &[u8], answer: &mut Vec<u8>) -> Result<(), A
 }
 
 /// Adds the line that a run told behind `! `, and its status behind `= `.
-pub(crate) fn tell_end(
+pub(crate) fn say_end(
     alloc: Global,
     ended: &Ended,
     answer: &mut Vec<u8>,
@@ -38,12 +38,12 @@ pub(crate) fn tell_end(
 }
 
 /// Adds what a run over an archive wrote, the line that it told, and its status.
-pub(crate) fn tell(
+pub(crate) fn say(
     alloc: Global,
     ended: &Ended,
     archive: &[u8],
     answer: &mut Vec<u8>,
 ) -> Result<(), AllocError> {
-    tell_output(&ended.out, archive, answer)?;
-    tell_end(alloc, ended, answer)
+    say_output(&ended.out, archive, answer)?;
+    say_end(alloc, ended, answer)
 }

@@ -36,7 +36,7 @@ pub(crate) struct Asked<'a> {
 
 /// The line, the status and the source of a run whose output goes to a sink. What the program keeps is taken from
 /// `heap`.
-fn told<S: Source + Drop, A: Allocator + Copy, W: Sink>(
+fn reported<S: Source + Drop, A: Allocator + Copy, W: Sink>(
     heap: A,
     alloc: Global,
     asked: Asked<'_>,
@@ -56,7 +56,7 @@ fn run<S: Source + Drop, A: Allocator + Copy>(
     source: S,
 ) -> (Ended, S) {
     let mut out = MemSink::new(Vec::new(alloc));
-    let (err, status, source) = told(heap, alloc, asked, source, &mut out);
+    let (err, status, source) = reported(heap, alloc, asked, source, &mut out);
     let ended = Ended {
         out: out.into_inner(),
         err,
@@ -151,7 +151,7 @@ pub(crate) fn run_cut(
 ) -> Result<(Ended, Ended), AllocError> {
     let source = MemSource::new(asked.archive.to_vec(alloc)?, usize::MAX);
     let mut sink = BrokenWriter::new(alloc, number, how).taking(most);
-    let (err, status, source) = told(alloc, alloc, asked, source, &mut sink);
+    let (err, status, source) = reported(alloc, alloc, asked, source, &mut sink);
     let out = sink.bytes().to_vec(alloc)?;
     let (again, _) = run(alloc, alloc, asked, source);
     Ok((Ended { out, err, status }, again))

@@ -3,7 +3,7 @@
 use crate::fronts::SALVAGE;
 use crate::runs::{Asked, Ended, Refused, run_in_pieces, run_refused};
 use crate::salvaged::{good_in, is_salvaged};
-use crate::turns::{MOST, Stage, tell_reads};
+use crate::turns::{MOST, Stage, say_reads};
 use std::alloc::{AllocError, Global};
 use suites_script::Case;
 
@@ -49,14 +49,14 @@ fn count_refused(
         match stage_refused(alloc, asked, whole, number)? {
             Stage::Opening => {}
             Stage::Done => return Ok(Some(number - 1)),
-            Stage::Behind | Stage::Otherwise => return Ok(None),
+            Stage::Following | Stage::Otherwise => return Ok(None),
         }
     }
     Ok(None)
 }
 
 /// Tells whether more than a given number of requests for memory are refused in turn.
-fn tell_refused(
+fn say_refused(
     alloc: Global,
     asked: Asked<'_>,
     few: u64,
@@ -84,8 +84,8 @@ pub(crate) fn answer_salvaging(
         archive,
     };
     match case.text(0) {
-        "each-read-salvages" => tell_reads(alloc, asked, case.number(1) as usize, answer)?,
-        "each-request-salvages" => tell_refused(alloc, asked, case.number(1), answer)?,
+        "each-read-salvages" => say_reads(alloc, asked, case.number(1) as usize, answer)?,
+        "each-request-salvages" => say_refused(alloc, asked, case.number(1), answer)?,
         _ => return Ok(false),
     }
     Ok(true)

@@ -1,6 +1,6 @@
 //! Runs in which each read, each write or each request for memory fails in turn.
 
-use crate::lines::tell_count;
+use crate::lines::say_count;
 use crate::runs::{Asked, Ended, Refused, run_broken, run_cut, run_in_pieces, run_refused};
 use crate::salvaged::{good_in, is_salvaged};
 use std::alloc::{AllocError, Global};
@@ -16,7 +16,7 @@ pub(crate) enum Stage {
     /// The archive wasn't open.
     Opening,
     /// It was, and some of the output may be out.
-    Behind,
+    Following,
     /// It ended as if none had failed.
     Done,
     /// It ended otherwise.
@@ -25,8 +25,8 @@ pub(crate) enum Stage {
 
 /// Whether a run failed behind the opening: what went out is the front of the whole, and the line tells this, and how
 /// many bytes that has.
-fn is_cut(alloc: Global, ended: &Ended, whole: &Ended, told: &str) -> Result<bool, AllocError> {
-    let line = format!(in alloc; "warc: {told} after {}\n", ended.out.len())?;
+fn is_cut(alloc: Global, ended: &Ended, whole: &Ended, reported: &str) -> Result<bool, AllocError> {
+    let line = format!(in alloc; "warc: {reported} after {}\n", ended.out.len())?;
     let is_front = whole.out.starts_with(&ended.out);
     Ok(is_front && ended.err.as_slice() == line.as_bytes() && ended.status == 3)
 }
@@ -63,7 +63,7 @@ fn stage_of(
     at: u64,
 ) -> Result<Stage, AllocError> {
     Ok(if is_cut(alloc, ended, whole, "read failed")? {
-        Stage::Behind
+        Stage::Following
     } else if is_unopened(alloc, asked, ended, at)? {
         Stage::Opening
     } else {
@@ -100,12 +100,12 @@ fn count_reads(
     whole: &Ended,
     most: usize,
 ) -> Result<Option<(u64, u64)>, AllocError> {
-    let (mut opening, mut behind) = (0u64, 0u64);
+    let (mut opening, mut following) = (0u64, 0u64);
     for number in 1..MOST {
         match stage_at(alloc, asked, whole, most, number)? {
-            Stage::Opening if behind == 0 => opening = opening.saturating_add(1),
-            Stage::Behind => behind = behind.saturating_add(1),
-            Stage::Done => return Ok(Some((opening, behind))),
+            Stage::Opening if following == 0 => opening = opening.saturating_add(1),
+            Stage::Following => following = following.saturating_add(1),
+            Stage::Done => return Ok(Some((opening, following))),
             Stage::Opening | Stage::Otherwise => return Ok(None),
         }
     }
@@ -113,7 +113,7 @@ fn count_reads(
 }
 
 /// Reports how many reads of `most` bytes fail in turn, until none fails.
-pub(crate) fn tell_reads(
+pub(crate) fn say_reads(
     alloc: Global,
     asked: Asked<'_>,
     most: usize,
@@ -121,9 +121,9 @@ pub(crate) fn tell_reads(
 ) -> Result<(), AllocError> {
     let whole = run_in_pieces(alloc, asked, usize::MAX)?;
     match count_reads(alloc, asked, &whole, most)? {
-        Some((opening, behind)) => {
-            tell_count(alloc, opening, "while the archive is opened", answer)?;
-            tell_count(alloc, behind, "behind that", answer)
+        Some((opening, following)) => {
+            say_count(alloc, opening, "while the archive is opened", answer)?;
+            say_count(alloc, following, "behind that", answer)
         }
         None => answer.extend_from_slice(b"a run ends otherwise\n"),
     }
@@ -144,7 +144,7 @@ fn stage_of_write(
     Ok(if !again.is_like(whole) {
         Stage::Otherwise
     } else if is_cut(alloc, &ended, whole, "write failed")? && ended.out.len() as u64 == sent {
-        Stage::Behind
+        Stage::Following
     } else if ended.is_like(whole) {
         Stage::Done
     } else {
@@ -162,7 +162,7 @@ fn count_writes(
 ) -> Result<Option<u64>, AllocError> {
     for number in 0..MOST {
         match stage_of_write(alloc, asked, whole, most, (number, how))? {
-            Stage::Behind => {}
+            Stage::Following => {}
             Stage::Done => return Ok(Some(number)),
             Stage::Opening | Stage::Otherwise => return Ok(None),
         }
@@ -187,7 +187,7 @@ fn count_short(
 }
 
 /// Reports how many writes of `most` bytes fail in turn, take nothing and take one byte, until none does.
-pub(crate) fn tell_writes(
+pub(crate) fn say_writes(
     alloc: Global,
     asked: Asked<'_>,
     most: usize,
@@ -216,7 +216,7 @@ fn is_refused(alloc: Global, ended: &Ended, whole: &Ended) -> Result<bool, Alloc
 }
 
 /// Adds the line that a run told, where it isn't the last one.
-fn tell_line(line: Vec<u8>, last: &mut Vec<u8>, answer: &mut Vec<u8>) -> Result<(), AllocError> {
+fn say_line(line: Vec<u8>, last: &mut Vec<u8>, answer: &mut Vec<u8>) -> Result<(), AllocError> {
     if line.as_slice() != last.as_slice() {
         answer.extend_from_slice(b"! ")?;
         answer.extend_from_slice(&line)?;
@@ -227,7 +227,7 @@ fn tell_line(line: Vec<u8>, last: &mut Vec<u8>, answer: &mut Vec<u8>) -> Result<
 
 /// Tells the line of the run of which the request for memory of a number is refused, and whether there was such a
 /// request. Where there was none, it is the run after it that may meet it.
-fn tell_request(
+fn say_request(
     alloc: Global,
     asked: Asked<'_>,
     whole: &Ended,
@@ -247,17 +247,17 @@ fn tell_request(
     };
     let is_again = !has_refused || again.is_like(whole);
     if !is_so || !is_again {
-        tell_count(alloc, number, "refused: the run ends otherwise", answer)?;
+        say_count(alloc, number, "refused: the run ends otherwise", answer)?;
     }
     if has_refused {
-        tell_line(ended.err, last, answer)?;
+        say_line(ended.err, last, answer)?;
     }
     Ok(has_refused)
 }
 
 /// Tells the lines of the runs of which each request for memory is refused in turn, until all are met: each line once,
 /// where several runs in a row tell it.
-pub(crate) fn tell_requests(
+pub(crate) fn say_requests(
     alloc: Global,
     asked: Asked<'_>,
     answer: &mut Vec<u8>,
@@ -265,7 +265,7 @@ pub(crate) fn tell_requests(
     let whole = run_in_pieces(alloc, asked, usize::MAX)?;
     let mut last = Vec::new(alloc);
     for number in 1..MOST {
-        if !tell_request(alloc, asked, &whole, number, &mut last, answer)? {
+        if !say_request(alloc, asked, &whole, number, &mut last, answer)? {
             return Ok(());
         }
     }
@@ -274,7 +274,7 @@ pub(crate) fn tell_requests(
 
 /// Whether a run refuses the request for memory of a number, and tells a line that begins so; nothing where there is no
 /// such request.
-fn tells_refusal(
+fn reports_refusal(
     alloc: Global,
     asked: Asked<'_>,
     line: &[u8],
@@ -292,8 +292,8 @@ fn tells_refusal(
 fn count_refusals(alloc: Global, asked: Asked<'_>, line: &[u8]) -> Result<Option<u64>, AllocError> {
     let mut count = 0u64;
     for number in 1..MOST {
-        match tells_refusal(alloc, asked, line, number)? {
-            Some(is_told) => count = count.saturating_add(u64::from(is_told)),
+        match reports_refusal(alloc, asked, line, number)? {
+            Some(is_reported) => count = count.saturating_add(u64::from(is_reported)),
             None => return Ok(Some(count)),
         }
     }
@@ -301,7 +301,7 @@ fn count_refusals(alloc: Global, asked: Asked<'_>, line: &[u8]) -> Result<Option
 }
 
 /// Tells whether as many requests are refused at the first record as while the archive of that record alone is opened.
-pub(crate) fn tell_as_alone(
+pub(crate) fn say_as_alone(
     alloc: Global,
     asked: Asked<'_>,
     first: usize,

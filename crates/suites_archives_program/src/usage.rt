@@ -12,25 +12,25 @@ pub(crate) fn answer_usage(
     answer: &mut Vec<u8>,
 ) -> Result<bool, AllocError> {
     match case.text(0) {
-        "parse" => tell_parsed(alloc, case, answer)?,
-        "help" => tell_help(alloc, case, answer)?,
-        "told" => tell_told(alloc, case, answer)?,
-        "memory-is-told" => tell_memory(alloc, answer)?,
+        "parse" => say_parsed(alloc, case, answer)?,
+        "help" => say_help(alloc, case, answer)?,
+        "told" => say_reported(alloc, case, answer)?,
+        "memory-is-told" => say_memory(alloc, answer)?,
         _ => return Ok(false),
     }
     Ok(true)
 }
 
 /// Tells the command that words name and the path that it reads, or whether they are refused.
-fn tell_parsed(alloc: Global, case: &Case<'_>, answer: &mut Vec<u8>) -> Result<(), AllocError> {
+fn say_parsed(alloc: Global, case: &Case<'_>, answer: &mut Vec<u8>) -> Result<(), AllocError> {
     let words = words_from(alloc, case, 1)?;
     match parse(alloc, &words) {
-        Ok(request) => tell_request(alloc, &request, answer),
-        Err(fault) => tell_fault(&fault, answer),
+        Ok(request) => say_request(alloc, &request, answer),
+        Err(fault) => say_fault(&fault, answer),
     }
 }
 
-fn tell_request(
+fn say_request(
     alloc: Global,
     request: &Request<'_>,
     answer: &mut Vec<u8>,
@@ -65,36 +65,36 @@ fn kind_of(fault: &CommandFault) -> &'static [u8] {
     }
 }
 
-fn tell_fault(fault: &CommandFault, answer: &mut Vec<u8>) -> Result<(), AllocError> {
+fn say_fault(fault: &CommandFault, answer: &mut Vec<u8>) -> Result<(), AllocError> {
     answer.extend_from_slice(kind_of(fault))
 }
 
 /// Tells the text of words that name no command.
-fn tell_told(alloc: Global, case: &Case<'_>, answer: &mut Vec<u8>) -> Result<(), AllocError> {
+fn say_reported(alloc: Global, case: &Case<'_>, answer: &mut Vec<u8>) -> Result<(), AllocError> {
     let words = words_from(alloc, case, 1)?;
     match parse(alloc, &words) {
         Ok(_) => answer.extend_from_slice(b"a command\n"),
         Err(fault) => {
-            tell_fault(&fault, answer)?;
+            say_fault(&fault, answer)?;
             answer.extend_from_slice(fault.to_string(alloc)?.as_bytes())
         }
     }
 }
 
 /// Tells whether help is asked for, and which of the given lines the text lacks.
-fn tell_help(alloc: Global, case: &Case<'_>, answer: &mut Vec<u8>) -> Result<(), AllocError> {
+fn say_help(alloc: Global, case: &Case<'_>, answer: &mut Vec<u8>) -> Result<(), AllocError> {
     let words = words_from(alloc, case, 1)?;
     match parse(alloc, &words) {
         Ok(_) => answer.extend_from_slice(b"a command\n"),
         Err(fault) => {
-            tell_fault(&fault, answer)?;
-            tell_lacking(fault.to_string(alloc)?.as_str(), case.given(), answer)
+            say_fault(&fault, answer)?;
+            say_lacking(fault.to_string(alloc)?.as_str(), case.given(), answer)
         }
     }
 }
 
 /// Adds those of the lines that don't stand in a text.
-fn tell_lacking(text: &str, lines: &[u8], answer: &mut Vec<u8>) -> Result<(), AllocError> {
+fn say_lacking(text: &str, lines: &[u8], answer: &mut Vec<u8>) -> Result<(), AllocError> {
     for line in str::from_utf8(lines).unwrap_or("").lines() {
         if !text.contains(line) {
             answer.extend_from_slice(b"it lacks: ")?;
@@ -106,7 +106,7 @@ fn tell_lacking(text: &str, lines: &[u8], answer: &mut Vec<u8>) -> Result<(), Al
 }
 
 /// Adds the line of a command line for which there is no memory.
-fn tell_memory(alloc: Global, answer: &mut Vec<u8>) -> Result<(), AllocError> {
+fn say_memory(alloc: Global, answer: &mut Vec<u8>) -> Result<(), AllocError> {
     let line = format!(in alloc; "{}\n", CommandFault::Memory)?;
     answer.extend_from_slice(line.as_bytes())
 }

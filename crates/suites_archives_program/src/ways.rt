@@ -1,13 +1,13 @@
 //! The ways in which a case runs a command.
 
 use crate::archives::PIECES;
-use crate::fronts::tell_salvaged;
-use crate::lines::{tell, tell_count, tell_end};
+use crate::fronts::say_salvaged;
+use crate::lines::{say, say_count, say_end};
 use crate::runs::{
     Asked, Ended, run_broken, run_changing, run_cut, run_endless, run_in_pieces, run_streamed,
 };
 use crate::salvage_failures::answer_salvaging;
-use crate::turns::{tell_as_alone, tell_reads, tell_requests, tell_writes};
+use crate::turns::{say_as_alone, say_reads, say_requests, say_writes};
 use crate::usage::answer_usage;
 use crate::words::{is_command, line_of};
 use std::alloc::{AllocError, Global};
@@ -44,7 +44,7 @@ pub fn answer(
         return Ok(true);
     }
     if case.text(0) == "each-front-salvages" {
-        tell_salvaged(alloc, archive, answer)?;
+        say_salvaged(alloc, archive, answer)?;
         return Ok(true);
     }
     let index = words_before(case.text(0));
@@ -82,41 +82,41 @@ fn answer_run(
     answer: &mut Vec<u8>,
 ) -> Result<(), AllocError> {
     match case.text(0) {
-        "length" => tell_length(alloc, asked, answer),
+        "length" => say_length(alloc, asked, answer),
         "whole" => {
             let ended = run_in_pieces(alloc, asked, usize::MAX)?;
-            tell(alloc, &ended, asked.archive, answer)
+            say(alloc, &ended, asked.archive, answer)
         }
         "failed-read" => {
             let (ended, _) = run_broken(alloc, asked, most_of(case, 2), case.number(1))?;
-            tell(alloc, &ended, asked.archive, answer)
+            say(alloc, &ended, asked.archive, answer)
         }
-        "failed-write" => tell_cut(alloc, case, asked, Break::Fails, answer),
+        "failed-write" => say_cut(alloc, case, asked, Break::Fails, answer),
         "short-writes" => {
             let how = Break::Takes(case.number(2) as usize);
-            tell_cut(alloc, case, asked, how, answer)
+            say_cut(alloc, case, asked, how, answer)
         }
         "changed-read" => {
             let ended = run_changing(alloc, asked, case.given(), case.number(1))?;
-            tell(alloc, &ended, asked.archive, answer)
+            say(alloc, &ended, asked.archive, answer)
         }
-        "endless" => tell_endless(alloc, asked, answer),
-        "each-read" => tell_reads(alloc, asked, most_of(case, 1), answer),
-        "each-write" => tell_writes(alloc, asked, most_of(case, 1), answer),
-        "each-request" => tell_requests(alloc, asked, answer),
-        "requests-alone" => tell_as_alone(alloc, asked, case.number(1) as usize, answer),
-        _ => tell_pieces(alloc, asked, answer),
+        "endless" => say_endless(alloc, asked, answer),
+        "each-read" => say_reads(alloc, asked, most_of(case, 1), answer),
+        "each-write" => say_writes(alloc, asked, most_of(case, 1), answer),
+        "each-request" => say_requests(alloc, asked, answer),
+        "requests-alone" => say_as_alone(alloc, asked, case.number(1) as usize, answer),
+        _ => say_pieces(alloc, asked, answer),
     }
 }
 
 /// Tells a run with reads of all bytes, and which others end otherwise: with shorter reads, or, where the command can,
 /// over bytes that come once, in order.
-fn tell_pieces(alloc: Global, asked: Asked<'_>, answer: &mut Vec<u8>) -> Result<(), AllocError> {
+fn say_pieces(alloc: Global, asked: Asked<'_>, answer: &mut Vec<u8>) -> Result<(), AllocError> {
     let whole = run_in_pieces(alloc, asked, usize::MAX)?;
-    tell(alloc, &whole, asked.archive, answer)?;
+    say(alloc, &whole, asked.archive, answer)?;
     for most in PIECES {
         if !ends_like(alloc, asked, most, &whole)? {
-            tell_count(
+            say_count(
                 alloc,
                 most as u64,
                 "bytes a read: it ends otherwise",
@@ -141,15 +141,15 @@ fn ends_like(
 }
 
 /// Tells how many bytes a run writes, and how it ends.
-fn tell_length(alloc: Global, asked: Asked<'_>, answer: &mut Vec<u8>) -> Result<(), AllocError> {
+fn say_length(alloc: Global, asked: Asked<'_>, answer: &mut Vec<u8>) -> Result<(), AllocError> {
     let ended = run_in_pieces(alloc, asked, usize::MAX)?;
-    tell_count(alloc, ended.out.len() as u64, "bytes", answer)?;
-    tell_end(alloc, &ended, answer)
+    say_count(alloc, ended.out.len() as u64, "bytes", answer)?;
+    say_end(alloc, &ended, answer)
 }
 
 /// Tells a run of which a write breaks, and whether the run after it ends as if none had. Writes that fail are of so
 /// many bytes as the case says, and others of one byte.
-fn tell_cut(
+fn say_cut(
     alloc: Global,
     case: &Case<'_>,
     asked: Asked<'_>,
@@ -161,7 +161,7 @@ fn tell_cut(
         Break::Takes(_) => 1,
     };
     let (ended, again) = run_cut(alloc, asked, most, (case.number(1), how))?;
-    tell(alloc, &ended, asked.archive, answer)?;
+    say(alloc, &ended, asked.archive, answer)?;
     if ends_like(alloc, asked, usize::MAX, &again)? {
         Ok(())
     } else {
@@ -170,9 +170,9 @@ fn tell_cut(
 }
 
 /// Tells a run over a source without an end, how often it was read, and where last.
-fn tell_endless(alloc: Global, asked: Asked<'_>, answer: &mut Vec<u8>) -> Result<(), AllocError> {
+fn say_endless(alloc: Global, asked: Asked<'_>, answer: &mut Vec<u8>) -> Result<(), AllocError> {
     let (ended, (reads, last)) = run_endless(alloc, asked);
-    tell(alloc, &ended, b"", answer)?;
+    say(alloc, &ended, b"", answer)?;
     let line = format!(in alloc; "{reads} reads, the last at {last}\n")?;
     answer.extend_from_slice(line.as_bytes())
 }

@@ -1,7 +1,7 @@
 //! Replays of joined blocks: what is answered and what goes out, and what where a read or a write fails.
 
 use crate::stored::{Block, Named, stored};
-use crate::text::{fault_of, tell};
+use crate::text::{fault_of, say};
 use std::alloc::{AllocError, Global};
 use suites_script::{Case, Trial};
 use warc_answer::{Answer, Path, ReplayFault, is_http_response, replay_joined};
@@ -73,7 +73,7 @@ fn send(
     let mut sink = MemSink::new(BEFORE.to_vec(alloc)?);
     let answer = replay(source, origin, places, &mut sink);
     match sink.bytes().strip_prefix(BEFORE) {
-        Some(body) => tell(alloc, blocks, answer, body),
+        Some(body) => say(alloc, blocks, answer, body),
         None => b"what was there before is changed\n".to_vec(alloc),
     }
 }
@@ -100,7 +100,7 @@ fn write_out(
     let (bytes, places) = stored(alloc, blocks)?;
     let mut source = BrokenSource::new(bytes, usize::MAX, 0);
     let answer = replay_to_writer(&mut source, origin, &places, writer);
-    tell(alloc, blocks, answer, writer.bytes())
+    say(alloc, blocks, answer, writer.bytes())
 }
 
 /// The same of the write of that number.
@@ -148,18 +148,18 @@ fn fail_each(
     let whole = fail_at(alloc, origin, blocks, failing, 0)?;
     let mut last = Vec::new(alloc);
     for number in 1..MOST {
-        let told = fail_at(alloc, origin, blocks, failing, number)?;
-        if told != last {
+        let reported = fail_at(alloc, origin, blocks, failing, number)?;
+        if reported != last {
             answer.extend_from_slice(format!(in alloc; "from {number} on: ")?.as_bytes())?;
-            answer.extend_from_slice(&told)?;
-            if !told.ends_with(b"\n") {
+            answer.extend_from_slice(&reported)?;
+            if !reported.ends_with(b"\n") {
                 answer.push(b'\n')?;
             }
         }
-        if told == whole {
+        if reported == whole {
             return Ok(());
         }
-        last = told;
+        last = reported;
     }
     answer.extend_from_slice(b"there are more of them\n")
 }
@@ -297,7 +297,7 @@ impl Replays {
 }
 
 /// Tells the text of the fault that a case names.
-fn tell_fault(alloc: Global, case: &Case<'_>, answer: &mut Vec<u8>) -> Result<(), AllocError> {
+fn say_fault(alloc: Global, case: &Case<'_>, answer: &mut Vec<u8>) -> Result<(), AllocError> {
     match fault_of(case.text(1), case.optional_number(2)) {
         Some(fault) => answer.extend_from_slice(format!(in alloc; "{fault}\n")?.as_bytes()),
         None => answer.extend_from_slice(b"no such fault\n"),
@@ -315,7 +315,7 @@ impl Trial for Replays {
             "head" => self.name(alloc, case),
             "stored" => self.begin(alloc, case.word(1)),
             "block" => self.add(alloc, case),
-            "fault" => tell_fault(alloc, case, answer),
+            "fault" => say_fault(alloc, case, answer),
             _ => self.answer_case(alloc, case, answer),
         }
     }

@@ -42,11 +42,11 @@ pub(crate) fn begin_with(blocks: &[Block], bytes: &[u8]) -> bool {
     let mut rest = bytes;
     for block in blocks {
         let count = rest.len().min(block.bytes.len());
-        let (front, behind) = rest.split_at(count);
+        let (front, following) = rest.split_at(count);
         if block.bytes.get(..count) != Some(front) {
             return false;
         }
-        rest = behind;
+        rest = following;
     }
     rest.is_empty()
 }

@@ -8,7 +8,7 @@ use warc_index::Unfound;
 use warc_segment::Gap;
 
 /// Tells what is answered of a body that was given.
-fn tell_answer(alloc: Global, answer: Answer, told: &mut Vec<u8>) -> Result<(), AllocError> {
+fn say_answer(alloc: Global, answer: Answer, reported: &mut Vec<u8>) -> Result<(), AllocError> {
     let (chosen, given, length) = (answer.chosen, answer.given, answer.length);
     let status = match answer.status {
         Some(status) => format!(in alloc; "status {status}")?,
@@ -18,18 +18,18 @@ fn tell_answer(alloc: Global, answer: Answer, told: &mut Vec<u8>) -> Result<(), 
     let text = format!(in alloc;
         "chosen {chosen}, given {given}, {status}, {length} bytes{mark}\n"
     )?;
-    told.extend_from_slice(text.as_bytes())
+    reported.extend_from_slice(text.as_bytes())
 }
 
 /// Tells the bytes that went out. Of many, whether the blocks begin so.
-fn tell_body(
+fn say_body(
     alloc: Global,
     blocks: &[Block],
     body: &[u8],
-    told: &mut Vec<u8>,
+    reported: &mut Vec<u8>,
 ) -> Result<(), AllocError> {
     if body.len() <= 64 {
-        return told.extend_from_slice(body);
+        return reported.extend_from_slice(body);
     }
     let how = if begin_with(blocks, body) {
         "the blocks begin so"
@@ -37,23 +37,23 @@ fn tell_body(
         "the blocks don't begin so"
     };
     let text = format!(in alloc; "{} bytes went out, and {how}\n", body.len())?;
-    told.extend_from_slice(text.as_bytes())
+    reported.extend_from_slice(text.as_bytes())
 }
 
 /// Tells what a replay answers, and what went out.
-pub(crate) fn tell(
+pub(crate) fn say(
     alloc: Global,
     blocks: &[Block],
     answer: Result<Answer, ReplayFault>,
     body: &[u8],
 ) -> Result<Vec<u8>, AllocError> {
-    let mut told = Vec::new(alloc);
+    let mut reported = Vec::new(alloc);
     match answer {
-        Ok(answer) => tell_answer(alloc, answer, &mut told)?,
-        Err(fault) => told.extend_from_slice(format!(in alloc; "{fault}\n")?.as_bytes())?,
+        Ok(answer) => say_answer(alloc, answer, &mut reported)?,
+        Err(fault) => reported.extend_from_slice(format!(in alloc; "{fault}\n")?.as_bytes())?,
     }
-    tell_body(alloc, blocks, body, &mut told)?;
-    Ok(told)
+    say_body(alloc, blocks, body, &mut reported)?;
+    Ok(reported)
 }
 
 /// The fault of a name, which is about a number.

@@ -248,11 +248,11 @@ fn refuse(
             break;
         }
     }
-    refusals.tell(alloc, case.number(1), answer)
+    refusals.say(alloc, case.number(1), answer)
 }
 
 /// Tells what an index answers, which is the same for one that is added to and one that is filled.
-fn tell(
+fn say(
     alloc: Global,
     records: &Records,
     case: &Case<'_>,
@@ -284,13 +284,13 @@ fn refuse_both(
 }
 
 /// Tells what both answer, and what they do where requests are refused.
-fn tell_refused(
+fn say_refused(
     alloc: Global,
     records: &Records,
     case: &Case<'_>,
     answer: &mut Vec<u8>,
 ) -> Result<(), AllocError> {
-    let wanted = tell(alloc, records, case, 2, answer)?;
+    let wanted = say(alloc, records, case, 2, answer)?;
     refuse_both(alloc, records, case, &wanted, answer)
 }
 
@@ -302,7 +302,7 @@ pub(crate) fn answer_capture(
     answer: &mut Vec<u8>,
 ) -> Result<(), AllocError> {
     match case.text(0) {
-        "refused-index" => tell_refused(alloc, records, case, answer),
-        _ => tell(alloc, records, case, 0, answer).map(|_| ()),
+        "refused-index" => say_refused(alloc, records, case, answer),
+        _ => say(alloc, records, case, 0, answer).map(|_| ()),
     }
 }

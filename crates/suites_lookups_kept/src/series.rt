@@ -59,7 +59,7 @@ fn make(parts: &mut Parts<Heap<'_>>, willing: Heap<'_>, records: &Records) -> Op
 }
 
 /// Tells where a block begins, its length, and whether its digest can be checked and whether it is marked.
-fn tell_place(alloc: Global, place: &Place, told: &mut Vec<u8>) -> Result<(), AllocError> {
+fn say_place(alloc: Global, place: &Place, reported: &mut Vec<u8>) -> Result<(), AllocError> {
     let wanted = match place.wanted {
         Wanted::Unchecked => "",
         Wanted::Sha1(_) => " checked",
@@ -67,25 +67,25 @@ fn tell_place(alloc: Global, place: &Place, told: &mut Vec<u8>) -> Result<(), Al
     let mark = if place.truncated { " truncated" } else { "" };
     let (start, len) = (place.start, place.len);
     let text = format!(in alloc; "{start}+{len}{wanted}{mark}\n")?;
-    told.extend_from_slice(text.as_bytes())
+    reported.extend_from_slice(text.as_bytes())
 }
 
 /// Tells the places that are joined, or why none are.
-fn tell(
+fn say(
     alloc: Global,
     joined: &Result<Vec<Place, Heap<'_>>, JoinFault>,
-    told: &mut Vec<u8>,
+    reported: &mut Vec<u8>,
 ) -> Result<(), AllocError> {
     match joined {
         Ok(places) => {
             for place in places {
-                tell_place(alloc, place, told)?;
+                say_place(alloc, place, reported)?;
             }
             Ok(())
         }
         Err(fault) => {
             let text = format!(in alloc; "{fault}\n")?;
-            told.extend_from_slice(text.as_bytes())
+            reported.extend_from_slice(text.as_bytes())
         }
     }
 }
@@ -120,44 +120,44 @@ fn named<'a>(records: &'a Records, case: &Case<'_>, index: usize) -> Option<&'a 
 }
 
 /// Tells what is joined to the record that a case names.
-fn tell_join<'a>(
+fn say_join<'a>(
     alloc: Global,
     parts: &Parts<Heap<'a>>,
     willing: Heap<'a>,
     records: &Records,
     case: &Case<'_>,
-    told: &mut Vec<u8>,
+    reported: &mut Vec<u8>,
 ) -> Result<(), AllocError> {
     match named(records, case, 1) {
-        Some(head) => tell(alloc, &join(parts, willing, head, case.number(2)), told),
-        None => told.extend_from_slice(b"no such record\n"),
+        Some(head) => say(alloc, &join(parts, willing, head, case.number(2)), reported),
+        None => reported.extend_from_slice(b"no such record\n"),
     }
 }
 
 /// Tells how many bytes of keys are kept.
-fn tell_bytes(
+fn say_bytes(
     alloc: Global,
     parts: &Parts<Heap<'_>>,
-    told: &mut Vec<u8>,
+    reported: &mut Vec<u8>,
 ) -> Result<(), AllocError> {
     let text = format!(in alloc; "{}\n", parts.kept())?;
-    told.extend_from_slice(text.as_bytes())
+    reported.extend_from_slice(text.as_bytes())
 }
 
 /// Tells what a case asks for, once what happens to the archive has happened. Whether an addition was refused; `None`
 /// where that changed something.
-fn make_and_tell<'a>(
+fn make_and_say<'a>(
     alloc: Global,
     parts: &mut Parts<Heap<'a>>,
     willing: Heap<'a>,
     records: &Records,
     case: &Case<'_>,
-    told: &mut Vec<u8>,
+    reported: &mut Vec<u8>,
 ) -> Result<Option<bool>, AllocError> {
     let is_refused = make(parts, willing, records);
     match case.text(0) {
-        "segment-bytes" => tell_bytes(alloc, parts, told)?,
-        _ => tell_join(alloc, parts, willing, records, case, told)?,
+        "segment-bytes" => say_bytes(alloc, parts, reported)?,
+        _ => say_join(alloc, parts, willing, records, case, reported)?,
     }
     Ok(is_refused)
 }
@@ -169,10 +169,10 @@ fn perform(
     willing: Heap<'_>,
     records: &Records,
     case: &Case<'_>,
-    told: &mut Vec<u8>,
+    reported: &mut Vec<u8>,
 ) -> Result<Option<bool>, AllocError> {
     let mut parts = Parts::new(heap);
-    make_and_tell(alloc, &mut parts, willing, records, case, told)
+    make_and_say(alloc, &mut parts, willing, records, case, reported)
 }
 
 /// The same where the request of that number is refused, and whether it was; at 0 none is. Heads take their memory
@@ -182,11 +182,11 @@ fn perform_at(
     records: &Records,
     case: &Case<'_>,
     number: u64,
-    told: &mut Vec<u8>,
+    reported: &mut Vec<u8>,
 ) -> Result<(Option<bool>, bool), AllocError> {
     let willing = RefusingAllocator::new(alloc, 0);
     let heap = RefusingAllocator::new(alloc, number);
-    let added = perform(alloc, &heap, &willing, records, case, told)?;
+    let added = perform(alloc, &heap, &willing, records, case, reported)?;
     Ok((added, heap.has_refused()))
 }
 
@@ -212,12 +212,12 @@ fn turn_at(
     number: u64,
     wanted: &[u8],
 ) -> Result<Turn, AllocError> {
-    let mut told = Vec::new(alloc);
-    let (added, has_refused) = perform_at(alloc, records, case, number, &mut told)?;
+    let mut reported = Vec::new(alloc);
+    let (added, has_refused) = perform_at(alloc, records, case, number, &mut reported)?;
     Ok(match (added, has_refused) {
-        (Some(true), true) if told.as_slice() == wanted => Turn::Addition,
-        (Some(false), true) if told.as_slice() == NO_MEMORY => Turn::Joining,
-        (Some(false), false) if told.as_slice() == wanted => Turn::Absent,
+        (Some(true), true) if reported.as_slice() == wanted => Turn::Addition,
+        (Some(false), true) if reported.as_slice() == NO_MEMORY => Turn::Joining,
+        (Some(false), false) if reported.as_slice() == wanted => Turn::Absent,
         _ => Turn::Otherwise,
     })
 }
@@ -317,56 +317,56 @@ fn following(places: &[Place], first: u64) -> u64 {
 }
 
 /// Tells how many places are joined, and how many of them follow one another.
-fn tell_following(
+fn say_following(
     alloc: Global,
     joined: &Result<Vec<Place, Heap<'_>>, JoinFault>,
-    told: &mut Vec<u8>,
+    reported: &mut Vec<u8>,
 ) -> Result<(), AllocError> {
     match joined {
         Ok(places) => {
             let (count, right) = (places.len(), following(places, 2000));
             let text = format!(in alloc; "{count} places, {right} of them in order\n")?;
-            told.extend_from_slice(text.as_bytes())
+            reported.extend_from_slice(text.as_bytes())
         }
-        Err(_) => tell(alloc, joined, told),
+        Err(_) => say(alloc, joined, reported),
     }
 }
 
 /// Tells of a long series: the numbered segments have one head, and the first segment another.
-fn add_and_tell<'a>(
+fn add_and_say<'a>(
     alloc: Global,
     parts: &mut Parts<Heap<'a>>,
     willing: Heap<'a>,
     heads: (&Head, &Head),
     count: u64,
-    told: &mut Vec<u8>,
+    reported: &mut Vec<u8>,
 ) -> Result<(), AllocError> {
     let (first, other) = heads;
     add_numbered(parts, willing, other, count)?;
-    tell_following(alloc, &join(parts, willing, first, 1), told)
+    say_following(alloc, &join(parts, willing, first, 1), reported)
 }
 
 /// The same with parts that hold none yet.
-fn tell_numbered(
+fn say_numbered(
     alloc: Global,
     heads: (&Head, &Head),
     count: u64,
-    told: &mut Vec<u8>,
+    reported: &mut Vec<u8>,
 ) -> Result<(), AllocError> {
     let willing = RefusingAllocator::new(alloc, 0);
     let mut parts = Parts::new(&willing);
-    add_and_tell(alloc, &mut parts, &willing, heads, count, told)
+    add_and_say(alloc, &mut parts, &willing, heads, count, reported)
 }
 
 fn numbered(
     alloc: Global,
     records: &Records,
     case: &Case<'_>,
-    told: &mut Vec<u8>,
+    reported: &mut Vec<u8>,
 ) -> Result<(), AllocError> {
     match (named(records, case, 2), named(records, case, 3)) {
-        (Some(first), Some(other)) => tell_numbered(alloc, (first, other), case.number(1), told),
-        _ => told.extend_from_slice(b"no such record\n"),
+        (Some(first), Some(other)) => say_numbered(alloc, (first, other), case.number(1), reported),
+        _ => reported.extend_from_slice(b"no such record\n"),
     }
 }
 
@@ -385,40 +385,40 @@ fn gap_of(case: &Case<'_>) -> Option<Gap> {
 }
 
 /// Tells a gap's text, and that of the fault of joining that it is; without a gap that of want of memory.
-fn tell_gap(alloc: Global, case: &Case<'_>, told: &mut Vec<u8>) -> Result<(), AllocError> {
+fn say_gap(alloc: Global, case: &Case<'_>, reported: &mut Vec<u8>) -> Result<(), AllocError> {
     let text = match gap_of(case) {
         Some(gap) => format!(in alloc; "{gap}\n{}\n", JoinFault::Gap(gap))?,
         None => format!(in alloc; "{}\n", JoinFault::Memory)?,
     };
-    told.extend_from_slice(text.as_bytes())
+    reported.extend_from_slice(text.as_bytes())
 }
 
 /// Tells what is joined, and what comes of it where requests are refused.
-fn tell_refused(
+fn say_refused(
     alloc: Global,
     records: &Records,
     case: &Case<'_>,
     answer: &mut Vec<u8>,
 ) -> Result<(), AllocError> {
-    let mut told = Vec::new(alloc);
-    tell_plain(alloc, records, case, &mut told)?;
-    answer.extend_from_slice(&told)?;
-    match refuse_each(alloc, records, case, &told)? {
+    let mut reported = Vec::new(alloc);
+    say_plain(alloc, records, case, &mut reported)?;
+    answer.extend_from_slice(&reported)?;
+    match refuse_each(alloc, records, case, &reported)? {
         Some(refused) => answer.extend_from_slice(refused.text()),
         None => answer.extend_from_slice(b"something else once a request is refused\n"),
     }
 }
 
 /// Tells what a case asks for where no request is refused.
-fn tell_plain(
+fn say_plain(
     alloc: Global,
     records: &Records,
     case: &Case<'_>,
-    told: &mut Vec<u8>,
+    reported: &mut Vec<u8>,
 ) -> Result<(), AllocError> {
-    match perform_at(alloc, records, case, 0, told) {
+    match perform_at(alloc, records, case, 0, reported) {
         Ok((Some(_), _)) => Ok(()),
-        Ok((None, _)) => told.extend_from_slice(b"a record is refused\n"),
+        Ok((None, _)) => reported.extend_from_slice(b"a record is refused\n"),
         Err(error) => Err(error),
     }
 }
@@ -431,9 +431,9 @@ pub(crate) fn answer_series(
     answer: &mut Vec<u8>,
 ) -> Result<(), AllocError> {
     match case.text(0) {
-        "gap" => tell_gap(alloc, case, answer),
+        "gap" => say_gap(alloc, case, answer),
         "numbered" => numbered(alloc, records, case, answer),
-        "refused-join" => tell_refused(alloc, records, case, answer),
-        _ => tell_plain(alloc, records, case, answer),
+        "refused-join" => say_refused(alloc, records, case, answer),
+        _ => say_plain(alloc, records, case, answer),
     }
 }

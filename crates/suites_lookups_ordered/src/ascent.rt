@@ -8,9 +8,9 @@ use std::marker::Model;
 use warc_order::{Order, Unordered};
 
 /// The position behind that of a row, where it isn't below another.
-fn behind(row: &Row<'_>, next: usize) -> Option<usize>
+fn following(row: &Row<'_>, next: usize) -> Option<usize>
     ensures above { IfSome result (λ n. next ≤ row.now.position) }
-    ensures behind { IfSome result (λ n. n ≡ row.now.position + 1) }
+    ensures following { IfSome result (λ n. n ≡ row.now.position + 1) }
 {
     if row.position < next {
         return None;
@@ -46,7 +46,7 @@ impl<A: Allocator + Copy> Waiting<A> {
 
     /// Adds an entry. `Err`: no memory for it, its position isn't above all others, or it is 2^32 or more.
     pub(crate) fn push(&mut self, row: &Row<'_>) -> Result<(), AllocError> {
-        let Some(next) = behind(row, self.next) else {
+        let Some(next) = following(row, self.next) else {
             return Err(AllocError);
         };
         self.entries.add(row.text, row.mark, row.position)?;
@@ -102,7 +102,7 @@ impl<A: Allocator + Copy> Rising<A> {
 
     /// Adds an entry. `Err`: no memory for it, its position isn't above all others, or it is 2^32 or more.
     pub(crate) fn add(&mut self, row: &Row<'_>) -> Result<(), AllocError> {
-        let Some(next) = behind(row, self.next) else {
+        let Some(next) = following(row, self.next) else {
             return Err(AllocError);
         };
         self.order.add(row.text, row.mark, row.position)?;

@@ -39,7 +39,7 @@ fn holds(entries: &Entries<Global>, rows: &[Row<'_>]) -> bool {
 }
 
 /// Tells how many entries there are, how many bytes their texts have, and whether each is as it was added.
-fn tell(
+fn say(
     alloc: Global,
     entries: &Entries<Global>,
     rows: &[Row<'_>],
@@ -69,7 +69,7 @@ fn make(
             "keep" => entries.truncate(case.number(at + 1) as usize),
             _ => return Ok(()),
         }
-        tell(alloc, entries, rows, answer)?;
+        say(alloc, entries, rows, answer)?;
     }
     Ok(())
 }

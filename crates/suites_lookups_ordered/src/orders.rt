@@ -85,13 +85,13 @@ fn add_up_to(
     rising: &mut Rising<Heap<'_>>,
     work: &Work<'_>,
     count: usize,
-    told: &mut Vec<u8>,
+    reported: &mut Vec<u8>,
 ) -> Result<u64, AllocError> {
     let held = rising.order().len();
     let mut again = 0u64;
     for row in front(&work.rows, count).iter().skip(held) {
         let added = add(alloc, rising, work, row)?;
-        told.extend_from_slice(added.text())?;
+        reported.extend_from_slice(added.text())?;
         match added {
             Added::Done => {}
             Added::Again => again = again.saturating_add(1),
@@ -102,11 +102,11 @@ fn add_up_to(
 }
 
 /// Tells how many entries an order has, how many bytes their texts have, and whether it answers as a plain reading.
-fn tell(
+fn say(
     alloc: Global,
     rising: &Rising<Heap<'_>>,
     work: &Work<'_>,
-    told: &mut Vec<u8>,
+    reported: &mut Vec<u8>,
 ) -> Result<(), AllocError> {
     let how = if is_right(alloc, rising, work)? {
         "found as by a plain reading"
@@ -115,7 +115,7 @@ fn tell(
     };
     let (count, bytes) = (rising.order().len(), rising.order().kept());
     let text = format!(in alloc; "{count} entries, {bytes} bytes, {how}\n")?;
-    told.extend_from_slice(text.as_bytes())
+    reported.extend_from_slice(text.as_bytes())
 }
 
 /// Tells how many entries each text has, by steps from its first one.
@@ -123,14 +123,14 @@ fn walk(
     alloc: Global,
     rising: &Rising<Heap<'_>>,
     work: &Work<'_>,
-    told: &mut Vec<u8>,
+    reported: &mut Vec<u8>,
 ) -> Result<(), AllocError> {
-    told.extend_from_slice(b"of each text")?;
+    reported.extend_from_slice(b"of each text")?;
     for text in &work.texts {
         let count = format!(in alloc; " {}", steps(rising.order(), text))?;
-        told.extend_from_slice(count.as_bytes())?;
+        reported.extend_from_slice(count.as_bytes())?;
     }
-    told.extend_from_slice(b"\n")
+    reported.extend_from_slice(b"\n")
 }
 
 /// Makes the steps from a word on, and tells what an order answers after each. How many additions were refused and then
@@ -141,7 +141,7 @@ fn make(
     work: &Work<'_>,
     case: &Case<'_>,
     from: usize,
-    told: &mut Vec<u8>,
+    reported: &mut Vec<u8>,
 ) -> Result<u64, AllocError> {
     let mut again = 0u64;
     for at in (from..64).step_by(2) {
@@ -151,12 +151,12 @@ fn make(
         }
         let count = number(case, at.saturating_add(1));
         match verb {
-            "add" => again = again.saturating_add(add_up_to(alloc, rising, work, count, told)?),
+            "add" => again = again.saturating_add(add_up_to(alloc, rising, work, count, reported)?),
             "forget" => rising.forget_after(count),
-            "walk" => walk(alloc, rising, work, told)?,
+            "walk" => walk(alloc, rising, work, reported)?,
             _ => break,
         }
-        tell(alloc, rising, work, told)?;
+        say(alloc, rising, work, reported)?;
     }
     Ok(again)
 }
@@ -168,10 +168,10 @@ fn ordered(
     work: &Work<'_>,
     case: &Case<'_>,
     from: usize,
-    told: &mut Vec<u8>,
+    reported: &mut Vec<u8>,
 ) -> Result<u64, AllocError> {
     let mut rising = Rising::new(heap);
-    make(alloc, &mut rising, work, case, from, told)
+    make(alloc, &mut rising, work, case, from, reported)
 }
 
 /// Adds the entries to those that wait, each again if it is refused. Returns how many were refused, or `None` if one is
@@ -208,10 +208,10 @@ fn filled(
     work: &Work<'_>,
     case: &Case<'_>,
     from: usize,
-    told: &mut Vec<u8>,
+    reported: &mut Vec<u8>,
 ) -> Result<u64, AllocError> {
-    tell(alloc, rising, work, told)?;
-    make(alloc, rising, work, case, from, told)
+    say(alloc, rising, work, reported)?;
+    make(alloc, rising, work, case, from, reported)
 }
 
 /// The same of an order that is made of the entries that the words before that one say, and how many of these were
@@ -222,7 +222,7 @@ fn put_and_fill(
     work: &Work<'_>,
     case: &Case<'_>,
     from: usize,
-    told: &mut Vec<u8>,
+    reported: &mut Vec<u8>,
 ) -> (Result<u64, AllocError>, Option<u64>) {
     let after = from.saturating_add(1);
     let (forgotten, next) = match case.text(from) {
@@ -234,7 +234,10 @@ fn put_and_fill(
     };
     let rows = front(&work.rows, number(case, after));
     let (mut rising, waited) = put_in_order(heap, rows, forgotten);
-    (filled(alloc, &mut rising, work, case, next, told), waited)
+    (
+        filled(alloc, &mut rising, work, case, next, reported),
+        waited,
+    )
 }
 
 /// Does what the words of a case from one on say, and tells what comes of it. How many additions were refused and then
@@ -245,13 +248,13 @@ fn perform(
     work: &Work<'_>,
     case: &Case<'_>,
     from: usize,
-    told: &mut Vec<u8>,
+    reported: &mut Vec<u8>,
 ) -> Result<Option<u64>, AllocError> {
     if case.text(from) == "order" {
-        let again = ordered(alloc, heap, work, case, from.saturating_add(1), told)?;
+        let again = ordered(alloc, heap, work, case, from.saturating_add(1), reported)?;
         return Ok(Some(again));
     }
-    let (again, waited) = put_and_fill(alloc, heap, work, case, from, told);
+    let (again, waited) = put_and_fill(alloc, heap, work, case, from, reported);
     match (again, waited) {
         (Ok(again), Some(waited)) => Ok(Some(again.saturating_add(waited))),
         (Ok(_), None) => Ok(None),
@@ -266,10 +269,10 @@ fn perform_at(
     case: &Case<'_>,
     number: u64,
     from: usize,
-    told: &mut Vec<u8>,
+    reported: &mut Vec<u8>,
 ) -> (Result<Option<u64>, AllocError>, bool) {
     let heap = RefusingAllocator::new(alloc, number);
-    let again = perform(alloc, &heap, work, case, from, told);
+    let again = perform(alloc, &heap, work, case, from, reported);
     (again, heap.has_refused())
 }
 
@@ -281,9 +284,9 @@ fn refused_at(
     number: u64,
     wanted: &[u8],
 ) -> Result<Refusal, AllocError> {
-    let mut told = Vec::new(alloc);
-    let (again, is_refused) = perform_at(alloc, work, case, number, 2, &mut told);
-    let is_right = told.as_slice() == wanted && again? == Some(u64::from(is_refused));
+    let mut reported = Vec::new(alloc);
+    let (again, is_refused) = perform_at(alloc, work, case, number, 2, &mut reported);
+    let is_right = reported.as_slice() == wanted && again? == Some(u64::from(is_refused));
     Ok(Refusal::of(is_right, is_refused))
 }
 
@@ -301,7 +304,7 @@ fn refuse(
             break;
         }
     }
-    refusals.tell(alloc, case.number(1), answer)
+    refusals.say(alloc, case.number(1), answer)
 }
 
 /// Tells what comes of it where no request is refused.
@@ -310,11 +313,11 @@ fn do_all(
     work: &Work<'_>,
     case: &Case<'_>,
     from: usize,
-    told: &mut Vec<u8>,
+    reported: &mut Vec<u8>,
 ) -> Result<(), AllocError> {
-    match perform_at(alloc, work, case, 0, from, told) {
+    match perform_at(alloc, work, case, 0, from, reported) {
         (Ok(Some(_)), _) => Ok(()),
-        (Ok(None), _) => told.extend_from_slice(b"an entry that is to wait is refused\n"),
+        (Ok(None), _) => reported.extend_from_slice(b"an entry that is to wait is refused\n"),
         (Err(error), _) => Err(error),
     }
 }
@@ -326,10 +329,10 @@ fn do_all_and_refuse(
     case: &Case<'_>,
     answer: &mut Vec<u8>,
 ) -> Result<(), AllocError> {
-    let mut told = Vec::new(alloc);
-    do_all(alloc, work, case, 2, &mut told)?;
-    answer.extend_from_slice(&told)?;
-    refuse(alloc, work, case, &told, answer)
+    let mut reported = Vec::new(alloc);
+    do_all(alloc, work, case, 2, &mut reported)?;
+    answer.extend_from_slice(&reported)?;
+    refuse(alloc, work, case, &reported, answer)
 }
 
 /// Answers a case about these entries.

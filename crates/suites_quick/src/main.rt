@@ -8,10 +8,11 @@ use std::process::ExitCode;
 use suites_script::{Case, Trial, try_script};
 use warc_frame::{Head, read_head};
 use warc_quick::{
-    PlainFinding, PlainFindings, QuickHead, QuickRecord, judged_record, judged_text, quick_head,
+    PlainFinding, PlainFindings, QuickHead, QuickRecord, quick_head, record_with_findings,
+    text_findings,
 };
 use warc_record::{
-    Finding, HeadTexts, IdKey, Typed, bare, findings, id_key, judge_head, type_head,
+    Finding, HeadTexts, IdKey, Typed, bare, findings, good_head_of, id_key, type_head,
 };
 use warc_value::Wanted;
 
@@ -38,18 +39,14 @@ fn is_confirmed(alloc: Global, text: &[u8], quick: &QuickHead<'_>) -> bool {
     if head.len != quick.len || head.block_len != quick.block_len {
         return false;
     }
-    match judge_head(head.fields) {
+    match good_head_of(head.fields) {
         Ok(good) => have_same_texts(&quick.texts, &good.texts()),
         Err(_) => false,
     }
 }
 
 /// Adds what a head says.
-fn tell_quick(
-    alloc: Global,
-    answer: &mut Vec<u8>,
-    quick: &QuickHead<'_>,
-) -> Result<(), AllocError> {
+fn say_quick(alloc: Global, answer: &mut Vec<u8>, quick: &QuickHead<'_>) -> Result<(), AllocError> {
     let lengths = format!(in alloc;
         "head of {} bytes, block of {}\n",
         quick.len, quick.block_len
@@ -67,9 +64,9 @@ fn tell_quick(
 }
 
 /// Adds what the head at the front of a text says, if it is read in place.
-fn tell_head(alloc: Global, answer: &mut Vec<u8>, text: &[u8]) -> Result<(), AllocError> {
+fn say_head(alloc: Global, answer: &mut Vec<u8>, text: &[u8]) -> Result<(), AllocError> {
     match quick_head(text) {
-        Some(quick) if is_confirmed(alloc, text, &quick) => tell_quick(alloc, answer, &quick),
+        Some(quick) if is_confirmed(alloc, text, &quick) => say_quick(alloc, answer, &quick),
         Some(_) => answer.extend_from_slice(b"read in two ways\n"),
         None => answer.extend_from_slice(b"not read in place\n"),
     }
@@ -97,7 +94,7 @@ fn is_confirmed_alone(alloc: Global, text: &[u8], quick: &Typed<'_>) -> bool {
 }
 
 /// Adds whether the head at the front of a text is alone, if it is read in place. Such a head is typed.
-fn tell_alone(alloc: Global, answer: &mut Vec<u8>, text: &[u8]) -> Result<(), AllocError> {
+fn say_alone(alloc: Global, answer: &mut Vec<u8>, text: &[u8]) -> Result<(), AllocError> {
     let Some(quick) = quick_head(text) else {
         return answer.extend_from_slice(b"not read in place\n");
     };
@@ -138,14 +135,14 @@ fn is_confirmed_found(
     ) {
         return Ok(false);
     }
-    match judge_head(head.fields) {
+    match good_head_of(head.fields) {
         Ok(good) => Ok(good.wanted() == wanted),
         Err(_) => Ok(false),
     }
 }
 
 /// Adds the line of a finding: its number, and the field that it is about.
-fn tell_finding(
+fn say_finding(
     alloc: Global,
     answer: &mut Vec<u8>,
     finding: Finding<'_>,
@@ -161,14 +158,14 @@ fn tell_finding(
 }
 
 /// Adds what is found of a record that asks for this digest.
-fn tell_findings(
+fn say_findings(
     alloc: Global,
     answer: &mut Vec<u8>,
     wanted: Wanted,
     found: &PlainFindings,
 ) -> Result<(), AllocError> {
     for finding in found.as_slice() {
-        tell_finding(alloc, answer, finding.finding())?;
+        say_finding(alloc, answer, finding.finding())?;
     }
     if !found.as_slice().is_empty() {
         return Ok(());
@@ -180,17 +177,17 @@ fn tell_findings(
 }
 
 /// Adds what is found in place of the record whose head a text begins with.
-fn tell_found(alloc: Global, answer: &mut Vec<u8>, text: &[u8]) -> Result<(), AllocError> {
+fn say_found(alloc: Global, answer: &mut Vec<u8>, text: &[u8]) -> Result<(), AllocError> {
     let Ok(head) = read_head(alloc, text) else {
         return answer.extend_from_slice(b"no head\n");
     };
-    let Some((wanted, found)) = judged_text(&text[..head.len], head.block_len) else {
+    let Some((wanted, found)) = text_findings(&text[..head.len], head.block_len) else {
         return answer.extend_from_slice(b"not known in place\n");
     };
     if !is_confirmed_found(alloc, head, wanted, &found)? {
         return answer.extend_from_slice(b"read in two ways\n");
     }
-    tell_findings(alloc, answer, wanted, &found)
+    say_findings(alloc, answer, wanted, &found)
 }
 
 /// Whether the reading that keeps the fields reads a head and a block of the same lengths, and finds the same.
@@ -210,8 +207,8 @@ fn is_confirmed_record(
 }
 
 /// Adds what is known of the findings of the record that a text begins with, if it is read in place.
-fn tell_judged(alloc: Global, answer: &mut Vec<u8>, text: &[u8]) -> Result<(), AllocError> {
-    let Some(record) = judged_record(text) else {
+fn say_judged(alloc: Global, answer: &mut Vec<u8>, text: &[u8]) -> Result<(), AllocError> {
+    let Some(record) = record_with_findings(text) else {
         return answer.extend_from_slice(b"not read in place\n");
     };
     let Some(found) = record.head.findings else {
@@ -220,7 +217,7 @@ fn tell_judged(alloc: Global, answer: &mut Vec<u8>, text: &[u8]) -> Result<(), A
     if !is_confirmed_record(alloc, text, &record, &found)? {
         return answer.extend_from_slice(b"read in two ways\n");
     }
-    tell_findings(alloc, answer, record.head.wanted(), &found)
+    say_findings(alloc, answer, record.head.wanted(), &found)
 }
 
 /// Whether a key is that of an id's bare text.
@@ -232,15 +229,15 @@ fn is_key_of_bare(key: &IdKey<'_>, id: &[u8]) -> bool {
 }
 
 /// Adds how many bytes the key of an id has, if it is the key of the id's bare text, too.
-fn tell_key(alloc: Global, answer: &mut Vec<u8>, id: &[u8]) -> Result<(), AllocError> {
+fn say_key(alloc: Global, answer: &mut Vec<u8>, id: &[u8]) -> Result<(), AllocError> {
     let Some(key) = id_key(id) else {
         return answer.extend_from_slice(b"no id\n");
     };
     if !is_key_of_bare(&key, id) {
         return answer.extend_from_slice(b"read in two ways\n");
     }
-    let told = format!(in alloc; "a key of {} bytes\n", key.kept())?;
-    answer.extend_from_slice(told.as_bytes())
+    let reported = format!(in alloc; "a key of {} bytes\n", key.kept())?;
+    answer.extend_from_slice(reported.as_bytes())
 }
 
 /// The text that a case gives or else the one that was kept, changed by the words of the case if it has some.
@@ -267,11 +264,11 @@ impl Trial for Trials {
                 self.text = case.given().to_vec(alloc)?;
                 Ok(())
             }
-            "quick" => tell_head(alloc, answer, &text_of(alloc, case, &self.text)?),
-            "alone" => tell_alone(alloc, answer, &text_of(alloc, case, &self.text)?),
-            "found" => tell_found(alloc, answer, &text_of(alloc, case, &self.text)?),
-            "judged" => tell_judged(alloc, answer, &text_of(alloc, case, &self.text)?),
-            "key" => tell_key(alloc, answer, case.word(1)),
+            "quick" => say_head(alloc, answer, &text_of(alloc, case, &self.text)?),
+            "alone" => say_alone(alloc, answer, &text_of(alloc, case, &self.text)?),
+            "found" => say_found(alloc, answer, &text_of(alloc, case, &self.text)?),
+            "judged" => say_judged(alloc, answer, &text_of(alloc, case, &self.text)?),
+            "key" => say_key(alloc, answer, case.word(1)),
             _ => answer.extend_from_slice(b"no such case\n"),
         }
     }

@@ -58,7 +58,7 @@ impl Refusals {
     }
 
     /// Reports the runs. There should be more than `least`.
-    pub fn tell(self, alloc: Global, least: u64, answer: &mut Vec<u8>) -> Result<(), AllocError> {
+    pub fn say(self, alloc: Global, least: u64, answer: &mut Vec<u8>) -> Result<(), AllocError> {
         let (how, number) = if self.is_wrong {
             ("something else once this request is refused", self.count)
         } else if !self.is_ended {

@@ -19,7 +19,7 @@ pub trait Trial {
 /// The report on the cases so far, how many are under each name, and how many failed.
 #[derive(Drop)]
 pub struct Report {
-    told: Vec<u8>,
+    reported: Vec<u8>,
     /// How many cases are under the last name.
     named: usize,
     cases: usize,
@@ -34,7 +34,7 @@ impl Report {
     /// No cases so far. Of those to come, the ones are tried whose name holds a text.
     pub fn new(alloc: Global, only: &str) -> Result<Report, AllocError> {
         Ok(Report {
-            told: Vec::new(alloc),
+            reported: Vec::new(alloc),
             named: 0,
             cases: 0,
             steps: 0,
@@ -99,8 +99,8 @@ impl Report {
     fn end(&mut self, alloc: Global, name: &[u8]) -> Result<(), AllocError> {
         if self.named > 0 {
             let count = format!(in alloc; ": {}\n", self.named)?;
-            self.told.extend_from_slice(name)?;
-            self.told.extend_from_slice(count.as_bytes())?;
+            self.reported.extend_from_slice(name)?;
+            self.reported.extend_from_slice(count.as_bytes())?;
         }
         self.named = 0;
         Ok(())
@@ -118,32 +118,32 @@ impl Report {
         let mistake = case.mistake().unwrap_or(b"");
         if case.wanted() != answer || !mistake.is_empty() {
             self.failed = self.failed.saturating_add(1);
-            self.tell_failed(case, answer, mistake)?;
+            self.say_failed(case, answer, mistake)?;
         }
         Ok(())
     }
 
-    fn tell_failed(
+    fn say_failed(
         &mut self,
         case: &Case<'_>,
         answer: &[u8],
         mistake: &[u8],
     ) -> Result<(), AllocError> {
-        self.told.extend_from_slice(b"FAILED: ")?;
-        self.told.extend_from_slice(case.line())?;
-        self.told.extend_from_slice(b"\n")?;
-        self.told.extend_from_slice(mistake)?;
-        self.told.extend_from_slice(b"--- wanted:\n")?;
-        self.told.extend_from_slice(case.wanted())?;
-        self.told.extend_from_slice(b"\n--- answered:\n")?;
-        self.told.extend_from_slice(answer)?;
-        self.told.extend_from_slice(b"\n")
+        self.reported.extend_from_slice(b"FAILED: ")?;
+        self.reported.extend_from_slice(case.line())?;
+        self.reported.extend_from_slice(b"\n")?;
+        self.reported.extend_from_slice(mistake)?;
+        self.reported.extend_from_slice(b"--- wanted:\n")?;
+        self.reported.extend_from_slice(case.wanted())?;
+        self.reported.extend_from_slice(b"\n--- answered:\n")?;
+        self.reported.extend_from_slice(answer)?;
+        self.reported.extend_from_slice(b"\n")
     }
 
     /// Adds a line of what was counted beside the cases.
     pub fn add_line(&mut self, line: &str) -> Result<(), AllocError> {
-        self.told.extend_from_slice(line.as_bytes())?;
-        self.told.extend_from_slice(b"\n")
+        self.reported.extend_from_slice(line.as_bytes())?;
+        self.reported.extend_from_slice(b"\n")
     }
 
     /// The status that a suite ends with: 1 where a case failed.
@@ -161,8 +161,8 @@ impl Report {
             "{} cases, {} steps, {} failed\n",
             self.cases, self.steps, self.failed
         )?;
-        self.told.extend_from_slice(total.as_bytes())?;
-        Ok(self.told)
+        self.reported.extend_from_slice(total.as_bytes())?;
+        Ok(self.reported)
     }
 }
 

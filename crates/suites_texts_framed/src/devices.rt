@@ -1,11 +1,11 @@
 //! What records are read from and written to: sources and sinks.
 
 use crate::odd::{Trick, Tricked, read_twice, sent_once, sent_to_full, written_once};
-use crate::ranges::{tell_put_ranges, tell_range};
+use crate::ranges::{say_put_ranges, say_range};
 use std::alloc::{AllocError, Global};
 use std::io::Cursor;
 use suites_script::Case;
-use suites_texts_parsed::{tell_done, tell_line, tell_outcome, tell_parts, text_of};
+use suites_texts_parsed::{say_done, say_line, say_outcome, say_parts, text_of};
 use warc_frame::{
     FileSource, MemSink, MemSource, OutBuffer, OutSink, ReadFault, SendFault, Sink, Source,
     WriteFault, send_all,
@@ -36,33 +36,33 @@ fn read_in_turns<S: Source>(source: &mut S, bytes: &mut Vec<u8>) -> Option<usize
 }
 
 /// Adds how many reads give all bytes of a source, and those bytes in a line.
-fn tell_reads<S: Source>(
+fn say_reads<S: Source>(
     alloc: Global,
     answer: &mut Vec<u8>,
     source: &mut S,
 ) -> Result<(), AllocError> {
     let mut bytes = Vec::new(alloc);
     let reads = read_in_turns(source, &mut bytes).unwrap_or(0);
-    let told = format!(in alloc; "{reads} reads: ")?;
-    tell_parts(answer, &[told.as_bytes(), &bytes, b"\n"])
+    let reported = format!(in alloc; "{reads} reads: ")?;
+    say_parts(answer, &[reported.as_bytes(), &bytes, b"\n"])
 }
 
 /// Adds what a source in memory gives, `most` bytes at most at once, and what it gives past its end and if no bytes are
 /// asked for.
-fn tell_source(
+fn say_source(
     alloc: Global,
     answer: &mut Vec<u8>,
     text: &[u8],
     most: usize,
 ) -> Result<(), AllocError> {
     let mut source = MemSource::new(text.to_vec(alloc)?, most.max(1));
-    tell_reads(alloc, answer, &mut source)?;
-    tell_outcome(alloc, answer, source.read_at(u64::MAX, &mut [0]))?;
-    tell_outcome(alloc, answer, source.read_at(0, &mut []))
+    say_reads(alloc, answer, &mut source)?;
+    say_outcome(alloc, answer, source.read_at(u64::MAX, &mut [0]))?;
+    say_outcome(alloc, answer, source.read_at(0, &mut []))
 }
 
 /// Adds the four bytes that a source gives at an offset.
-fn tell_four<S: Source>(
+fn say_four<S: Source>(
     alloc: Global,
     answer: &mut Vec<u8>,
     source: &mut S,
@@ -70,22 +70,22 @@ fn tell_four<S: Source>(
 ) -> Result<(), AllocError> {
     let mut bytes = [b'-'; 4];
     let read = source.read_at(at, &mut bytes);
-    tell_outcome(alloc, answer, read)?;
-    tell_parts(answer, &[&bytes, b"\n"])
+    say_outcome(alloc, answer, read)?;
+    say_parts(answer, &[&bytes, b"\n"])
 }
 
 /// Adds what a file gives, what is asked at 2^48, and what it gives then at 5 and at 0.
-fn tell_file(alloc: Global, answer: &mut Vec<u8>, text: &[u8]) -> Result<(), AllocError> {
+fn say_file(alloc: Global, answer: &mut Vec<u8>, text: &[u8]) -> Result<(), AllocError> {
     let mut source = FileSource::new(Cursor::new(text));
-    tell_reads(alloc, answer, &mut source)?;
-    tell_outcome(alloc, answer, source.read_at(1 << 48, &mut [0]))?;
-    tell_four(alloc, answer, &mut source, 5)?;
-    tell_four(alloc, answer, &mut source, 0)
+    say_reads(alloc, answer, &mut source)?;
+    say_outcome(alloc, answer, source.read_at(1 << 48, &mut [0]))?;
+    say_four(alloc, answer, &mut source, 5)?;
+    say_four(alloc, answer, &mut source, 0)
 }
 
 /// Adds what two reads of a file that fails or lies tell, the bytes that they leave, and how often the file was read,
 /// and a place sought.
-fn tell_odd_file(alloc: Global, answer: &mut Vec<u8>, trick: Trick) -> Result<(), AllocError> {
+fn say_odd_file(alloc: Global, answer: &mut Vec<u8>, trick: Trick) -> Result<(), AllocError> {
     let Tricked {
         first,
         second,
@@ -93,10 +93,10 @@ fn tell_odd_file(alloc: Global, answer: &mut Vec<u8>, trick: Trick) -> Result<()
         reads,
         seeks,
     } = read_twice(trick);
-    tell_outcome(alloc, answer, first)?;
-    tell_outcome(alloc, answer, second)?;
-    let told = format!(in alloc; " by {reads} reads and {seeks} seeks\n")?;
-    tell_parts(answer, &[&bytes, told.as_bytes()])
+    say_outcome(alloc, answer, first)?;
+    say_outcome(alloc, answer, second)?;
+    let reported = format!(in alloc; " by {reads} reads and {seeks} seeks\n")?;
+    say_parts(answer, &[&bytes, reported.as_bytes()])
 }
 
 /// Whether the read with this number fails, and no other, where each gives a byte of a text of `len`.
@@ -132,15 +132,15 @@ fn first_otherwise(alloc: Global, text: &[u8]) -> Result<Option<u64>, AllocError
 }
 
 /// Adds whether sources whose reads break, each in turn, fail once and give the text then.
-fn tell_broken(alloc: Global, answer: &mut Vec<u8>, text: &[u8]) -> Result<(), AllocError> {
-    let told = match first_otherwise(alloc, text)? {
+fn say_broken(alloc: Global, answer: &mut Vec<u8>, text: &[u8]) -> Result<(), AllocError> {
+    let reported = match first_otherwise(alloc, text)? {
         None => format!(in alloc;
             "each read up to {} fails once",
             text.len().saturating_add(1)
         )?,
         Some(number) => format!(in alloc; "not the read {number}")?,
     };
-    tell_line(alloc, answer, &told)
+    say_line(alloc, answer, &reported)
 }
 
 /// A writer that breaks as the words from a place on say: `fails at N`, or `takes M at N`; one that doesn't where there
@@ -158,12 +158,12 @@ fn writer_of(alloc: Global, case: &Case<'_>, place: usize) -> BrokenWriter {
 }
 
 /// Adds bytes between brackets, in a line.
-pub(crate) fn tell_taken(answer: &mut Vec<u8>, bytes: &[u8]) -> Result<(), AllocError> {
-    tell_parts(answer, &[b"[", bytes, b"]\n"])
+pub(crate) fn say_taken(answer: &mut Vec<u8>, bytes: &[u8]) -> Result<(), AllocError> {
+    say_parts(answer, &[b"[", bytes, b"]\n"])
 }
 
 /// Adds the answer if a text is sent to a writer that breaks, and what the writer took.
-fn tell_send(
+fn say_send(
     alloc: Global,
     case: &Case<'_>,
     answer: &mut Vec<u8>,
@@ -171,12 +171,12 @@ fn tell_send(
 ) -> Result<(), AllocError> {
     let mut writer = writer_of(alloc, case, 2).taking(number_or_all(case, 1));
     let sent = send_all(&mut writer, text);
-    tell_done(alloc, answer, "sent", sent)?;
-    tell_taken(answer, writer.bytes())
+    say_done(alloc, answer, "sent", sent)?;
+    say_taken(answer, writer.bytes())
 }
 
 /// Adds what a writer took that breaks while a buffer is flushed, before and then, and how much the buffer sent.
-fn tell_flush(
+fn say_flush(
     alloc: Global,
     case: &Case<'_>,
     answer: &mut Vec<u8>,
@@ -185,69 +185,69 @@ fn tell_flush(
     let mut writer = writer_of(alloc, case, 2).taking(1);
     let mut buffer = OutBuffer::new();
     let (front, back) = text.split_at(text.len().min(case.number(1) as usize));
-    tell_done(alloc, answer, "sent", buffer.put(&mut writer, front))?;
-    tell_done(alloc, answer, "sent", buffer.put(&mut writer, back))?;
-    tell_taken(answer, writer.bytes())?;
-    tell_done(alloc, answer, "sent", buffer.flush(&mut writer))?;
-    tell_taken(answer, writer.bytes())?;
-    tell_line(alloc, answer, &buffer.sent())
+    say_done(alloc, answer, "sent", buffer.put(&mut writer, front))?;
+    say_done(alloc, answer, "sent", buffer.put(&mut writer, back))?;
+    say_taken(answer, writer.bytes())?;
+    say_done(alloc, answer, "sent", buffer.flush(&mut writer))?;
+    say_taken(answer, writer.bytes())?;
+    say_line(alloc, answer, &buffer.sent())
 }
 
 /// Adds the answers if a text, the same text and nothing are written to a sink in memory that holds three bytes and
 /// whose first growth is refused; and what the sink holds each time.
-fn tell_sink(alloc: Global, answer: &mut Vec<u8>, text: &[u8]) -> Result<(), AllocError> {
+fn say_sink(alloc: Global, answer: &mut Vec<u8>, text: &[u8]) -> Result<(), AllocError> {
     let heap = RefusingAllocator::new(alloc, 2);
     let mut sink = MemSink::new(b"abc".to_vec(&heap)?);
     for piece in [text, text, b"".as_slice()] {
         let written = sink.write(piece);
-        tell_outcome(alloc, answer, written)?;
-        tell_taken(answer, sink.bytes())?;
+        say_outcome(alloc, answer, written)?;
+        say_taken(answer, sink.bytes())?;
     }
     Ok(())
 }
 
 /// Adds what a sink over a vector hands it.
-fn tell_handed_on(alloc: Global, answer: &mut Vec<u8>, text: &[u8]) -> Result<(), AllocError> {
+fn say_handed_on(alloc: Global, answer: &mut Vec<u8>, text: &[u8]) -> Result<(), AllocError> {
     let mut sink = OutSink::new(Vec::new(alloc));
     let sent = send_all(&mut sink, text);
-    tell_done(alloc, answer, "sent", sent)?;
-    tell_taken(answer, &sink.into_inner())
+    say_done(alloc, answer, "sent", sent)?;
+    say_taken(answer, &sink.into_inner())
 }
 
 /// Adds what a sink tells over a writer that takes two bytes and then fails, or takes none.
-fn tell_full(
+fn say_full(
     alloc: Global,
     answer: &mut Vec<u8>,
     text: &[u8],
     fails: bool,
 ) -> Result<(), AllocError> {
     let (sent, written) = sent_to_full(text, fails);
-    tell_done(alloc, answer, "sent", sent)?;
-    tell_outcome(alloc, answer, written)
+    say_done(alloc, answer, "sent", sent)?;
+    say_outcome(alloc, answer, written)
 }
 
 /// Adds what a write and a send to a writer tell whose first write fails, and how often each wrote.
-fn tell_once(alloc: Global, answer: &mut Vec<u8>, text: &[u8]) -> Result<(), AllocError> {
+fn say_once(alloc: Global, answer: &mut Vec<u8>, text: &[u8]) -> Result<(), AllocError> {
     let (written, writes) = written_once(text);
-    tell_outcome(alloc, answer, written)?;
-    tell_line(alloc, answer, &writes)?;
+    say_outcome(alloc, answer, written)?;
+    say_line(alloc, answer, &writes)?;
     let (sent, writes) = sent_once(text);
-    tell_done(alloc, answer, "sent", sent)?;
-    tell_line(alloc, answer, &writes)
+    say_done(alloc, answer, "sent", sent)?;
+    say_line(alloc, answer, &writes)
 }
 
 /// Adds what a sink tells over the writer that the second word names.
-fn tell_out(
+fn say_out(
     alloc: Global,
     case: &Case<'_>,
     answer: &mut Vec<u8>,
     text: &[u8],
 ) -> Result<(), AllocError> {
     match case.text(1) {
-        "full-and-fails" => tell_full(alloc, answer, text, true),
-        "full-and-takes-none" => tell_full(alloc, answer, text, false),
-        "fails-once" => tell_once(alloc, answer, text),
-        _ => tell_handed_on(alloc, answer, text),
+        "full-and-fails" => say_full(alloc, answer, text, true),
+        "full-and-takes-none" => say_full(alloc, answer, text, false),
+        "fails-once" => say_once(alloc, answer, text),
+        _ => say_handed_on(alloc, answer, text),
     }
 }
 
@@ -258,19 +258,19 @@ pub(crate) fn answer(
     kept: &[u8],
     answer: &mut Vec<u8>,
 ) -> Result<bool, AllocError> {
-    let told = match case.text(0) {
-        "source" => tell_source(alloc, answer, text_of(case, kept), number_or_all(case, 1)),
-        "file" => tell_file(alloc, answer, text_of(case, kept)),
-        "odd-file" => tell_odd_file(alloc, answer, Trick::named(case.text(1))),
-        "broken-source" => tell_broken(alloc, answer, text_of(case, kept)),
-        "send" => tell_send(alloc, case, answer, text_of(case, kept)),
-        "flush" => tell_flush(alloc, case, answer, text_of(case, kept)),
-        "sink-without-memory" => tell_sink(alloc, answer, text_of(case, kept)),
-        "writer" => tell_out(alloc, case, answer, text_of(case, kept)),
-        "range" => tell_range(alloc, case, answer, text_of(case, kept)),
-        "put-ranges" => tell_put_ranges(alloc, case, answer, text_of(case, kept)),
+    let reported = match case.text(0) {
+        "source" => say_source(alloc, answer, text_of(case, kept), number_or_all(case, 1)),
+        "file" => say_file(alloc, answer, text_of(case, kept)),
+        "odd-file" => say_odd_file(alloc, answer, Trick::named(case.text(1))),
+        "broken-source" => say_broken(alloc, answer, text_of(case, kept)),
+        "send" => say_send(alloc, case, answer, text_of(case, kept)),
+        "flush" => say_flush(alloc, case, answer, text_of(case, kept)),
+        "sink-without-memory" => say_sink(alloc, answer, text_of(case, kept)),
+        "writer" => say_out(alloc, case, answer, text_of(case, kept)),
+        "range" => say_range(alloc, case, answer, text_of(case, kept)),
+        "put-ranges" => say_put_ranges(alloc, case, answer, text_of(case, kept)),
         _ => return Ok(false),
     };
-    told?;
+    reported?;
     Ok(true)
 }

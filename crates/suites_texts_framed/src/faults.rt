@@ -2,7 +2,7 @@
 
 use std::alloc::{AllocError, Global};
 use suites_script::Case;
-use suites_texts_parsed::tell_line;
+use suites_texts_parsed::say_line;
 use warc_frame::{FaultKind, Mandatory, OutFault, ReadFault, Version, WriteFault};
 use warc_write::{MakeFault, SplitFault};
 
@@ -46,9 +46,9 @@ const SPLIT_FAULTS: [SplitFault; 7] = [
 ];
 
 /// Adds each fault of records, at the offset that is the word at its place.
-fn tell_faults(alloc: Global, case: &Case<'_>, answer: &mut Vec<u8>) -> Result<(), AllocError> {
+fn say_faults(alloc: Global, case: &Case<'_>, answer: &mut Vec<u8>) -> Result<(), AllocError> {
     for (place, kind) in KINDS.iter().enumerate() {
-        tell_line(
+        say_line(
             alloc,
             answer,
             &kind.at(case.number(place.saturating_add(1))),
@@ -58,36 +58,36 @@ fn tell_faults(alloc: Global, case: &Case<'_>, answer: &mut Vec<u8>) -> Result<(
 }
 
 /// Adds each fault of what is given, behind as many bytes as its word says.
-fn tell_out_faults(alloc: Global, case: &Case<'_>, answer: &mut Vec<u8>) -> Result<(), AllocError> {
-    tell_line(alloc, answer, &OutFault::Read(case.number(1)))?;
-    tell_line(alloc, answer, &OutFault::Write(case.number(2)))?;
-    tell_line(alloc, answer, &OutFault::Memory(case.number(3)))
+fn say_out_faults(alloc: Global, case: &Case<'_>, answer: &mut Vec<u8>) -> Result<(), AllocError> {
+    say_line(alloc, answer, &OutFault::Read(case.number(1)))?;
+    say_line(alloc, answer, &OutFault::Write(case.number(2)))?;
+    say_line(alloc, answer, &OutFault::Memory(case.number(3)))
 }
 
 /// Adds the faults of devices.
-fn tell_device_faults(alloc: Global, answer: &mut Vec<u8>) -> Result<(), AllocError> {
-    tell_line(alloc, answer, &ReadFault)?;
-    tell_line(alloc, answer, &WriteFault)
+fn say_device_faults(alloc: Global, answer: &mut Vec<u8>) -> Result<(), AllocError> {
+    say_line(alloc, answer, &ReadFault)?;
+    say_line(alloc, answer, &WriteFault)
 }
 
 /// Adds each fault of records that are made.
-fn tell_make_faults(alloc: Global, answer: &mut Vec<u8>) -> Result<(), AllocError> {
+fn say_make_faults(alloc: Global, answer: &mut Vec<u8>) -> Result<(), AllocError> {
     for fault in &MAKE_FAULTS {
-        tell_line(alloc, answer, fault)?;
+        say_line(alloc, answer, fault)?;
     }
     Ok(())
 }
 
 /// Adds each fault of records that are split.
-fn tell_split_faults(alloc: Global, answer: &mut Vec<u8>) -> Result<(), AllocError> {
+fn say_split_faults(alloc: Global, answer: &mut Vec<u8>) -> Result<(), AllocError> {
     for fault in &SPLIT_FAULTS {
-        tell_line(alloc, answer, fault)?;
+        say_line(alloc, answer, fault)?;
     }
     Ok(())
 }
 
 /// Adds the lines of both versions.
-fn tell_versions(answer: &mut Vec<u8>) -> Result<(), AllocError> {
+fn say_versions(answer: &mut Vec<u8>) -> Result<(), AllocError> {
     answer.extend_from_slice(Version::V1_0.line())?;
     answer.extend_from_slice(Version::V1_1.line())
 }
@@ -98,15 +98,15 @@ pub(crate) fn answer(
     case: &Case<'_>,
     answer: &mut Vec<u8>,
 ) -> Result<bool, AllocError> {
-    let told = match case.text(0) {
-        "faults" => tell_faults(alloc, case, answer),
-        "faults-of-output" => tell_out_faults(alloc, case, answer),
-        "faults-of-devices" => tell_device_faults(alloc, answer),
-        "faults-of-making" => tell_make_faults(alloc, answer),
-        "faults-of-splitting" => tell_split_faults(alloc, answer),
-        "versions" => tell_versions(answer),
+    let reported = match case.text(0) {
+        "faults" => say_faults(alloc, case, answer),
+        "faults-of-output" => say_out_faults(alloc, case, answer),
+        "faults-of-devices" => say_device_faults(alloc, answer),
+        "faults-of-making" => say_make_faults(alloc, answer),
+        "faults-of-splitting" => say_split_faults(alloc, answer),
+        "versions" => say_versions(answer),
         _ => return Ok(false),
     };
-    told?;
+    reported?;
     Ok(true)
 }

@@ -1,10 +1,10 @@
 //! Records that are made.
 
-use crate::written::tell_rendered;
+use crate::written::say_rendered;
 use std::alloc::{AllocError, Global};
 use std::slice::from_ref;
 use suites_script::Case;
-use suites_texts_parsed::{Attempt, tell_line, tell_refusals};
+use suites_texts_parsed::{Attempt, say_line, say_refusals};
 use warc_frame::Framed;
 use warc_record::Kind;
 use warc_vectors::RefusingAllocator;
@@ -73,7 +73,7 @@ impl Attempt for Draft<'_> {
 }
 
 /// Adds what is written of the record that a case makes, or why it makes none.
-pub(crate) fn tell_made(
+pub(crate) fn say_made(
     alloc: Global,
     case: &Case<'_>,
     answer: &mut Vec<u8>,
@@ -81,17 +81,17 @@ pub(crate) fn tell_made(
 ) -> Result<(), AllocError> {
     let draft = Draft::of(alloc, case)?;
     match draft.make(alloc) {
-        Ok(made) => tell_rendered(alloc, answer, from_ref(&made), kept),
-        Err(fault) => tell_line(alloc, answer, &fault),
+        Ok(made) => say_rendered(alloc, answer, from_ref(&made), kept),
+        Err(fault) => say_line(alloc, answer, &fault),
     }
 }
 
 /// Adds whether each refused request is reported. There are as many as the seventh word says, or more.
-pub(crate) fn tell_made_without_memory(
+pub(crate) fn say_made_without_memory(
     alloc: Global,
     case: &Case<'_>,
     answer: &mut Vec<u8>,
 ) -> Result<(), AllocError> {
     let draft = Draft::of(alloc, case)?;
-    tell_refusals(alloc, answer, &draft, case.number(6))
+    say_refusals(alloc, answer, &draft, case.number(6))
 }

@@ -1,11 +1,11 @@
 //! Archives in pieces: every cutting gives the same.
 
 use crate::devices::number_or_all;
-use crate::records::{changed, tell_cut};
-use crate::steps::{Stepping, tell_letters, tell_steps};
+use crate::records::{changed, say_cut};
+use crate::steps::{Stepping, say_letters, say_steps};
 use std::alloc::{AllocError, Global};
 use suites_script::Case;
-use suites_texts_parsed::{tell_line, tell_refusals, tell_text, text_of};
+use suites_texts_parsed::{say_line, say_refusals, say_text, text_of};
 use warc_frame::{FaultKind, Framed, MAX_ARCHIVE, decode, write_one};
 
 /// The canonical texts of records, one behind the other.
@@ -22,8 +22,8 @@ fn given_by(alloc: Global, at: u64, pieces: &[&[u8]]) -> Result<Vec<u8>, AllocEr
     match decode(alloc, at.min(MAX_ARCHIVE), pieces) {
         Ok(records) => texts_of(alloc, &records),
         Err(fault) => {
-            let told = format!(in alloc; "{fault}\n")?;
-            Ok(told.into_bytes())
+            let reported = format!(in alloc; "{fault}\n")?;
+            Ok(reported.into_bytes())
         }
     }
 }
@@ -67,7 +67,7 @@ fn is_given_in_many(
 }
 
 /// Adds what a text gives cut at each of its last places, into single bytes, and into twos.
-fn tell_cuttings(
+fn say_cuttings(
     alloc: Global,
     answer: &mut Vec<u8>,
     at: u64,
@@ -77,21 +77,21 @@ fn tell_cuttings(
     let first = text.len().saturating_sub(last);
     let wanted = given_by(alloc, at, &[text])?;
     if let Some(place) = first_other_place(alloc, at, text, first, &wanted)? {
-        let told = format!(in alloc; "something else cut at {place}")?;
-        return tell_line(alloc, answer, &told);
+        let reported = format!(in alloc; "something else cut at {place}")?;
+        return say_line(alloc, answer, &reported);
     }
     if !is_given_in_many(alloc, at, text, &wanted)? {
-        return tell_line(
+        return say_line(
             alloc,
             answer,
             &"something else in pieces of one byte or two",
         );
     }
-    tell_text(alloc, answer, &wanted, text)
+    say_text(alloc, answer, &wanted, text)
 }
 
 /// The same of a case, whose words say where the first byte stands, how many places there are, and what is replaced.
-fn tell_cuttings_of(
+fn say_cuttings_of(
     alloc: Global,
     case: &Case<'_>,
     answer: &mut Vec<u8>,
@@ -99,11 +99,11 @@ fn tell_cuttings_of(
 ) -> Result<(), AllocError> {
     let text = changed(alloc, case, 3, text)?;
     let last = number_or_all(case, 2);
-    tell_cuttings(alloc, answer, case.number(1), &text, last)
+    say_cuttings(alloc, answer, case.number(1), &text, last)
 }
 
 /// Adds what the pieces of a text give that have as many bytes as the words say.
-fn tell_pieces(
+fn say_pieces(
     alloc: Global,
     case: &Case<'_>,
     answer: &mut Vec<u8>,
@@ -113,17 +113,17 @@ fn tell_pieces(
     let mut rest = text;
     for word in 1..20usize {
         if !case.word(word).is_empty() {
-            let (piece, behind) = rest.split_at(rest.len().min(case.number(word) as usize));
+            let (piece, following) = rest.split_at(rest.len().min(case.number(word) as usize));
             pieces.push(piece)?;
-            rest = behind;
+            rest = following;
         }
     }
     let given = given_by(alloc, 0, &pieces)?;
-    tell_text(alloc, answer, &given, text)
+    say_text(alloc, answer, &given, text)
 }
 
 /// Whether a text gives that it is cut off at its end, whole and in two pieces.
-fn is_told_as_cut(alloc: Global, text: &[u8]) -> bool {
+fn is_reported_as_cut(alloc: Global, text: &[u8]) -> bool {
     let (front, back) = text.split_at(text.len() / 2);
     let expected = Some(FaultKind::Truncated.at(text.len() as u64));
     decode(alloc, 0, &[text]).err() == expected
@@ -133,7 +133,7 @@ fn is_told_as_cut(alloc: Global, text: &[u8]) -> bool {
 /// The length of the first text that another begins with and that isn't told as cut off there.
 fn first_not_cut(alloc: Global, text: &[u8]) -> Option<usize> {
     for len in 1..text.len() {
-        if !is_told_as_cut(alloc, &text[..len]) {
+        if !is_reported_as_cut(alloc, &text[..len]) {
             return Some(len);
         }
     }
@@ -147,22 +147,22 @@ pub(crate) fn answer(
     kept: &[u8],
     answer: &mut Vec<u8>,
 ) -> Result<bool, AllocError> {
-    let told = match case.text(0) {
-        "cut" => tell_cuttings_of(alloc, case, answer, text_of(case, kept)),
-        "pieces" => tell_pieces(alloc, case, answer, text_of(case, kept)),
+    let reported = match case.text(0) {
+        "cut" => say_cuttings_of(alloc, case, answer, text_of(case, kept)),
+        "pieces" => say_pieces(alloc, case, answer, text_of(case, kept)),
         "fronts-in-pieces" => {
             let count = text_of(case, kept).len().saturating_sub(1);
-            tell_cut(
+            say_cut(
                 alloc,
                 answer,
                 first_not_cut(alloc, text_of(case, kept)),
                 count,
             )
         }
-        "steps" => tell_steps(alloc, case, answer, text_of(case, kept)),
-        "letters" => tell_letters(alloc, case, answer, text_of(case, kept)),
+        "steps" => say_steps(alloc, case, answer, text_of(case, kept)),
+        "letters" => say_letters(alloc, case, answer, text_of(case, kept)),
         "steps-without-memory" => {
-            tell_refusals(
+            say_refusals(
                 alloc,
                 answer,
                 &Stepping(text_of(case, kept)),
@@ -171,6 +171,6 @@ pub(crate) fn answer(
         }
         _ => return Ok(false),
     };
-    told?;
+    reported?;
     Ok(true)
 }

@@ -1,9 +1,9 @@
 //! Ranges of a source.
 
-use crate::devices::{number_or_all, tell_taken};
+use crate::devices::{number_or_all, say_taken};
 use std::alloc::{AllocError, Global};
 use suites_script::Case;
-use suites_texts_parsed::{tell_done, tell_line};
+use suites_texts_parsed::{say_done, say_line};
 use warc_frame::{MemSink, MemSource, OutBuffer, put_range, read_range};
 
 /// The text as a source that gives at most as many bytes at once as the second word says.
@@ -13,7 +13,7 @@ fn source_of(alloc: Global, case: &Case<'_>, text: &[u8]) -> Result<MemSource, A
 }
 
 /// Adds the ten bytes of the text at the offset that the third word says, or the fault.
-pub(crate) fn tell_range(
+pub(crate) fn say_range(
     alloc: Global,
     case: &Case<'_>,
     answer: &mut Vec<u8>,
@@ -23,8 +23,8 @@ pub(crate) fn tell_range(
     let mut bytes = [0; 10];
     let at = u32::try_from(case.number(2)).unwrap_or(u32::MAX);
     match read_range(&mut source, at as u64, &mut bytes) {
-        Ok(()) => tell_taken(answer, &bytes),
-        Err(fault) => tell_line(alloc, answer, &fault),
+        Ok(()) => say_taken(answer, &bytes),
+        Err(fault) => say_line(alloc, answer, &fault),
     }
 }
 
@@ -44,14 +44,14 @@ fn put_ranges(
             let (at, len) = (case.number(2 * pair), case.number(2 * pair + 1));
             let put = put_range(source, at, len, &mut [0; 4], buffer, sink);
             are_put = are_put && put.is_ok();
-            tell_done(alloc, answer, "put", put)?;
+            say_done(alloc, answer, "put", put)?;
         }
     }
     Ok(are_put)
 }
 
 /// Adds the answers if ranges are put through a buffer, four bytes at a time, and what is sent if all are put.
-pub(crate) fn tell_put_ranges(
+pub(crate) fn say_put_ranges(
     alloc: Global,
     case: &Case<'_>,
     answer: &mut Vec<u8>,
@@ -60,8 +60,8 @@ pub(crate) fn tell_put_ranges(
     let mut source = source_of(alloc, case, text)?;
     let (mut buffer, mut sink) = (OutBuffer::new(), MemSink::new(Vec::new(alloc)));
     if put_ranges(alloc, case, answer, &mut source, &mut buffer, &mut sink)? {
-        tell_done(alloc, answer, "sent", buffer.flush(&mut sink))?;
-        tell_taken(answer, sink.bytes())?;
+        say_done(alloc, answer, "sent", buffer.flush(&mut sink))?;
+        say_taken(answer, sink.bytes())?;
     }
     Ok(())
 }

@@ -3,7 +3,7 @@
 use std::alloc::{AllocError, Allocator, Global};
 use suites_script::Case;
 use suites_texts_parsed::{
-    Attempt, tell_line, tell_outcome, tell_refusals, tell_written, tell_written_twice, text_of,
+    Attempt, say_line, say_outcome, say_refusals, say_written, say_written_twice, text_of,
 };
 use warc_field::{Fields, read_area};
 use warc_frame::{Fault, FaultKind, Framed, Version, read_one};
@@ -42,15 +42,15 @@ fn shape<A: Allocator + Copy>(alloc: A, text: &[u8]) -> Result<Shape, Fault> {
 }
 
 /// Adds the shape of the record that a text begins with, or its fault.
-fn tell_shape(alloc: Global, answer: &mut Vec<u8>, text: &[u8]) -> Result<(), AllocError> {
+fn say_shape(alloc: Global, answer: &mut Vec<u8>, text: &[u8]) -> Result<(), AllocError> {
     match shape(alloc, text) {
         Ok((version, fields, block, len)) => {
-            let told = format!(in alloc;
+            let reported = format!(in alloc;
                 "{version}, {fields} fields, block {block}, record {len}"
             )?;
-            tell_line(alloc, answer, &told)
+            say_line(alloc, answer, &reported)
         }
-        Err(fault) => tell_line(alloc, answer, &fault),
+        Err(fault) => say_line(alloc, answer, &fault),
     }
 }
 
@@ -89,56 +89,56 @@ fn first_not_cut(alloc: Global, text: &[u8]) -> Option<usize> {
 }
 
 /// Adds whether each front of a text is reported as cut off at its end.
-pub(crate) fn tell_cut(
+pub(crate) fn say_cut(
     alloc: Global,
     answer: &mut Vec<u8>,
     other: Option<usize>,
     count: usize,
 ) -> Result<(), AllocError> {
-    let told = match other {
+    let reported = match other {
         None => format!(in alloc; "F11 Truncated at the end of each of {count}")?,
         Some(len) => format!(in alloc; "not of that of {len}")?,
     };
-    tell_line(alloc, answer, &told)
+    say_line(alloc, answer, &reported)
 }
 
 /// Adds what is written of the record that a text begins with, with memory or without.
-fn tell_rewritten(
+fn say_rewritten(
     alloc: Global,
     answer: &mut Vec<u8>,
     text: &[u8],
     is_refused: bool,
 ) -> Result<(), AllocError> {
     match read_one(alloc, text) {
-        Ok((framed, _)) if is_refused => tell_written_twice(alloc, answer, &framed),
-        Ok((framed, _)) => tell_written(alloc, answer, &framed),
-        Err(fault) => tell_line(alloc, answer, &fault),
+        Ok((framed, _)) if is_refused => say_written_twice(alloc, answer, &framed),
+        Ok((framed, _)) => say_written(alloc, answer, &framed),
+        Err(fault) => say_line(alloc, answer, &fault),
     }
 }
 
 /// Adds the length of the block of the record that fields and a block make, or why they make none.
-fn tell_made(
+fn say_made(
     alloc: Global,
     answer: &mut Vec<u8>,
     fields: Fields,
     block: &[u8],
 ) -> Result<(), AllocError> {
     match Framed::new(Version::V1_0, fields, block.to_vec(alloc)?) {
-        Ok(framed) => tell_line(alloc, answer, &framed.block().len()),
-        Err(fault) => tell_line(alloc, answer, &fault),
+        Ok(framed) => say_line(alloc, answer, &framed.block().len()),
+        Err(fault) => say_line(alloc, answer, &fault),
     }
 }
 
 /// The same of the fields of an area.
-fn tell_made_of(
+fn say_made_of(
     alloc: Global,
     answer: &mut Vec<u8>,
     area: &[u8],
     block: &[u8],
 ) -> Result<(), AllocError> {
     match read_area(alloc, area) {
-        Ok(fields) => tell_made(alloc, answer, fields, block),
-        Err(fault) => tell_line(alloc, answer, &fault),
+        Ok(fields) => say_made(alloc, answer, fields, block),
+        Err(fault) => say_line(alloc, answer, &fault),
     }
 }
 
@@ -166,24 +166,24 @@ pub(crate) fn answer(
     kept: &[u8],
     answer: &mut Vec<u8>,
 ) -> Result<bool, AllocError> {
-    let told = match case.text(0) {
-        "shape" => tell_shape(alloc, answer, text_of(case, kept)),
-        "length" => tell_outcome(
+    let reported = match case.text(0) {
+        "shape" => say_shape(alloc, answer, text_of(case, kept)),
+        "length" => say_outcome(
             alloc,
             answer,
             length(alloc, &changed(alloc, case, 1, text_of(case, kept))?),
         ),
-        "records" => tell_outcome(alloc, answer, count_of(alloc, text_of(case, kept))),
-        "fronts" => tell_cut(
+        "records" => say_outcome(alloc, answer, count_of(alloc, text_of(case, kept))),
+        "fronts" => say_cut(
             alloc,
             answer,
             first_not_cut(alloc, text_of(case, kept)),
             text_of(case, kept).len(),
         ),
-        "rewrite" => tell_rewritten(alloc, answer, text_of(case, kept), false),
-        "rewrite-without-memory" => tell_rewritten(alloc, answer, text_of(case, kept), true),
-        "frame" => tell_made_of(alloc, answer, text_of(case, kept), case.word(1)),
-        "read-without-memory" => tell_refusals(
+        "rewrite" => say_rewritten(alloc, answer, text_of(case, kept), false),
+        "rewrite-without-memory" => say_rewritten(alloc, answer, text_of(case, kept), true),
+        "frame" => say_made_of(alloc, answer, text_of(case, kept), case.word(1)),
+        "read-without-memory" => say_refusals(
             alloc,
             answer,
             &Reading(text_of(case, kept)),
@@ -191,6 +191,6 @@ pub(crate) fn answer(
         ),
         _ => return Ok(false),
     };
-    told?;
+    reported?;
     Ok(true)
 }

@@ -1,13 +1,13 @@
 //! Records that are split.
 
-use crate::written::{record, tell_rendered};
+use crate::written::{record, say_rendered};
 use std::alloc::{AllocError, Allocator, Global};
 use suites_script::Case;
-use suites_texts_parsed::{Attempt, tell_fields, tell_line, tell_parts, tell_refusals};
+use suites_texts_parsed::{Attempt, say_fields, say_line, say_parts, say_refusals};
 use warc_field::Fields;
 use warc_frame::Framed;
 use warc_vectors::RefusingAllocator;
-use warc_write::{Part, SplitFault, segment_head, split, splittable};
+use warc_write::{SegmentPart, SplitFault, segment_head, split, splittable};
 
 /// The value of a field; `-` where there is none.
 fn value_in<'a>(fields: &'a Fields, name: &[u8]) -> &'a [u8] {
@@ -18,7 +18,7 @@ fn value_in<'a>(fields: &'a Fields, name: &[u8]) -> &'a [u8] {
 }
 
 /// Adds each segment's version, id, total and block, in a line.
-fn tell_segments(alloc: Global, answer: &mut Vec<u8>, parts: &[Framed]) -> Result<(), AllocError> {
+fn say_segments(alloc: Global, answer: &mut Vec<u8>, parts: &[Framed]) -> Result<(), AllocError> {
     for part in parts {
         let version = format!(in alloc; "{} ", part.version())?;
         let id = value_in(part.fields(), b"WARC-Record-ID");
@@ -32,13 +32,13 @@ fn tell_segments(alloc: Global, answer: &mut Vec<u8>, parts: &[Framed]) -> Resul
             part.block(),
             b"\n",
         ];
-        tell_parts(answer, &words)?;
+        say_parts(answer, &words)?;
     }
     Ok(())
 }
 
 /// Adds what is written of the segments of a record, or a line of each, or why it isn't split.
-fn tell_split(
+fn say_split(
     alloc: Global,
     case: &Case<'_>,
     answer: &mut Vec<u8>,
@@ -46,22 +46,22 @@ fn tell_split(
     text: &[u8],
 ) -> Result<(), AllocError> {
     match split(alloc, whole, case.number(1)) {
-        Ok(parts) if case.text(0) == "split" => tell_rendered(alloc, answer, &parts, text),
-        Ok(parts) => tell_segments(alloc, answer, &parts),
-        Err(fault) => tell_line(alloc, answer, &fault),
+        Ok(parts) if case.text(0) == "split" => say_rendered(alloc, answer, &parts, text),
+        Ok(parts) => say_segments(alloc, answer, &parts),
+        Err(fault) => say_line(alloc, answer, &fault),
     }
 }
 
 /// The same of the record that a text begins with.
-pub(crate) fn tell_split_of(
+pub(crate) fn say_split_of(
     alloc: Global,
     case: &Case<'_>,
     answer: &mut Vec<u8>,
     text: &[u8],
 ) -> Result<(), AllocError> {
     match record(alloc, text) {
-        Ok(whole) => tell_split(alloc, case, answer, &whole, text),
-        Err(fault) => tell_line(alloc, answer, &fault),
+        Ok(whole) => say_split(alloc, case, answer, &whole, text),
+        Err(fault) => say_line(alloc, answer, &fault),
     }
 }
 
@@ -92,20 +92,20 @@ impl Attempt for Splitting<'_> {
 }
 
 /// Adds whether each refused request of a split is reported. There are as many as the third word says, or more.
-pub(crate) fn tell_split_without_memory(
+pub(crate) fn say_split_without_memory(
     alloc: Global,
     case: &Case<'_>,
     answer: &mut Vec<u8>,
     text: &[u8],
 ) -> Result<(), AllocError> {
     let attempt = Splitting(text, case.number(1));
-    tell_refusals(alloc, answer, &attempt, case.number(2))
+    say_refusals(alloc, answer, &attempt, case.number(2))
 }
 
 /// The segment that the words of a case from the second on say: its number, the total, and the length of its block,
 /// whose digest is all zeros.
-fn part_of(case: &Case<'_>) -> Part {
-    Part {
+fn part_of(case: &Case<'_>) -> SegmentPart {
+    SegmentPart {
         number: case.number(2),
         total: Some(case.number(3)),
         len: case.number(4),
@@ -114,21 +114,21 @@ fn part_of(case: &Case<'_>) -> Part {
 }
 
 /// Adds the fields of a segment of a record.
-fn tell_segment_head(
+fn say_segment_head(
     alloc: Global,
     answer: &mut Vec<u8>,
     whole: &Fields,
     uuid: &[u8; 16],
-    part: &Part,
+    part: &SegmentPart,
 ) -> Result<(), AllocError> {
     match segment_head(alloc, whole, uuid, part) {
-        Ok(fields) => tell_fields(answer, &fields),
-        Err(fault) => tell_line(alloc, answer, &fault),
+        Ok(fields) => say_fields(answer, &fields),
+        Err(fault) => say_line(alloc, answer, &fault),
     }
 }
 
 /// Adds why fields may not be split at the size that the second word says, or the head of a segment.
-fn tell_splittable(
+fn say_splittable(
     alloc: Global,
     case: &Case<'_>,
     answer: &mut Vec<u8>,
@@ -136,20 +136,20 @@ fn tell_splittable(
 ) -> Result<(), AllocError> {
     let part = part_of(case);
     match splittable(whole, case.number(1)) {
-        Ok(uuid) => tell_segment_head(alloc, answer, whole, &uuid, &part),
-        Err(fault) => tell_line(alloc, answer, &fault),
+        Ok(uuid) => say_segment_head(alloc, answer, whole, &uuid, &part),
+        Err(fault) => say_line(alloc, answer, &fault),
     }
 }
 
 /// The same of the fields of the record that a text begins with.
-pub(crate) fn tell_splittable_of(
+pub(crate) fn say_splittable_of(
     alloc: Global,
     case: &Case<'_>,
     answer: &mut Vec<u8>,
     text: &[u8],
 ) -> Result<(), AllocError> {
     match record(alloc, text) {
-        Ok(whole) => tell_splittable(alloc, case, answer, whole.fields()),
-        Err(fault) => tell_line(alloc, answer, &fault),
+        Ok(whole) => say_splittable(alloc, case, answer, whole.fields()),
+        Err(fault) => say_line(alloc, answer, &fault),
     }
 }

@@ -2,7 +2,7 @@
 
 use std::alloc::{AllocError, Allocator, Global};
 use suites_script::Case;
-use suites_texts_parsed::{Attempt, tell, tell_line};
+use suites_texts_parsed::{Attempt, say, say_line};
 use warc_frame::{Decoder, Event, Fault, FaultKind, MAX_ARCHIVE, Version};
 use warc_vectors::RefusingAllocator;
 
@@ -37,12 +37,12 @@ fn take<A: Allocator + Copy>(
 }
 
 /// Adds how many bytes a step takes, and what it tells.
-fn tell_step(
+fn say_step(
     alloc: Global,
     answer: &mut Vec<u8>,
     step: Result<(usize, Step), Fault>,
 ) -> Result<(), AllocError> {
-    let told = match step {
+    let reported = match step {
         Ok((taken, Step::More)) => format!(in alloc; "{taken} taken, more")?,
         Ok((taken, Step::Head(version, fields, block))) => {
             format!(in alloc; "{taken} taken, a head of {version}, {fields} fields, block {block}")?
@@ -53,34 +53,34 @@ fn tell_step(
         Ok((taken, Step::End)) => format!(in alloc; "{taken} taken, the end")?,
         Err(fault) => format!(in alloc; "{fault}")?,
     };
-    tell(alloc, answer, &told)
+    say(alloc, answer, &reported)
 }
 
 /// Adds where a decoder stands, and what it tells if nothing follows.
-fn tell_end(alloc: Global, answer: &mut Vec<u8>, decoder: &Decoder) -> Result<(), AllocError> {
+fn say_end(alloc: Global, answer: &mut Vec<u8>, decoder: &Decoder) -> Result<(), AllocError> {
     let position = decoder.position();
-    let told = match decoder.finish() {
+    let reported = match decoder.finish() {
         Ok(()) => format!(in alloc; "; at {position} whole")?,
         Err(fault) => format!(in alloc; "; at {position} {fault}")?,
     };
-    tell_line(alloc, answer, &told)
+    say_line(alloc, answer, &reported)
 }
 
 /// Adds what a step tells, and what a decoder tells then.
-fn tell_piece(
+fn say_piece(
     alloc: Global,
     answer: &mut Vec<u8>,
     decoder: &mut Decoder,
     piece: &[u8],
 ) -> Result<(), AllocError> {
     let step = take(decoder, piece);
-    tell_step(alloc, answer, step)?;
-    tell_end(alloc, answer, decoder)
+    say_step(alloc, answer, step)?;
+    say_end(alloc, answer, decoder)
 }
 
 /// Adds what the steps of a decoder tell that begins where the second word says; each is given the text from one of
 /// the words behind it to before the next.
-pub(crate) fn tell_steps(
+pub(crate) fn say_steps(
     alloc: Global,
     case: &Case<'_>,
     answer: &mut Vec<u8>,
@@ -91,7 +91,7 @@ pub(crate) fn tell_steps(
         if !case.word(2 * pair).is_empty() {
             let (from, to) = (case.number(2 * pair), case.number(2 * pair + 1));
             let piece = text.get(from as usize..to as usize).unwrap_or(b"");
-            tell_piece(alloc, answer, &mut decoder, piece)?;
+            say_piece(alloc, answer, &mut decoder, piece)?;
         }
     }
     Ok(())
@@ -109,7 +109,7 @@ fn count_taken(decoder: &mut Decoder, text: &[u8]) -> usize {
 
 /// Adds what a decoder tells that is given as many bytes of a text as the second word says, then each byte behind them
 /// alone, then a byte, nothing, and two ends of lines.
-pub(crate) fn tell_letters(
+pub(crate) fn say_letters(
     alloc: Global,
     case: &Case<'_>,
     answer: &mut Vec<u8>,
@@ -117,13 +117,13 @@ pub(crate) fn tell_letters(
 ) -> Result<(), AllocError> {
     let (front, back) = text.split_at(text.len().min(case.number(1) as usize));
     let mut decoder = Decoder::new(alloc, 0);
-    tell_piece(alloc, answer, &mut decoder, front)?;
+    say_piece(alloc, answer, &mut decoder, front)?;
     let count = count_taken(&mut decoder, back);
-    let told = format!(in alloc; "{count} more of 1 byte")?;
-    tell(alloc, answer, &told)?;
-    tell_end(alloc, answer, &decoder)?;
+    let reported = format!(in alloc; "{count} more of 1 byte")?;
+    say(alloc, answer, &reported)?;
+    say_end(alloc, answer, &decoder)?;
     for piece in [b"a".as_slice(), b"", b"\r\n\r\n"] {
-        tell_piece(alloc, answer, &mut decoder, piece)?;
+        say_piece(alloc, answer, &mut decoder, piece)?;
     }
     Ok(())
 }
@@ -133,7 +133,7 @@ pub(crate) fn tell_letters(
 pub(crate) struct Stepping<'a>(pub(crate) &'a [u8]);
 
 /// The fault that a text in two pieces is refused with.
-fn told_of_two<A: Allocator + Copy>(decoder: &mut Decoder<A>, text: &[u8]) -> Option<Fault> {
+fn reported_of_two<A: Allocator + Copy>(decoder: &mut Decoder<A>, text: &[u8]) -> Option<Fault> {
     let (front, back) = text.split_at(100.min(text.len()));
     match take(decoder, front) {
         Ok(_) => take(decoder, back).err(),
@@ -145,11 +145,12 @@ impl Attempt for Stepping<'_> {
     fn refused_at(&self, alloc: Global, number: u64) -> Option<bool> {
         let heap = RefusingAllocator::new(alloc, number);
         let mut decoder = Decoder::new(&heap, 5);
-        let told = told_of_two(&mut decoder, self.0);
+        let reported = reported_of_two(&mut decoder, self.0);
         if !heap.has_refused() {
-            return told.is_none().then_some(false);
+            return reported.is_none().then_some(false);
         }
-        let is_same = take(&mut decoder, self.0).err() == told && decoder.finish().err() == told;
-        (told == Some(FaultKind::Memory.at(5)) && is_same).then_some(true)
+        let is_same = take(&mut decoder, self.0).err() == reported
+            && decoder.finish().err() == reported;
+        (reported == Some(FaultKind::Memory.at(5)) && is_same).then_some(true)
     }
 }

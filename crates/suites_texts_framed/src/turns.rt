@@ -2,7 +2,7 @@
 
 use std::alloc::{AllocError, Allocator, Global};
 use suites_script::Case;
-use suites_texts_parsed::{tell_line, text_of};
+use suites_texts_parsed::{say_line, text_of};
 use warc_frame::{Framed, MemSink, OutFault, Sink, decode};
 use warc_vectors::{Break, BrokenWriter, RefusingAllocator};
 use warc_write::{render, render_one};
@@ -51,8 +51,8 @@ enum Turn {
 }
 
 /// What comes of a call that answers so, and what went out.
-fn turn_of(told: Result<(), OutFault>, sent: &[u8], whole: &[u8]) -> Turn {
-    match told {
+fn turn_of(reported: Result<(), OutFault>, sent: &[u8], whole: &[u8]) -> Turn {
+    match reported {
         Ok(()) if sent == whole => Turn::Done,
         Err(OutFault::Write(count)) if count == sent.len() as u64 && whole.starts_with(sent) => {
             Turn::Cut
@@ -70,8 +70,8 @@ fn turn_cut(
     (number, how): (u64, Break),
 ) -> (Turn, usize) {
     let mut out = BrokenWriter::new(alloc, number.saturating_add(1), how).taking(PIECE);
-    let told = written(call, records, &mut out);
-    let turn = turn_of(told, out.bytes(), whole);
+    let reported = written(call, records, &mut out);
+    let turn = turn_of(reported, out.bytes(), whole);
     (turn, out.bytes().len())
 }
 
@@ -120,9 +120,9 @@ fn count_short(alloc: Global, call: Call, records: &[Framed], whole: &[u8], writ
 fn turn_refused(alloc: Global, call: Call, records: &[Framed], whole: &[u8], number: u64) -> Turn {
     let heap = RefusingAllocator::new(alloc, number);
     let mut sink = MemSink::new(Vec::new(&heap));
-    let told = written(call, records, &mut sink);
+    let reported = written(call, records, &mut sink);
     let has_refused = heap.has_refused();
-    let turn = turn_of(told, sink.bytes(), whole);
+    let turn = turn_of(reported, sink.bytes(), whole);
     let sent = sink.bytes().len();
     let again = written(call, records, &mut sink);
     match (turn, has_refused) {
@@ -147,7 +147,7 @@ fn count_refused(alloc: Global, call: Call, records: &[Framed], whole: &[u8]) ->
 
 /// Adds how many bytes a call writes, how many writes fail in turn, take nothing and take one byte, and whether any
 /// request of the sink is refused.
-fn tell_turns(
+fn say_turns(
     alloc: Global,
     call: Call,
     records: &[Framed],
@@ -158,32 +158,32 @@ fn tell_turns(
     let empty = count_cut(alloc, call, records, &whole, Break::Takes(0));
     let refused = count_refused(alloc, call, records, &whole);
     let (Some(failing), Some(empty), Some(refused)) = (failing, empty, refused) else {
-        return tell_line(alloc, answer, &"another outcome");
+        return say_line(alloc, answer, &"another outcome");
     };
     let short = count_short(alloc, call, records, &whole, failing);
     let len = whole.len();
     let line = format!(in alloc;
         "{len} bytes: {failing} writes fail, {empty} take nothing, {short} take one byte"
     )?;
-    tell_line(alloc, answer, &line)?;
+    say_line(alloc, answer, &line)?;
     let growths = if refused > 0 {
         "each growth of the sink is told of"
     } else {
         "it never grows"
     };
-    tell_line(alloc, answer, &growths)
+    say_line(alloc, answer, &growths)
 }
 
 /// Adds the same of the records that a text is.
-fn tell_turns_of(
+fn say_turns_of(
     alloc: Global,
     call: Call,
     text: &[u8],
     answer: &mut Vec<u8>,
 ) -> Result<(), AllocError> {
     match decode(alloc, 0, &[text]) {
-        Ok(records) => tell_turns(alloc, call, &records, answer),
-        Err(fault) => tell_line(alloc, answer, &fault),
+        Ok(records) => say_turns(alloc, call, &records, answer),
+        Err(fault) => say_line(alloc, answer, &fault),
     }
 }
 
@@ -195,8 +195,8 @@ pub(crate) fn answer(
     answer: &mut Vec<u8>,
 ) -> Result<bool, AllocError> {
     match case.text(0) {
-        "render-in-turn" => tell_turns_of(alloc, Call::All, text_of(case, kept), answer)?,
-        "render-one-in-turn" => tell_turns_of(alloc, Call::One, text_of(case, kept), answer)?,
+        "render-in-turn" => say_turns_of(alloc, Call::All, text_of(case, kept), answer)?,
+        "render-one-in-turn" => say_turns_of(alloc, Call::One, text_of(case, kept), answer)?,
         _ => return Ok(false),
     }
     Ok(true)

@@ -1,11 +1,11 @@
 //! Records that are made, split, converted and rendered.
 
-use crate::made::{tell_made, tell_made_without_memory};
-use crate::split::{tell_split_of, tell_split_without_memory, tell_splittable_of};
+use crate::made::{say_made, say_made_without_memory};
+use crate::split::{say_split_of, say_split_without_memory, say_splittable_of};
 use std::alloc::{AllocError, Allocator, Global};
 use std::slice::from_ref;
 use suites_script::Case;
-use suites_texts_parsed::{Attempt, tell_line, tell_refusals, tell_text, text_of};
+use suites_texts_parsed::{Attempt, say_line, say_refusals, say_text, text_of};
 use warc_frame::{Fault, Framed, MemSink, OutFault, decode, read_one};
 use warc_vectors::RefusingAllocator;
 use warc_write::{convert, render};
@@ -19,7 +19,7 @@ pub(crate) fn record<A: Allocator + Copy>(alloc: A, text: &[u8]) -> Result<Frame
 }
 
 /// Adds what is written of records.
-pub(crate) fn tell_rendered(
+pub(crate) fn say_rendered(
     alloc: Global,
     answer: &mut Vec<u8>,
     records: &[Framed],
@@ -27,8 +27,8 @@ pub(crate) fn tell_rendered(
 ) -> Result<(), AllocError> {
     let mut sink = MemSink::new(Vec::new(alloc));
     match render(records, &mut sink) {
-        Ok(()) => tell_text(alloc, answer, sink.bytes(), kept),
-        Err(fault) => tell_line(alloc, answer, &fault),
+        Ok(()) => say_text(alloc, answer, sink.bytes(), kept),
+        Err(fault) => say_line(alloc, answer, &fault),
     }
 }
 
@@ -40,47 +40,47 @@ fn render_fault(alloc: Global, records: &[Framed]) -> Option<OutFault> {
 }
 
 /// Adds how the writing of records is refused without memory.
-fn tell_unrendered(
+fn say_unrendered(
     alloc: Global,
     answer: &mut Vec<u8>,
     records: &[Framed],
 ) -> Result<(), AllocError> {
     match render_fault(alloc, records) {
-        Some(fault) => tell_line(alloc, answer, &fault),
-        None => tell_line(alloc, answer, &"written"),
+        Some(fault) => say_line(alloc, answer, &fault),
+        None => say_line(alloc, answer, &"written"),
     }
 }
 
 /// Adds what is written of the records that a text is, with memory or without.
-fn tell_rendered_of(
+fn say_rendered_of(
     alloc: Global,
     answer: &mut Vec<u8>,
     text: &[u8],
     is_refused: bool,
 ) -> Result<(), AllocError> {
     match decode(alloc, 0, &[text]) {
-        Ok(records) if is_refused => tell_unrendered(alloc, answer, &records),
-        Ok(records) => tell_rendered(alloc, answer, &records, text),
-        Err(fault) => tell_line(alloc, answer, &fault),
+        Ok(records) if is_refused => say_unrendered(alloc, answer, &records),
+        Ok(records) => say_rendered(alloc, answer, &records, text),
+        Err(fault) => say_line(alloc, answer, &fault),
     }
 }
 
 /// Adds what is written of a record that is converted.
-fn tell_converted(
+fn say_converted(
     alloc: Global,
     answer: &mut Vec<u8>,
     framed: &Framed,
     text: &[u8],
 ) -> Result<(), AllocError> {
     let converted = convert(alloc, framed)?;
-    tell_rendered(alloc, answer, from_ref(&converted), text)
+    say_rendered(alloc, answer, from_ref(&converted), text)
 }
 
 /// The same of the record that a text begins with.
-fn tell_converted_of(alloc: Global, answer: &mut Vec<u8>, text: &[u8]) -> Result<(), AllocError> {
+fn say_converted_of(alloc: Global, answer: &mut Vec<u8>, text: &[u8]) -> Result<(), AllocError> {
     match record(alloc, text) {
-        Ok(framed) => tell_converted(alloc, answer, &framed, text),
-        Err(fault) => tell_line(alloc, answer, &fault),
+        Ok(framed) => say_converted(alloc, answer, &framed, text),
+        Err(fault) => say_line(alloc, answer, &fault),
     }
 }
 
@@ -112,30 +112,30 @@ pub(crate) fn answer(
     kept: &[u8],
     answer: &mut Vec<u8>,
 ) -> Result<bool, AllocError> {
-    let told = match case.text(0) {
-        "make" => tell_made(alloc, case, answer, kept),
-        "make-without-memory" => tell_made_without_memory(alloc, case, answer),
-        "split" | "segments" => tell_split_of(alloc, case, answer, text_of(case, kept)),
-        "split-without-memory" => tell_split_without_memory(
+    let reported = match case.text(0) {
+        "make" => say_made(alloc, case, answer, kept),
+        "make-without-memory" => say_made_without_memory(alloc, case, answer),
+        "split" | "segments" => say_split_of(alloc, case, answer, text_of(case, kept)),
+        "split-without-memory" => say_split_without_memory(
             alloc,
             case,
             answer,
             text_of(case, kept),
         ),
-        "segment-head" => tell_splittable_of(alloc, case, answer, text_of(case, kept)),
-        "convert" => tell_converted_of(alloc, answer, text_of(case, kept)),
+        "segment-head" => say_splittable_of(alloc, case, answer, text_of(case, kept)),
+        "convert" => say_converted_of(alloc, answer, text_of(case, kept)),
         "convert-without-memory" => {
-            tell_refusals(
+            say_refusals(
                 alloc,
                 answer,
                 &Converting(text_of(case, kept)),
                 case.number(1),
             )
         }
-        "render" => tell_rendered_of(alloc, answer, text_of(case, kept), false),
-        "render-without-memory" => tell_rendered_of(alloc, answer, text_of(case, kept), true),
+        "render" => say_rendered_of(alloc, answer, text_of(case, kept), false),
+        "render-without-memory" => say_rendered_of(alloc, answer, text_of(case, kept), true),
         _ => return Ok(false),
     };
-    told?;
+    reported?;
     Ok(true)
 }

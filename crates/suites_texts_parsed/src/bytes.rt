@@ -86,7 +86,7 @@ fn filled(alloc: Global, pattern: &[u8], byte: u8) -> Result<Vec<u8>, AllocError
 }
 
 /// Adds the bytes with which a text is one, or is none, on a line.
-pub(crate) fn tell_bytes(
+pub(crate) fn say_bytes(
     alloc: Global,
     answer: &mut Vec<u8>,
     reading: Reading,

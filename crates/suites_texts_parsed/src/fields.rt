@@ -1,9 +1,9 @@
 //! Names, values, numbers and areas.
 
-use crate::bytes::{Reading, keeps_name, keeps_value, tell_bytes};
-use crate::refusals::{Attempt, tell_refusals};
-use crate::text::{tell_fields, tell_line, tell_parts, tell_sameness, text_of};
-use crate::written::{tell_written, tell_written_twice};
+use crate::bytes::{Reading, keeps_name, keeps_value, say_bytes};
+use crate::refusals::{Attempt, say_refusals};
+use crate::text::{say_fields, say_line, say_parts, say_sameness, text_of};
+use crate::written::{say_written, say_written_twice};
 use std::alloc::{AllocError, Allocator, Global};
 use suites_script::Case;
 use warc_field::{
@@ -12,49 +12,49 @@ use warc_field::{
 use warc_vectors::RefusingAllocator;
 
 /// Adds whether a text is a name or a value.
-fn tell_kept(
+fn say_kept(
     alloc: Global,
     answer: &mut Vec<u8>,
     reading: Reading,
     text: &[u8],
 ) -> Result<(), AllocError> {
-    let told = match reading.is_of(alloc, text) {
+    let reported = match reading.is_of(alloc, text) {
         Some(true) => "kept",
         Some(false) => "bad text",
         None => "told in two ways",
     };
-    tell_line(alloc, answer, &told)
+    say_line(alloc, answer, &reported)
 }
 
 /// Adds the answer if a text is to be kept.
-fn tell_once(
+fn say_once(
     alloc: Global,
     answer: &mut Vec<u8>,
     kept: Result<bool, TextFault>,
 ) -> Result<(), AllocError> {
     match kept {
-        Ok(true) => tell_line(alloc, answer, &"kept"),
-        Ok(false) => tell_line(alloc, answer, &"kept otherwise"),
-        Err(fault) => tell_line(alloc, answer, &fault),
+        Ok(true) => say_line(alloc, answer, &"kept"),
+        Ok(false) => say_line(alloc, answer, &"kept otherwise"),
+        Err(fault) => say_line(alloc, answer, &fault),
     }
 }
 
 /// Adds the answer for a name if the first request for memory is refused, and for the same name after that.
-fn tell_name_twice(alloc: Global, answer: &mut Vec<u8>, text: &[u8]) -> Result<(), AllocError> {
+fn say_name_twice(alloc: Global, answer: &mut Vec<u8>, text: &[u8]) -> Result<(), AllocError> {
     let heap = RefusingAllocator::new(alloc, 1);
     let first = keeps_name(&heap, text);
     let second = keeps_name(&heap, text);
-    tell_once(alloc, answer, first)?;
-    tell_once(alloc, answer, second)
+    say_once(alloc, answer, first)?;
+    say_once(alloc, answer, second)
 }
 
 /// The same of a value.
-fn tell_value_twice(alloc: Global, answer: &mut Vec<u8>, text: &[u8]) -> Result<(), AllocError> {
+fn say_value_twice(alloc: Global, answer: &mut Vec<u8>, text: &[u8]) -> Result<(), AllocError> {
     let heap = RefusingAllocator::new(alloc, 1);
     let first = keeps_value(&heap, text);
     let second = keeps_value(&heap, text);
-    tell_once(alloc, answer, first)?;
-    tell_once(alloc, answer, second)
+    say_once(alloc, answer, first)?;
+    say_once(alloc, answer, second)
 }
 
 /// Whether two names are the same, told in both ways; `None` where one is no name, or they tell two things.
@@ -69,33 +69,33 @@ fn are_same(alloc: Global, one: &[u8], other: &[u8]) -> Option<bool> {
 }
 
 /// Adds whether two names are the same.
-fn tell_same(alloc: Global, case: &Case<'_>, answer: &mut Vec<u8>) -> Result<(), AllocError> {
+fn say_same(alloc: Global, case: &Case<'_>, answer: &mut Vec<u8>) -> Result<(), AllocError> {
     let is_same = are_same(alloc, case.word(1), case.word(2));
-    tell_sameness(alloc, answer, is_same)
+    say_sameness(alloc, answer, is_same)
 }
 
 /// Adds a text without the blanks around it, in a line.
-fn tell_trimmed(answer: &mut Vec<u8>, text: &[u8]) -> Result<(), AllocError> {
-    tell_parts(answer, &[trim(text), b"\n"])
+fn say_trimmed(answer: &mut Vec<u8>, text: &[u8]) -> Result<(), AllocError> {
+    say_parts(answer, &[trim(text), b"\n"])
 }
 
 /// Adds the number that a text is.
-fn tell_number(alloc: Global, answer: &mut Vec<u8>, text: &[u8]) -> Result<(), AllocError> {
+fn say_number(alloc: Global, answer: &mut Vec<u8>, text: &[u8]) -> Result<(), AllocError> {
     match decimal(text) {
-        Some(number) => tell_line(alloc, answer, &number),
-        None => tell_line(alloc, answer, &"none"),
+        Some(number) => say_line(alloc, answer, &number),
+        None => say_line(alloc, answer, &"none"),
     }
 }
 
 /// Adds the bytes with which the text of the third word is what the second says, or is not.
-fn tell_bytes_of(
+fn say_bytes_of(
     alloc: Global,
     case: &Case<'_>,
     answer: &mut Vec<u8>,
     is_one: bool,
 ) -> Result<(), AllocError> {
     let pattern = case.bytes(alloc, 2)?;
-    tell_bytes(
+    say_bytes(
         alloc,
         answer,
         Reading::named(case.text(1)),
@@ -111,57 +111,57 @@ pub(crate) fn answer(
     kept: &[u8],
     answer: &mut Vec<u8>,
 ) -> Result<bool, AllocError> {
-    let told = match case.text(0) {
-        "name" => tell_kept(alloc, answer, Reading::Name, text_of(case, kept)),
-        "value" => tell_kept(alloc, answer, Reading::Value, text_of(case, kept)),
-        "name-without-memory" => tell_name_twice(alloc, answer, text_of(case, kept)),
-        "value-without-memory" => tell_value_twice(alloc, answer, text_of(case, kept)),
-        "kept-bytes" => tell_bytes_of(alloc, case, answer, true),
-        "refused-bytes" => tell_bytes_of(alloc, case, answer, false),
-        "same-name" => tell_same(alloc, case, answer),
-        "trim" => tell_trimmed(answer, text_of(case, kept)),
-        "decimal" => tell_number(alloc, answer, &case.bytes(alloc, 1)?),
+    let reported = match case.text(0) {
+        "name" => say_kept(alloc, answer, Reading::Name, text_of(case, kept)),
+        "value" => say_kept(alloc, answer, Reading::Value, text_of(case, kept)),
+        "name-without-memory" => say_name_twice(alloc, answer, text_of(case, kept)),
+        "value-without-memory" => say_value_twice(alloc, answer, text_of(case, kept)),
+        "kept-bytes" => say_bytes_of(alloc, case, answer, true),
+        "refused-bytes" => say_bytes_of(alloc, case, answer, false),
+        "same-name" => say_same(alloc, case, answer),
+        "trim" => say_trimmed(answer, text_of(case, kept)),
+        "decimal" => say_number(alloc, answer, &case.bytes(alloc, 1)?),
         _ => return Ok(false),
     };
-    told?;
+    reported?;
     Ok(true)
 }
 
 /// Adds the fields of an area, or its fault.
-fn tell_area<A: Allocator>(
+fn say_area<A: Allocator>(
     alloc: Global,
     answer: &mut Vec<u8>,
     area: Result<Fields<A>, AreaFault>,
 ) -> Result<(), AllocError> {
     match area {
-        Ok(fields) if fields.is_empty() => tell_line(alloc, answer, &"no fields"),
+        Ok(fields) if fields.is_empty() => say_line(alloc, answer, &"no fields"),
         Ok(fields) => {
-            let told = format!(in alloc; "fields: {}", fields.len())?;
-            tell_line(alloc, answer, &told)?;
-            tell_fields(answer, &fields)
+            let reported = format!(in alloc; "fields: {}", fields.len())?;
+            say_line(alloc, answer, &reported)?;
+            say_fields(answer, &fields)
         }
-        Err(fault) => tell_line(alloc, answer, &fault),
+        Err(fault) => say_line(alloc, answer, &fault),
     }
 }
 
 /// Adds a field as a line.
-fn tell_field(answer: &mut Vec<u8>, field: Option<(&Name, &Value)>) -> Result<(), AllocError> {
+fn say_field(answer: &mut Vec<u8>, field: Option<(&Name, &Value)>) -> Result<(), AllocError> {
     match field {
-        Some((name, value)) => tell_parts(answer, &[name.bytes(), b": ", value.bytes(), b"\n"]),
+        Some((name, value)) => say_parts(answer, &[name.bytes(), b": ", value.bytes(), b"\n"]),
         None => answer.extend_from_slice(b"none\n"),
     }
 }
 
 /// Adds a value as a line.
-fn tell_value(answer: &mut Vec<u8>, value: Option<&Value>) -> Result<(), AllocError> {
+fn say_value(answer: &mut Vec<u8>, value: Option<&Value>) -> Result<(), AllocError> {
     match value {
-        Some(value) => tell_parts(answer, &[value.bytes(), b"\n"]),
+        Some(value) => say_parts(answer, &[value.bytes(), b"\n"]),
         None => answer.extend_from_slice(b"none\n"),
     }
 }
 
 /// Adds what a look-up among fields finds.
-fn tell_found(
+fn say_found(
     alloc: Global,
     case: &Case<'_>,
     answer: &mut Vec<u8>,
@@ -169,43 +169,43 @@ fn tell_found(
 ) -> Result<(), AllocError> {
     let name = case.word(1);
     match case.text(0) {
-        "field" => tell_field(answer, fields.get(case.number(1) as usize)),
-        "first" => tell_value(answer, fields.first(name)),
-        _ => tell_line(alloc, answer, &fields.count(name)),
+        "field" => say_field(answer, fields.get(case.number(1) as usize)),
+        "first" => say_value(answer, fields.first(name)),
+        _ => say_line(alloc, answer, &fields.count(name)),
     }
 }
 
 /// Adds what a look-up among the fields of an area finds.
-fn tell_found_in(
+fn say_found_in(
     alloc: Global,
     case: &Case<'_>,
     answer: &mut Vec<u8>,
     area: &[u8],
 ) -> Result<(), AllocError> {
     match read_area(alloc, area) {
-        Ok(fields) => tell_found(alloc, case, answer, &fields),
-        Err(fault) => tell_line(alloc, answer, &fault),
+        Ok(fields) => say_found(alloc, case, answer, &fields),
+        Err(fault) => say_line(alloc, answer, &fault),
     }
 }
 
 /// Adds the length of fields as they are written, and their text behind what stands there.
-fn tell_canonical(alloc: Global, answer: &mut Vec<u8>, fields: &Fields) -> Result<(), AllocError> {
+fn say_canonical(alloc: Global, answer: &mut Vec<u8>, fields: &Fields) -> Result<(), AllocError> {
     let len = canonical_len(fields).unwrap_or(0);
-    tell_line(alloc, answer, &len)?;
-    tell_written(alloc, answer, fields)
+    say_line(alloc, answer, &len)?;
+    say_written(alloc, answer, fields)
 }
 
 /// Adds what is written of the fields of an area, with memory or without.
-fn tell_written_of(
+fn say_written_of(
     alloc: Global,
     answer: &mut Vec<u8>,
     area: &[u8],
     is_refused: bool,
 ) -> Result<(), AllocError> {
     match read_area(alloc, area) {
-        Ok(fields) if is_refused => tell_written_twice(alloc, answer, &fields),
-        Ok(fields) => tell_canonical(alloc, answer, &fields),
-        Err(fault) => tell_line(alloc, answer, &fault),
+        Ok(fields) if is_refused => say_written_twice(alloc, answer, &fields),
+        Ok(fields) => say_canonical(alloc, answer, &fields),
+        Err(fault) => say_line(alloc, answer, &fault),
     }
 }
 
@@ -299,7 +299,7 @@ impl Attempt for ReadingArea<'_> {
 }
 
 /// Adds whether each refused request is reported as the fields of an area are read, or pushed.
-fn tell_refused(
+fn say_refused(
     alloc: Global,
     case: &Case<'_>,
     answer: &mut Vec<u8>,
@@ -308,13 +308,13 @@ fn tell_refused(
 ) -> Result<(), AllocError> {
     match read_area(alloc, area) {
         Ok(fields) if is_pushed => {
-            tell_refusals(alloc, answer, &Pushing(fields.as_slice()), case.number(1))
+            say_refusals(alloc, answer, &Pushing(fields.as_slice()), case.number(1))
         }
         Ok(fields) => {
             let attempt = ReadingArea(area, fields.as_slice());
-            tell_refusals(alloc, answer, &attempt, case.number(1))
+            say_refusals(alloc, answer, &attempt, case.number(1))
         }
-        Err(fault) => tell_line(alloc, answer, &fault),
+        Err(fault) => say_line(alloc, answer, &fault),
     }
 }
 
@@ -325,15 +325,15 @@ pub(crate) fn answer_of_area(
     kept: &[u8],
     answer: &mut Vec<u8>,
 ) -> Result<bool, AllocError> {
-    let told = match case.text(0) {
-        "area" => tell_area(alloc, answer, read_area(alloc, text_of(case, kept))),
-        "field" | "first" | "count" => tell_found_in(alloc, case, answer, text_of(case, kept)),
-        "canonical" => tell_written_of(alloc, answer, text_of(case, kept), false),
-        "canonical-without-memory" => tell_written_of(alloc, answer, text_of(case, kept), true),
-        "push-without-memory" => tell_refused(alloc, case, answer, text_of(case, kept), true),
-        "area-without-memory" => tell_refused(alloc, case, answer, text_of(case, kept), false),
+    let reported = match case.text(0) {
+        "area" => say_area(alloc, answer, read_area(alloc, text_of(case, kept))),
+        "field" | "first" | "count" => say_found_in(alloc, case, answer, text_of(case, kept)),
+        "canonical" => say_written_of(alloc, answer, text_of(case, kept), false),
+        "canonical-without-memory" => say_written_of(alloc, answer, text_of(case, kept), true),
+        "push-without-memory" => say_refused(alloc, case, answer, text_of(case, kept), true),
+        "area-without-memory" => say_refused(alloc, case, answer, text_of(case, kept), false),
         _ => return Ok(false),
     };
-    told?;
+    reported?;
     Ok(true)
 }

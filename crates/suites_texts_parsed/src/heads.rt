@@ -1,8 +1,8 @@
 //! Types, ids, heads, and the findings of records.
 
-use crate::refusals::{Attempt, tell_refusals};
-use crate::said::{tell_optional, tell_reference, tell_segment, tell_typed};
-use crate::text::{tell_line, tell_parts, tell_sameness, text_of};
+use crate::refusals::{Attempt, say_refusals};
+use crate::said::{say_optional, say_reference, say_segment, say_typed};
+use crate::text::{say_line, say_parts, say_sameness, text_of};
 use std::alloc::{AllocError, Allocator, Global};
 use std::cmp::Ordering;
 use suites_script::Case;
@@ -13,21 +13,21 @@ use warc_record::{
 use warc_vectors::RefusingAllocator;
 
 /// Adds the type that a text is.
-fn tell_kind(alloc: Global, answer: &mut Vec<u8>, text: &[u8]) -> Result<(), AllocError> {
+fn say_kind(alloc: Global, answer: &mut Vec<u8>, text: &[u8]) -> Result<(), AllocError> {
     let kind = format!(in alloc; "{:?}", Kind::named(text))?;
-    tell_line(alloc, answer, &kind)
+    say_line(alloc, answer, &kind)
 }
 
 /// Adds a text without the brackets around it, in a line.
-fn tell_bare(answer: &mut Vec<u8>, text: &[u8]) -> Result<(), AllocError> {
-    tell_parts(answer, &[bare(text), b"\n"])
+fn say_bare(answer: &mut Vec<u8>, text: &[u8]) -> Result<(), AllocError> {
+    say_parts(answer, &[bare(text), b"\n"])
 }
 
 /// Adds how many bytes the key of the id in a text keeps, if the text holds one.
-fn tell_kept(alloc: Global, answer: &mut Vec<u8>, text: &[u8]) -> Result<(), AllocError> {
+fn say_kept(alloc: Global, answer: &mut Vec<u8>, text: &[u8]) -> Result<(), AllocError> {
     match id_key(text) {
-        Some(key) => tell_line(alloc, answer, &key.kept()),
-        None => tell_line(alloc, answer, &"none"),
+        Some(key) => say_line(alloc, answer, &key.kept()),
+        None => say_line(alloc, answer, &"none"),
     }
 }
 
@@ -40,56 +40,56 @@ fn have_equal_keys(one: &[u8], other: &[u8]) -> Option<bool> {
 }
 
 /// Adds whether two ids are the same.
-fn tell_same(alloc: Global, case: &Case<'_>, answer: &mut Vec<u8>) -> Result<(), AllocError> {
+fn say_same(alloc: Global, case: &Case<'_>, answer: &mut Vec<u8>) -> Result<(), AllocError> {
     let is_same = have_equal_keys(case.word(1), case.word(2));
-    tell_sameness(alloc, answer, is_same)
+    say_sameness(alloc, answer, is_same)
 }
 
 /// Adds what a word asks of a head.
-fn tell_said(
+fn say_said(
     alloc: Global,
     answer: &mut Vec<u8>,
     word: &str,
     typed: &Typed<'_>,
 ) -> Result<(), AllocError> {
     match word {
-        "typed" => tell_typed(alloc, answer, typed),
-        "target" => tell_optional(answer, "target: ", typed.target()),
-        "segment" => tell_segment(alloc, answer, &typed.segment),
-        "reference" => tell_reference(alloc, answer, &typed.reference),
-        _ => tell_line(alloc, answer, &"good"),
+        "typed" => say_typed(alloc, answer, typed),
+        "target" => say_optional(answer, "target: ", typed.target()),
+        "segment" => say_segment(alloc, answer, &typed.segment),
+        "reference" => say_reference(alloc, answer, &typed.reference),
+        _ => say_line(alloc, answer, &"good"),
     }
 }
 
 /// Adds what a word asks of the head that fields are, or its fault.
-fn tell_head(
+fn say_head(
     alloc: Global,
     answer: &mut Vec<u8>,
     word: &str,
     fields: &Fields,
 ) -> Result<(), AllocError> {
     match type_head(fields) {
-        Ok(typed) => tell_said(alloc, answer, word, &typed),
-        Err(fault) => tell_line(alloc, answer, &fault),
+        Ok(typed) => say_said(alloc, answer, word, &typed),
+        Err(fault) => say_line(alloc, answer, &fault),
     }
 }
 
 /// Adds findings as lines.
-fn tell_findings(alloc: Global, answer: &mut Vec<u8>, found: &[Finding]) -> Result<(), AllocError> {
+fn say_findings(alloc: Global, answer: &mut Vec<u8>, found: &[Finding]) -> Result<(), AllocError> {
     if found.is_empty() {
-        return tell_line(alloc, answer, &"none");
+        return say_line(alloc, answer, &"none");
     }
     for finding in found {
         let number = format!(in alloc; "N{} ", finding.number())?;
         let field = finding.field().unwrap_or(b"-");
-        tell_parts(answer, &[number.as_bytes(), field, b"\n"])?;
+        say_parts(answer, &[number.as_bytes(), field, b"\n"])?;
     }
     Ok(())
 }
 
 /// Adds what is found in fields, over a block of as many bytes as the second word says. The words after it say what is
 /// known of the record.
-fn tell_found(
+fn say_found(
     alloc: Global,
     case: &Case<'_>,
     answer: &mut Vec<u8>,
@@ -100,20 +100,20 @@ fn tell_found(
         used_id: case.text(2) == "used-id" || case.text(3) == "used-id",
     };
     let found = all_findings(alloc, fields, case.number(1), facts)?;
-    tell_findings(alloc, answer, &found)
+    say_findings(alloc, answer, &found)
 }
 
 /// Adds what a case asks of the fields of an area.
-fn tell_of_area(
+fn say_of_area(
     alloc: Global,
     case: &Case<'_>,
     answer: &mut Vec<u8>,
     area: &[u8],
 ) -> Result<(), AllocError> {
     match read_area(alloc, area) {
-        Ok(fields) if case.text(0) == "findings" => tell_found(alloc, case, answer, &fields),
-        Ok(fields) => tell_head(alloc, answer, case.text(0), &fields),
-        Err(fault) => tell_line(alloc, answer, &fault),
+        Ok(fields) if case.text(0) == "findings" => say_found(alloc, case, answer, &fields),
+        Ok(fields) => say_head(alloc, answer, case.text(0), &fields),
+        Err(fault) => say_line(alloc, answer, &fault),
     }
 }
 
@@ -147,13 +147,13 @@ impl Attempt for MakingFindings<'_> {
 }
 
 /// Adds whether each refused request is reported as findings are made.
-fn tell_refused(
+fn say_refused(
     alloc: Global,
     case: &Case<'_>,
     answer: &mut Vec<u8>,
     area: &[u8],
 ) -> Result<(), AllocError> {
-    tell_refusals(alloc, answer, &MakingFindings(area), case.number(1))
+    say_refusals(alloc, answer, &MakingFindings(area), case.number(1))
 }
 
 /// Answers a case of heads.
@@ -163,17 +163,17 @@ pub(crate) fn answer(
     kept: &[u8],
     answer: &mut Vec<u8>,
 ) -> Result<bool, AllocError> {
-    let told = match case.text(0) {
-        "kind" => tell_kind(alloc, answer, case.word(1)),
-        "bare" => tell_bare(answer, &case.bytes(alloc, 1)?),
-        "id" => tell_kept(alloc, answer, &case.bytes(alloc, 1)?),
-        "same-id" => tell_same(alloc, case, answer),
-        "findings-without-memory" => tell_refused(alloc, case, answer, text_of(case, kept)),
+    let reported = match case.text(0) {
+        "kind" => say_kind(alloc, answer, case.word(1)),
+        "bare" => say_bare(answer, &case.bytes(alloc, 1)?),
+        "id" => say_kept(alloc, answer, &case.bytes(alloc, 1)?),
+        "same-id" => say_same(alloc, case, answer),
+        "findings-without-memory" => say_refused(alloc, case, answer, text_of(case, kept)),
         "head" | "typed" | "target" | "segment" | "reference" | "findings" => {
-            tell_of_area(alloc, case, answer, text_of(case, kept))
+            say_of_area(alloc, case, answer, text_of(case, kept))
         }
         _ => return Ok(false),
     };
-    told?;
+    reported?;
     Ok(true)
 }

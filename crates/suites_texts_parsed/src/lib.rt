@@ -11,13 +11,11 @@ mod text;
 mod values;
 mod written;
 
-pub use refusals::{Attempt, tell_refusals};
+pub use refusals::{Attempt, say_refusals};
 use std::alloc::{AllocError, Global};
 use suites_script::Case;
-pub use text::{
-    tell, tell_done, tell_fields, tell_line, tell_outcome, tell_parts, tell_text, text_of,
-};
-pub use written::{tell_written, tell_written_twice};
+pub use text::{say, say_done, say_fields, say_line, say_outcome, say_parts, say_text, text_of};
+pub use written::{say_written, say_written_twice};
 
 /// Adds what a case answers, and tells whether it is a case of these crates. `kept` is the text that cases speak of
 /// which give none.

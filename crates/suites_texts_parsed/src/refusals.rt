@@ -22,19 +22,19 @@ fn count_of<T: Attempt>(alloc: Global, attempt: &T) -> (u64, bool) {
 }
 
 /// Adds whether a call makes `least` requests at least, and reports each refusal.
-pub fn tell_refusals<T: Attempt>(
+pub fn say_refusals<T: Attempt>(
     alloc: Global,
     answer: &mut Vec<u8>,
     attempt: &T,
     least: u64,
 ) -> Result<(), AllocError> {
-    let (count, are_told) = count_of(alloc, attempt);
-    let told = if are_told && count >= least {
+    let (count, are_reported) = count_of(alloc, attempt);
+    let reported = if are_reported && count >= least {
         format!(in alloc; "each told of, {least} or more\n")?
-    } else if are_told {
+    } else if are_reported {
         format!(in alloc; "each told of, {count} in all\n")?
     } else {
         format!(in alloc; "not told of behind {count}\n")?
     };
-    answer.extend_from_slice(told.as_bytes())
+    answer.extend_from_slice(reported.as_bytes())
 }

@@ -1,56 +1,56 @@
 //! What a head that reads says.
 
-use crate::text::{tell, tell_line, tell_parts};
-use crate::values::{tell_moment, tell_wanted};
+use crate::text::{say, say_line, say_parts};
+use crate::values::{say_moment, say_wanted};
 use std::alloc::{AllocError, Global};
 use warc_record::{IdKey, NamedPair, Reference, Segment, SegmentNumber, Typed};
 
 /// Adds a line that begins so, with this text.
-fn tell_bytes(answer: &mut Vec<u8>, begin: &str, text: &[u8]) -> Result<(), AllocError> {
-    tell_parts(answer, &[begin.as_bytes(), text, b"\n"])
+fn say_bytes(answer: &mut Vec<u8>, begin: &str, text: &[u8]) -> Result<(), AllocError> {
+    say_parts(answer, &[begin.as_bytes(), text, b"\n"])
 }
 
 /// The same of a text, if there is one.
-pub(crate) fn tell_optional(
+pub(crate) fn say_optional(
     answer: &mut Vec<u8>,
     begin: &str,
     text: Option<&[u8]>,
 ) -> Result<(), AllocError> {
-    tell_bytes(answer, begin, text.unwrap_or(b"none"))
+    say_bytes(answer, begin, text.unwrap_or(b"none"))
 }
 
 /// The same of the bytes of a key, if there is one.
-fn tell_key(answer: &mut Vec<u8>, begin: &str, key: Option<&IdKey<'_>>) -> Result<(), AllocError> {
+fn say_key(answer: &mut Vec<u8>, begin: &str, key: Option<&IdKey<'_>>) -> Result<(), AllocError> {
     match key {
-        Some(key) => tell_bytes(answer, begin, key.bytes()),
-        None => tell_bytes(answer, begin, b"none"),
+        Some(key) => say_bytes(answer, begin, key.bytes()),
+        None => say_bytes(answer, begin, b"none"),
     }
 }
 
 /// Adds the type, the texts and the digests of a head.
-pub(crate) fn tell_typed(
+pub(crate) fn say_typed(
     alloc: Global,
     answer: &mut Vec<u8>,
     typed: &Typed<'_>,
 ) -> Result<(), AllocError> {
     let kind = format!(in alloc; "{:?}", typed.kind)?;
-    tell_bytes(answer, "kind: ", kind.as_bytes())?;
-    tell_bytes(answer, "type: ", typed.texts.kind)?;
-    tell_bytes(answer, "id: ", typed.texts.id)?;
-    tell_key(answer, "key: ", Some(&typed.id))?;
-    tell_bytes(answer, "date: ", typed.texts.date)?;
-    tell(alloc, answer, &"moment: ")?;
-    tell_moment(alloc, answer, Some(typed.moment))?;
-    tell_optional(answer, "target: ", typed.target())?;
-    tell(alloc, answer, &"block digest: ")?;
-    tell_wanted(alloc, answer, typed.wanted())?;
-    tell_optional(answer, "payload digest: ", typed.payload_digest())?;
-    tell(alloc, answer, &"truncated: ")?;
-    tell_line(alloc, answer, &typed.texts.is_truncated)
+    say_bytes(answer, "kind: ", kind.as_bytes())?;
+    say_bytes(answer, "type: ", typed.texts.kind)?;
+    say_bytes(answer, "id: ", typed.texts.id)?;
+    say_key(answer, "key: ", Some(&typed.id))?;
+    say_bytes(answer, "date: ", typed.texts.date)?;
+    say(alloc, answer, &"moment: ")?;
+    say_moment(alloc, answer, Some(typed.moment))?;
+    say_optional(answer, "target: ", typed.target())?;
+    say(alloc, answer, &"block digest: ")?;
+    say_wanted(alloc, answer, typed.wanted())?;
+    say_optional(answer, "payload digest: ", typed.payload_digest())?;
+    say(alloc, answer, &"truncated: ")?;
+    say_line(alloc, answer, &typed.texts.is_truncated)
 }
 
 /// Adds the segment that a head says it is.
-pub(crate) fn tell_segment(
+pub(crate) fn say_segment(
     alloc: Global,
     answer: &mut Vec<u8>,
     segment: &Segment<'_>,
@@ -60,42 +60,42 @@ pub(crate) fn tell_segment(
         SegmentNumber::Number(number) => format!(in alloc; "number: {number}")?,
         SegmentNumber::Bad => format!(in alloc; "number: bad")?,
     };
-    tell_line(alloc, answer, &number)?;
-    tell_key(answer, "origin: ", segment.origin.as_ref())?;
+    say_line(alloc, answer, &number)?;
+    say_key(answer, "origin: ", segment.origin.as_ref())?;
     match segment.total {
-        Some(total) => tell_line(alloc, answer, &format!(in alloc; "total: {total}")?),
-        None => tell_line(alloc, answer, &"total: none"),
+        Some(total) => say_line(alloc, answer, &format!(in alloc; "total: {total}")?),
+        None => say_line(alloc, answer, &"total: none"),
     }
 }
 
 /// Adds the target and the moment that a revisit names.
-fn tell_pair(
+fn say_pair(
     alloc: Global,
     answer: &mut Vec<u8>,
     pair: Option<&NamedPair<'_>>,
 ) -> Result<(), AllocError> {
     match pair {
         Some(pair) => {
-            tell_bytes(answer, "named target: ", pair.target)?;
-            tell(alloc, answer, &"named moment: ")?;
-            tell_moment(alloc, answer, Some(pair.moment))
+            say_bytes(answer, "named target: ", pair.target)?;
+            say(alloc, answer, &"named moment: ")?;
+            say_moment(alloc, answer, Some(pair.moment))
         }
-        None => tell_line(alloc, answer, &"named pair: none"),
+        None => say_line(alloc, answer, &"named pair: none"),
     }
 }
 
 /// Adds what a head refers to.
-pub(crate) fn tell_reference(
+pub(crate) fn say_reference(
     alloc: Global,
     answer: &mut Vec<u8>,
     reference: &Reference<'_>,
 ) -> Result<(), AllocError> {
-    tell_key(answer, "named id: ", reference.named_id.as_ref())?;
-    tell_pair(alloc, answer, reference.named_pair.as_ref())?;
+    say_key(answer, "named id: ", reference.named_id.as_ref())?;
+    say_pair(alloc, answer, reference.named_pair.as_ref())?;
     let profile = if reference.known_profile {
         "profile: known"
     } else {
         "profile: unknown"
     };
-    tell_line(alloc, answer, &profile)
+    say_line(alloc, answer, &profile)
 }

@@ -18,7 +18,7 @@ pub fn text_of<'a>(case: &'a Case<'_>, kept: &'a [u8]) -> &'a [u8] {
 }
 
 /// Adds texts, one behind the other.
-pub fn tell_parts(answer: &mut Vec<u8>, parts: &[&[u8]]) -> Result<(), AllocError> {
+pub fn say_parts(answer: &mut Vec<u8>, parts: &[&[u8]]) -> Result<(), AllocError> {
     for part in parts {
         answer.extend_from_slice(part)?;
     }
@@ -26,62 +26,62 @@ pub fn tell_parts(answer: &mut Vec<u8>, parts: &[&[u8]]) -> Result<(), AllocErro
 }
 
 /// Adds how a value shows itself.
-pub fn tell<T: Display>(alloc: Global, answer: &mut Vec<u8>, value: &T) -> Result<(), AllocError> {
+pub fn say<T: Display>(alloc: Global, answer: &mut Vec<u8>, value: &T) -> Result<(), AllocError> {
     let shown = value.to_string(alloc)?;
     answer.extend_from_slice(shown.as_bytes())
 }
 
 /// The same on a line of its own.
-pub fn tell_line<T: Display>(
+pub fn say_line<T: Display>(
     alloc: Global,
     answer: &mut Vec<u8>,
     value: &T,
 ) -> Result<(), AllocError> {
     let shown = value.to_string(alloc)?;
-    tell_parts(answer, &[shown.as_bytes(), b"\n"])
+    say_parts(answer, &[shown.as_bytes(), b"\n"])
 }
 
 /// Adds whether two things are the same, or that two ways of comparing them differ.
-pub(crate) fn tell_sameness(
+pub(crate) fn say_sameness(
     alloc: Global,
     answer: &mut Vec<u8>,
     is_same: Option<bool>,
 ) -> Result<(), AllocError> {
-    let told = match is_same {
+    let reported = match is_same {
         Some(true) => "same",
         Some(false) => "other",
         None => "told in two ways",
     };
-    tell_line(alloc, answer, &told)
+    say_line(alloc, answer, &reported)
 }
 
 /// Adds what a call answers, or its fault, in a line.
-pub fn tell_outcome<T: Display + Drop, E: Display + Drop>(
+pub fn say_outcome<T: Display + Drop, E: Display + Drop>(
     alloc: Global,
     answer: &mut Vec<u8>,
     outcome: Result<T, E>,
 ) -> Result<(), AllocError> {
     match outcome {
-        Ok(value) => tell_line(alloc, answer, &value),
-        Err(fault) => tell_line(alloc, answer, &fault),
+        Ok(value) => say_line(alloc, answer, &value),
+        Err(fault) => say_line(alloc, answer, &fault),
     }
 }
 
 /// Adds a word where a call is done, or its fault, in a line.
-pub fn tell_done<E: Display + Drop>(
+pub fn say_done<E: Display + Drop>(
     alloc: Global,
     answer: &mut Vec<u8>,
     word: &str,
     outcome: Result<(), E>,
 ) -> Result<(), AllocError> {
     match outcome {
-        Ok(()) => tell_line(alloc, answer, &word),
-        Err(fault) => tell_line(alloc, answer, &fault),
+        Ok(()) => say_line(alloc, answer, &word),
+        Err(fault) => say_line(alloc, answer, &fault),
     }
 }
 
 /// Adds a text: in a line, where it is the one that was kept or is long, what it is.
-pub fn tell_text(
+pub fn say_text(
     alloc: Global,
     answer: &mut Vec<u8>,
     text: &[u8],
@@ -90,32 +90,28 @@ pub fn tell_text(
     if text == kept {
         answer.extend_from_slice(b"the text\n")
     } else if text.len() > LONG {
-        let told = format!(in alloc; "{} bytes\n", text.len())?;
-        answer.extend_from_slice(told.as_bytes())
+        let reported = format!(in alloc; "{} bytes\n", text.len())?;
+        answer.extend_from_slice(reported.as_bytes())
     } else {
         answer.extend_from_slice(text)
     }
 }
 
 /// Adds bytes as hexadecimal digits, on a line.
-pub(crate) fn tell_hex(
-    alloc: Global,
-    answer: &mut Vec<u8>,
-    bytes: &[u8],
-) -> Result<(), AllocError> {
+pub(crate) fn say_hex(alloc: Global, answer: &mut Vec<u8>, bytes: &[u8]) -> Result<(), AllocError> {
     for byte in bytes {
-        tell(alloc, answer, &format!(in alloc; "{byte:02x}")?)?;
+        say(alloc, answer, &format!(in alloc; "{byte:02x}")?)?;
     }
     answer.extend_from_slice(b"\n")
 }
 
 /// Adds each field as a line.
-pub fn tell_fields<A: Allocator>(
+pub fn say_fields<A: Allocator>(
     answer: &mut Vec<u8>,
     fields: &Fields<A>,
 ) -> Result<(), AllocError> {
     for (name, value) in fields.as_slice() {
-        tell_parts(answer, &[name.bytes(), b": ", value.bytes(), b"\n"])?;
+        say_parts(answer, &[name.bytes(), b": ", value.bytes(), b"\n"])?;
     }
     Ok(())
 }

@@ -1,6 +1,6 @@
 //! Dates and digests.
 
-use crate::text::{tell_hex, tell_line, tell_parts, text_of};
+use crate::text::{say_hex, say_line, say_parts, text_of};
 use std::alloc::{AllocError, Global};
 use std::cmp::Ordering;
 use suites_script::Case;
@@ -8,17 +8,17 @@ use warc_field::Value;
 use warc_value::{Moment, Running, Verdict, Wanted, base32, digest, read_date, unbase32};
 
 /// Adds the day and the nanosecond of a moment, in a line.
-pub(crate) fn tell_moment(
+pub(crate) fn say_moment(
     alloc: Global,
     answer: &mut Vec<u8>,
     moment: Option<Moment>,
 ) -> Result<(), AllocError> {
     match moment {
         Some(moment) => {
-            let told = format!(in alloc; "{} {}", moment.day(), moment.nanosecond())?;
-            tell_line(alloc, answer, &told)
+            let reported = format!(in alloc; "{} {}", moment.day(), moment.nanosecond())?;
+            say_line(alloc, answer, &reported)
         }
-        None => tell_line(alloc, answer, &"none"),
+        None => say_line(alloc, answer, &"none"),
     }
 }
 
@@ -34,43 +34,43 @@ fn order_of(one: &[u8], other: &[u8]) -> Option<Ordering> {
 }
 
 /// Adds how one date stands to another.
-fn tell_order(alloc: Global, case: &Case<'_>, answer: &mut Vec<u8>) -> Result<(), AllocError> {
-    let told = match order_of(case.word(1), case.word(2)) {
+fn say_order(alloc: Global, case: &Case<'_>, answer: &mut Vec<u8>) -> Result<(), AllocError> {
+    let reported = match order_of(case.word(1), case.word(2)) {
         Some(Ordering::Less) => "earlier",
         Some(Ordering::Equal) => "equal",
         Some(Ordering::Greater) => "later",
         None => "told in two ways",
     };
-    tell_line(alloc, answer, &told)
+    say_line(alloc, answer, &reported)
 }
 
 /// Adds twenty bytes in base32.
-fn tell_base32(alloc: Global, answer: &mut Vec<u8>, bytes: &[u8]) -> Result<(), AllocError> {
+fn say_base32(alloc: Global, answer: &mut Vec<u8>, bytes: &[u8]) -> Result<(), AllocError> {
     let mut digest = [0; 20];
     if bytes.len() != digest.len() {
-        return tell_line(alloc, answer, &"not twenty bytes");
+        return say_line(alloc, answer, &"not twenty bytes");
     }
     digest.copy_from_slice(bytes);
-    tell_parts(answer, &[&base32(&digest), b"\n"])
+    say_parts(answer, &[&base32(&digest), b"\n"])
 }
 
 /// Adds the twenty bytes that a text is in base32.
-fn tell_unbase32(alloc: Global, answer: &mut Vec<u8>, text: &[u8]) -> Result<(), AllocError> {
+fn say_unbase32(alloc: Global, answer: &mut Vec<u8>, text: &[u8]) -> Result<(), AllocError> {
     match unbase32(text) {
-        Some(bytes) => tell_hex(alloc, answer, &bytes),
-        None => tell_line(alloc, answer, &"none"),
+        Some(bytes) => say_hex(alloc, answer, &bytes),
+        None => say_line(alloc, answer, &"none"),
     }
 }
 
 /// Adds the digest that is wanted, in hexadecimal digits.
-pub(crate) fn tell_wanted(
+pub(crate) fn say_wanted(
     alloc: Global,
     answer: &mut Vec<u8>,
     wanted: Wanted,
 ) -> Result<(), AllocError> {
     match wanted {
-        Wanted::Sha1(bytes) => tell_hex(alloc, answer, &bytes),
-        Wanted::Unchecked => tell_line(alloc, answer, &"unchecked"),
+        Wanted::Sha1(bytes) => say_hex(alloc, answer, &bytes),
+        Wanted::Unchecked => say_line(alloc, answer, &"unchecked"),
     }
 }
 
@@ -83,16 +83,16 @@ fn wanted_of(alloc: Global, text: &[u8]) -> Option<Wanted> {
 }
 
 /// Adds the digest that a value asks for.
-fn tell_wanted_of(alloc: Global, answer: &mut Vec<u8>, text: &[u8]) -> Result<(), AllocError> {
+fn say_wanted_of(alloc: Global, answer: &mut Vec<u8>, text: &[u8]) -> Result<(), AllocError> {
     match wanted_of(alloc, text) {
-        Some(wanted) => tell_wanted(alloc, answer, wanted),
-        None => tell_line(alloc, answer, &"no value"),
+        Some(wanted) => say_wanted(alloc, answer, wanted),
+        None => say_line(alloc, answer, &"no value"),
     }
 }
 
 /// Adds the digest of a block in base32.
-fn tell_digest(answer: &mut Vec<u8>, block: &[u8]) -> Result<(), AllocError> {
-    tell_parts(answer, &[&base32(&digest(block)), b"\n"])
+fn say_digest(answer: &mut Vec<u8>, block: &[u8]) -> Result<(), AllocError> {
+    say_parts(answer, &[&base32(&digest(block)), b"\n"])
 }
 
 /// The verdict on a block that comes in pieces of `piece` bytes.
@@ -105,23 +105,23 @@ fn verdict_in_pieces(block: &[u8], piece: usize, wanted: &Wanted) -> Verdict {
 }
 
 /// Adds the verdict on a block, in pieces of as many bytes as each word from the third on says.
-fn tell_verdicts(
+fn say_verdicts(
     alloc: Global,
     case: &Case<'_>,
     answer: &mut Vec<u8>,
     block: &[u8],
 ) -> Result<(), AllocError> {
     let Some(wanted) = wanted_of(alloc, case.word(1)) else {
-        return tell_line(alloc, answer, &"no value");
+        return say_line(alloc, answer, &"no value");
     };
     for word in 2..20usize {
         if !case.word(word).is_empty() {
-            let told = match verdict_in_pieces(block, case.number(word) as usize, &wanted) {
+            let reported = match verdict_in_pieces(block, case.number(word) as usize, &wanted) {
                 Verdict::Good => "good",
                 Verdict::Bad => "bad",
                 Verdict::Unchecked => "unchecked",
             };
-            tell_line(alloc, answer, &told)?;
+            say_line(alloc, answer, &reported)?;
         }
     }
     Ok(())
@@ -134,16 +134,16 @@ pub(crate) fn answer(
     kept: &[u8],
     answer: &mut Vec<u8>,
 ) -> Result<bool, AllocError> {
-    let told = match case.text(0) {
-        "date" => tell_moment(alloc, answer, read_date(&case.bytes(alloc, 1)?)),
-        "order" => tell_order(alloc, case, answer),
-        "base32" => tell_base32(alloc, answer, text_of(case, kept)),
-        "unbase32" => tell_unbase32(alloc, answer, case.word(1)),
-        "wanted" => tell_wanted_of(alloc, answer, text_of(case, kept)),
-        "digest" => tell_digest(answer, text_of(case, kept)),
-        "judge" => tell_verdicts(alloc, case, answer, text_of(case, kept)),
+    let reported = match case.text(0) {
+        "date" => say_moment(alloc, answer, read_date(&case.bytes(alloc, 1)?)),
+        "order" => say_order(alloc, case, answer),
+        "base32" => say_base32(alloc, answer, text_of(case, kept)),
+        "unbase32" => say_unbase32(alloc, answer, case.word(1)),
+        "wanted" => say_wanted_of(alloc, answer, text_of(case, kept)),
+        "digest" => say_digest(answer, text_of(case, kept)),
+        "judge" => say_verdicts(alloc, case, answer, text_of(case, kept)),
         _ => return Ok(false),
     };
-    told?;
+    reported?;
     Ok(true)
 }

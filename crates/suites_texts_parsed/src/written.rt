@@ -8,39 +8,39 @@ use warc_vectors::RefusingAllocator;
 /// What can be written.
 pub trait Writable {
     /// Writes it behind what stands in a vector.
-    fn write_behind<A: Allocator>(&self, written: &mut Vec<u8, A>) -> Result<(), AllocError>;
+    fn write_after<A: Allocator>(&self, written: &mut Vec<u8, A>) -> Result<(), AllocError>;
 }
 
 impl Writable for Fields {
-    fn write_behind<A: Allocator>(&self, written: &mut Vec<u8, A>) -> Result<(), AllocError> {
+    fn write_after<A: Allocator>(&self, written: &mut Vec<u8, A>) -> Result<(), AllocError> {
         write_area(self, written)
     }
 }
 
 impl Writable for Framed {
-    fn write_behind<A: Allocator>(&self, written: &mut Vec<u8, A>) -> Result<(), AllocError> {
+    fn write_after<A: Allocator>(&self, written: &mut Vec<u8, A>) -> Result<(), AllocError> {
         write_one(self, written)
     }
 }
 
 /// Adds what is written behind a text.
-pub fn tell_written<T: Writable>(
+pub fn say_written<T: Writable>(
     alloc: Global,
     answer: &mut Vec<u8>,
     it: &T,
 ) -> Result<(), AllocError> {
     let mut written = b"before".to_vec(alloc)?;
-    it.write_behind(&mut written)?;
+    it.write_after(&mut written)?;
     answer.extend_from_slice(&written)
 }
 
 /// Adds whether it could not be written behind what stands in a vector, and what stands there then.
-fn tell_written_into<T: Writable, A: Allocator>(
+fn say_written_into<T: Writable, A: Allocator>(
     answer: &mut Vec<u8>,
     it: &T,
     written: &mut Vec<u8, A>,
 ) -> Result<(), AllocError> {
-    if it.write_behind(written).is_err() {
+    if it.write_after(written).is_err() {
         answer.extend_from_slice(b"refused: ")?;
     }
     answer.extend_from_slice(written)?;
@@ -48,13 +48,13 @@ fn tell_written_into<T: Writable, A: Allocator>(
 }
 
 /// Adds what is written where the first growth is refused, and what is written then.
-pub fn tell_written_twice<T: Writable>(
+pub fn say_written_twice<T: Writable>(
     alloc: Global,
     answer: &mut Vec<u8>,
     it: &T,
 ) -> Result<(), AllocError> {
     let heap = RefusingAllocator::new(alloc, 2);
     let mut written = b"before".to_vec(&heap)?;
-    tell_written_into(answer, it, &mut written)?;
-    tell_written_into(answer, it, &mut written)
+    say_written_into(answer, it, &mut written)?;
+    say_written_into(answer, it, &mut written)
 }

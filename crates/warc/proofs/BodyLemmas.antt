@@ -26,7 +26,7 @@ use Rattle.warc_reading.proofs.PlacedLemmas.{placed}
 use Rattle.warc.specs.Bodies.{GivesBodyAt, IsCaptureAt, IsOtherAt}
 use Rattle.warc.specs.Finding.{IsCaptureRow, IsFoundAt, IsOtherRow}
 use Rattle.warc.specs.Replaying.{ReplaysOn}
-use Rattle.warc.specs.Standing.{LeadsTo}
+use Rattle.warc.specs.Status.{LeadsTo}
 use Rattle.warc.specs.declared.replay.body.Found.TheVariants.{Capture}
 use Rattle.warc.specs.declared.fault.BodyFault.TheVariants.{NoRecord, NoCapture, Replay}
 use Rattle.warc.proofs.ReplayLemmas.{in_list, path_by_links, reads_nothing}
@@ -77,7 +77,7 @@ module _ (bytes : List ℕ) (rows : List Row) (position : ℕ) (is : IsArchiveOf
 module _ (rows : List Row) (index : Indexes) (parts : Parts) (position : ℕ) where
   pub gives_no_record : (s : SeenSource) (o : Seen) → slice_get rows position ≡ None → GivesBodyAt rows index parts position s s o o (Err NoRecord)
   gives_no_record s o none = record {
-    told = λ bytes held is are. (none_there bytes rows position is none, refl);
+    reported = λ bytes held is are. (none_there bytes rows position is none, refl);
     reads = λ bytes held is are. reads_nothing;
     inside = λ bytes is off. refl;
     keeps = record { kept = refl; watched = refl };
@@ -88,7 +88,7 @@ module _ (rows : List Row) (index : Indexes) (parts : Parts) (position : ℕ) wh
 
   pub gives_no_capture : (s : SeenSource) (o : Seen) → IsOtherRow rows position → GivesBodyAt rows index parts position s s o o (Err NoCapture)
   gives_no_capture s o has = record {
-    told = λ bytes held is are. (other_there bytes rows position is has, refl);
+    reported = λ bytes held is are. (other_there bytes rows position is has, refl);
     reads = λ bytes held is are. reads_nothing;
     inside = λ bytes is off. refl;
     keeps = record { kept = refl; watched = refl };
@@ -100,7 +100,7 @@ module _ (rows : List Row) (index : Indexes) (parts : Parts) (position : ℕ) wh
   pub gives_no_path : ReasonsAreAnswers → (s : SeenSource) (o : Seen) (unfound : Unfound) → IsFoundAt rows index parts position (Capture (Err unfound))
       → GivesBodyAt rows index parts position s s o o (Err (Replay (Reason (NotFound unfound))))
   gives_no_path reasons s o unfound found = record {
-    told = λ bytes held is are. (
+    reported = λ bytes held is are. (
       capture_there bytes rows position is found.0,
       (
         (reasons (contents is.are.records) (path_at (contents is.are.records) position)).0 unfound
@@ -125,7 +125,7 @@ module _ (rows : List Row) (index : Indexes) (parts : Parts) (position : ℕ) wh
   pub gives_body : (path : Path) (answer : Answer) (old new : SeenSource) (before after : Seen) → IsFoundAt rows index parts position (Capture (Ok path))
       → ReplaysOn rows index parts (λ records. path_at records position) old new before after (Ok answer) → GivesBodyAt rows index parts position old new before after (Ok answer)
   gives_body path answer old new before after found by = record {
-    told = λ bytes held is are. (capture_there bytes rows position is found.0, by.told bytes held is are);
+    reported = λ bytes held is are. (capture_there bytes rows position is found.0, by.reported bytes held is are);
     reads = by.reads;
     inside = by.inside;
     keeps = by.keeps;
@@ -137,7 +137,7 @@ module _ (rows : List Row) (index : Indexes) (parts : Parts) (position : ℕ) wh
   pub gives_fault : (path : Path) (fault : ReplayFault) (old new : SeenSource) (before after : Seen) → IsFoundAt rows index parts position (Capture (Ok path))
       → ReplaysOn rows index parts (λ records. path_at records position) old new before after (Err fault) → GivesBodyAt rows index parts position old new before after (Err (Replay fault))
   gives_fault path fault old new before after found by = record {
-    told = λ bytes held is are. (capture_there bytes rows position is found.0, by.told bytes held is are);
+    reported = λ bytes held is are. (capture_there bytes rows position is found.0, by.reported bytes held is are);
     reads = by.reads;
     inside = by.inside;
     keeps = by.keeps;

@@ -119,8 +119,8 @@ module _ (Right : List Placed → Type 0) (rows : List Row) (index : Indexes) (p
         all = tt;
         out = λ start output staged. tt;
         cut = λ start output staged.
-            let out = longer (captures_text rows []) (staged_went_out start to.tells output waits staged) in
-            (let Q : ℕ → Type 0 = λ n. WentOut start (output ++ captures_text rows []) to.tells n in subst Q (sym is_sent ∙ sym (ended_sent fault sent)) out);
+            let out = longer (captures_text rows []) (staged_went_out start to.reports output waits staged) in
+            (let Q : ℕ → Type 0 = λ n. WentOut start (output ++ captures_text rows []) to.reports n in subst Q (sym is_sent ∙ sym (ended_sent fault sent)) out);
         inside = inside;
         keeps = keeps;
         fails = fails_more (λ bytes held are. indexed_one rows index parts position bytes are) (ended_fails X fault sent fails);
@@ -187,8 +187,8 @@ puts_unkept {Right} {rows} {index} {parts} {positions} {s} {to} {waits} sent is_
   all = tt;
   out = λ start output staged. tt;
   cut = λ start output staged.
-      let out = longer (captures_text rows []) (staged_went_out start to.tells output waits staged) in
-      (let Q : ℕ → Type 0 = λ n. WentOut start (output ++ captures_text rows []) to.tells n in subst Q (sym is_sent) out);
+      let out = longer (captures_text rows []) (staged_went_out start to.reports output waits staged) in
+      (let Q : ℕ → Type 0 = λ n. WentOut start (output ++ captures_text rows []) to.reports n in subst Q (sym is_sent) out);
   inside = λ bytes is off. refl;
   keeps = record { kept = refl; watched = refl };
   fails = record { may = refl; failed = λ bytes held is. refl };
@@ -265,7 +265,7 @@ module _ {rows : List Row} {index : Indexes} {parts : Parts} where
     captures = sends.captures;
     are = λ bytes held of are right. sends.are bytes held of are (gives of.are.records right);
     all = sends.all;
-    told = sends.told;
+    reported = sends.reported;
     cut = sends.cut;
     inside = sends.inside;
     keeps = sends.keeps;
@@ -293,7 +293,7 @@ module _ {rows : List Row} {index : Indexes} {parts : Parts} where
     captures = puts.captures;
     are = puts.are;
     all = puts.all;
-    told = flushes.told to.tells (captures_text rows puts.captures) (puts.out to.tells [] (empty to.tells));
+    reported = flushes.reported to.reports (captures_text rows puts.captures) (puts.out to.reports [] (empty to.reports));
     cut = tt;
     inside = puts.inside;
     keeps = puts.keeps;
@@ -308,8 +308,8 @@ module _ {rows : List Row} {index : Indexes} {parts : Parts} where
     captures = puts.captures;
     are = puts.are;
     all = tt;
-    told = tt;
-    cut = flushes.cut to.tells (captures_text rows puts.captures) (puts.out to.tells [] (empty to.tells));
+    reported = tt;
+    cut = flushes.cut to.reports (captures_text rows puts.captures) (puts.out to.reports [] (empty to.reports));
     inside = puts.inside;
     keeps = puts.keeps;
     fails = record { may = puts.fails.may; failed = λ bytes held is. puts.fails.may };
@@ -322,7 +322,7 @@ module _ {rows : List Row} {index : Indexes} {parts : Parts} where
     captures = puts.captures;
     are = puts.are;
     all = tt;
-    told = tt;
+    reported = tt;
     cut = puts.cut _ [] (empty _);
     inside = puts.inside;
     keeps = puts.keeps;

@@ -246,23 +246,23 @@ module _ (late : LatestIsLast) (chains : ChainLoops) (records : List Record) (ps
 
     body_given : (a : Answer) (body : List ℕ) → IsCaptureAt records p → new ≡ append_known old body
         → (w : Result Given Why) → IsSameGiven ps (given a body) w → IsAnswerAt records p w → From (Ok a)
-    body_given a body it told (Ok w) same on =
-        (Ok w.answer, same.0, (it, (w.body, on, told ∙ ap (append_known old) same.1)))
-    body_given a body it told (Err why) same on = absurd same
+    body_given a body it reported (Ok w) same on =
+        (Ok w.answer, same.0, (it, (w.body, on, reported ∙ ap (append_known old) same.1)))
+    body_given a body it reported (Err why) same on = absurd same
 
     body_missing : (why : Why) → IsCaptureAt records p → new ≡ old → (w : Result Given Why) → IsSameGiven ps (Err why) w → IsAnswerAt records p w
         → From (Err (Replay (Reason why)))
-    body_missing why it told (Ok w) same on = absurd same
-    body_missing why it told (Err other) same on =
-        (Err (Replay (Reason why)), refl, (it, (subst (λ (x : Why). IsAnswerAt records p (Err x)) (sym same) on, told)))
+    body_missing why it reported (Ok w) same on = absurd same
+    body_missing why it reported (Err other) same on =
+        (Err (Replay (Reason why)), refl, (it, (subst (λ (x : Why). IsAnswerAt records p (Err x)) (sym same) on, reported)))
 
     body_from : (a : Result Answer BodyFault) → IsBodyAt part i a old new → From a
-    body_from (Ok a) (it, (body, on, told)) =
-        let (w, same, whole) = answer_from i p at (given a body) on in body_given a body (capture_from i p at it) told w same whole
-    body_from (Err NoRecord) (none, told) = (Err NoRecord, refl, (sym (same_record i p at) ∙ none, told))
-    body_from (Err NoCapture) (other, told) = (Err NoCapture, refl, (other_from i p at other, told))
-    body_from (Err (Replay (Reason why))) (it, (on, told)) =
-        let (w, same, whole) = answer_from i p at (Err why) on in body_missing why (capture_from i p at it) told w same whole
+    body_from (Ok a) (it, (body, on, reported)) =
+        let (w, same, whole) = answer_from i p at (given a body) on in body_given a body (capture_from i p at it) reported w same whole
+    body_from (Err NoRecord) (none, reported) = (Err NoRecord, refl, (sym (same_record i p at) ∙ none, reported))
+    body_from (Err NoCapture) (other, reported) = (Err NoCapture, refl, (other_from i p at other, reported))
+    body_from (Err (Replay (Reason why))) (it, (on, reported)) =
+        let (w, same, whole) = answer_from i p at (Err why) on in body_missing why (capture_from i p at it) reported w same whole
     body_from (Err (Replay (Out e))) (it, (g, on, went)) =
         let (w, same, whole) = answer_from i p at g on in
         (Err (Replay (Out e)), refl, (capture_from i p at it, (w, whole, subst (λ (body : List ℕ). WentOut old body new (sent_of e)) (same_body g w same) went)))
@@ -272,23 +272,23 @@ module _ (late : LatestIsLast) (chains : ChainLoops) (records : List Record) (ps
 
     given_back : (b : Answer) (body : List ℕ) → IsCaptureAt part i → new ≡ append_known old body
         → (g : Result Given Why) → IsSameGiven ps g (given b body) → IsAnswerAt part i g → To (Ok b)
-    given_back b body it told (Ok g) same on =
-        (Ok g.answer, same.0, (it, (g.body, on, told ∙ ap (append_known old) (sym same.1))))
-    given_back b body it told (Err why) same on = absurd same
+    given_back b body it reported (Ok g) same on =
+        (Ok g.answer, same.0, (it, (g.body, on, reported ∙ ap (append_known old) (sym same.1))))
+    given_back b body it reported (Err why) same on = absurd same
 
     missing_back : (why : Why) → IsCaptureAt part i → new ≡ old → (g : Result Given Why) → IsSameGiven ps g (Err why) → IsAnswerAt part i g
         → To (Err (Replay (Reason why)))
-    missing_back why it told (Ok g) same on = absurd same
-    missing_back why it told (Err other) same on =
-        (Err (Replay (Reason why)), refl, (it, (subst (λ (x : Why). IsAnswerAt part i (Err x)) same on, told)))
+    missing_back why it reported (Ok g) same on = absurd same
+    missing_back why it reported (Err other) same on =
+        (Err (Replay (Reason why)), refl, (it, (subst (λ (x : Why). IsAnswerAt part i (Err x)) same on, reported)))
 
     body_to : (b : Result Answer BodyFault) → IsBodyAt records p b old new → To b
-    body_to (Ok b) (it, (body, on, told)) =
-        let (g, same, some) = answer_to i p at (given b body) on in given_back b body (capture_to i p at it) told g same some
-    body_to (Err NoRecord) (none, told) = (Err NoRecord, refl, (same_record i p at ∙ none, told))
-    body_to (Err NoCapture) (other, told) = (Err NoCapture, refl, (other_to i p at other, told))
-    body_to (Err (Replay (Reason why))) (it, (on, told)) =
-        let (g, same, some) = answer_to i p at (Err why) on in missing_back why (capture_to i p at it) told g same some
+    body_to (Ok b) (it, (body, on, reported)) =
+        let (g, same, some) = answer_to i p at (given b body) on in given_back b body (capture_to i p at it) reported g same some
+    body_to (Err NoRecord) (none, reported) = (Err NoRecord, refl, (same_record i p at ∙ none, reported))
+    body_to (Err NoCapture) (other, reported) = (Err NoCapture, refl, (other_to i p at other, reported))
+    body_to (Err (Replay (Reason why))) (it, (on, reported)) =
+        let (g, same, some) = answer_to i p at (Err why) on in missing_back why (capture_to i p at it) reported g same some
     body_to (Err (Replay (Out e))) (it, (w, on, went)) =
         let (g, same, some) = answer_to i p at w on in
         (Err (Replay (Out e)), refl, (capture_to i p at it, (g, some, subst (λ (body : List ℕ). WentOut old body new (sent_of e)) (sym (same_body g w same)) went)))
@@ -323,17 +323,17 @@ module _ (late : LatestIsLast) (chains : ChainLoops) (records : List Record) (ps
 
     all_from : (a : StoredAnswer) (y : Result Path Unfound) → path_at records p ≡ y → ArePaths ps (Ok a.path) y → IsCaptureAt part i
         → IsStoredAt part a.path.given (Ok a.stored) → new ≡ append_known old (stored_text part a.path.given a.stored) → StoredFrom (Ok a)
-    all_from a (Ok b) path alike it stored told = (
+    all_from a (Ok b) path alike it stored reported = (
       Ok (record { path = b; stored = a.stored }),
       record { chosen = alike.0; given = alike.1; stored = refl },
       (
         capture_from i p at it,
         path,
         stored_from a.path.given b.given (Ok a.stored) alike.1 stored,
-        told ∙ ap (append_known old) (bytes_same a.path.given b.given a.stored alike.1),
+        reported ∙ ap (append_known old) (bytes_same a.path.given b.given a.stored alike.1),
       ),
     )
-    all_from a (Err why) path alike it stored told = absurd alike
+    all_from a (Err why) path alike it stored reported = absurd alike
 
     cut_from : (e : OutFault) (a : Path) (y : Result Path Unfound) → path_at records p ≡ y → ArePaths ps (Ok a) y → IsCaptureAt part i
         → IsFrontAt part a.given (sent_of e) old new → StoredFrom (Err (Replay (Out e)))
@@ -345,14 +345,14 @@ module _ (late : LatestIsLast) (chains : ChainLoops) (records : List Record) (ps
     paths_by x path = subst (λ (y : Result Path Unfound). ArePaths ps y (path_at records p)) path (same_path i p at)
 
     out_from : (a : Result StoredAnswer BodyFault) → IsStoredOut part i a old new → StoredFrom a
-    out_from (Ok a) (it, path, stored, told) =
-        all_from a (path_at records p) refl (paths_by (Ok a.path) path) it stored told
-    out_from (Err NoRecord) (none, told) = (Err NoRecord, refl, (sym (same_record i p at) ∙ none, told))
-    out_from (Err NoCapture) (other, told) = (Err NoCapture, refl, (other_from i p at other, told))
-    out_from (Err (Replay (Reason why))) (it, stored, told) = (
+    out_from (Ok a) (it, path, stored, reported) =
+        all_from a (path_at records p) refl (paths_by (Ok a.path) path) it stored reported
+    out_from (Err NoRecord) (none, reported) = (Err NoRecord, refl, (sym (same_record i p at) ∙ none, reported))
+    out_from (Err NoCapture) (other, reported) = (Err NoCapture, refl, (other_from i p at other, reported))
+    out_from (Err (Replay (Reason why))) (it, stored, reported) = (
       Err (Replay (Reason why)),
       refl,
-      (capture_from i p at it, stored_on_from (path_at part i) (path_at records p) (Err why) (same_path i p at) stored, told),
+      (capture_from i p at it, stored_on_from (path_at part i) (path_at records p) (Err why) (same_path i p at) stored, reported),
     )
     out_from (Err (Replay (Out e))) (it, a, path, front) =
         cut_from e a (path_at records p) refl (paths_by (Ok a) path) it front
@@ -370,17 +370,17 @@ module _ (late : LatestIsLast) (chains : ChainLoops) (records : List Record) (ps
 
     all_to : (b : StoredAnswer) (x : Result Path Unfound) → path_at part i ≡ x → ArePaths ps x (Ok b.path) → IsCaptureAt records p
         → IsStoredAt records b.path.given (Ok b.stored) → new ≡ append_known old (stored_text records b.path.given b.stored) → StoredTo (Ok b)
-    all_to b (Ok a) path alike it stored told = (
+    all_to b (Ok a) path alike it stored reported = (
       Ok (record { path = a; stored = b.stored }),
       record { chosen = alike.0; given = alike.1; stored = refl },
       (
         capture_to i p at it,
         path,
         stored_to a.given b.path.given (Ok b.stored) alike.1 stored,
-        told ∙ ap (append_known old) (sym (bytes_same a.given b.path.given b.stored alike.1)),
+        reported ∙ ap (append_known old) (sym (bytes_same a.given b.path.given b.stored alike.1)),
       ),
     )
-    all_to b (Err why) path alike it stored told = absurd alike
+    all_to b (Err why) path alike it stored reported = absurd alike
 
     cut_to : (e : OutFault) (b : Path) (x : Result Path Unfound) → path_at part i ≡ x → ArePaths ps x (Ok b) → IsCaptureAt records p
         → IsFrontAt records b.given (sent_of e) old new → StoredTo (Err (Replay (Out e)))
@@ -392,14 +392,14 @@ module _ (late : LatestIsLast) (chains : ChainLoops) (records : List Record) (ps
     paths_back y path = subst (λ (x : Result Path Unfound). ArePaths ps (path_at part i) x) path (same_path i p at)
 
     out_to : (b : Result StoredAnswer BodyFault) → IsStoredOut records p b old new → StoredTo b
-    out_to (Ok b) (it, path, stored, told) =
-        all_to b (path_at part i) refl (paths_back (Ok b.path) path) it stored told
-    out_to (Err NoRecord) (none, told) = (Err NoRecord, refl, (same_record i p at ∙ none, told))
-    out_to (Err NoCapture) (other, told) = (Err NoCapture, refl, (other_to i p at other, told))
-    out_to (Err (Replay (Reason why))) (it, stored, told) = (
+    out_to (Ok b) (it, path, stored, reported) =
+        all_to b (path_at part i) refl (paths_back (Ok b.path) path) it stored reported
+    out_to (Err NoRecord) (none, reported) = (Err NoRecord, refl, (same_record i p at ∙ none, reported))
+    out_to (Err NoCapture) (other, reported) = (Err NoCapture, refl, (other_to i p at other, reported))
+    out_to (Err (Replay (Reason why))) (it, stored, reported) = (
       Err (Replay (Reason why)),
       refl,
-      (capture_to i p at it, stored_on_to (path_at part i) (path_at records p) (Err why) (same_path i p at) stored, told),
+      (capture_to i p at it, stored_on_to (path_at part i) (path_at records p) (Err why) (same_path i p at) stored, reported),
     )
     out_to (Err (Replay (Out e))) (it, b, path, front) =
         cut_to e b (path_at part i) refl (paths_back (Ok b) path) it front

@@ -20,7 +20,7 @@ use Rattle.warc.specs.ClosedLaws.{IsSameRecord}
 use Rattle.warc.specs.Selecting.{ArePositions, at_positions}
 use Rattle.warc.proofs.JoinedPartLemmas.{joined_moved, moved, with_moved}
 use Rattle.warc.proofs.NeedLemmas.{member_is}
-use Rattle.warc.proofs.PartLemmas.{contained, is_given, is_there, same_from, stands_at}
+use Rattle.warc.proofs.PartLemmas.{contained, is_given, is_there, same_from, is_slot_at}
 use Rattle.warc.proofs.SelectionLaws.{AscendFrom, ascends, at_map}
 use Rattle.warc.proofs.WayLemmas.{AreSame, origin_goes}
 
@@ -64,7 +64,7 @@ module _ (all : List ReadRecord) (ps : List ℕ) (are : ArePositions (length all
       by_place (Some p) at = ap (slice_get all) (at_position i p at) ∙ sym (is_there all ps are.below i p at)
       by_place None at =
           let over : position_at i ≡ length all = sym (unwrap_or-slice_get ps i (length all)) ∙ ap (λ (o : Option ℕ). unwrap_or o (length all)) at in
-          ap (slice_get all) over ∙ slice_get_past all (length all) (omega arith) ∙ sym (stands_at all ps are.below i ∙ ap (option_and_then (slice_get all)) at)
+          ap (slice_get all) over ∙ slice_get_past all (length all) (omega arith) ∙ sym (is_slot_at all ps are.below i ∙ ap (option_and_then (slice_get all)) at)
 
   -- ---- origins
 

@@ -31,8 +31,8 @@ use Rattle.warc.proofs.ReplayLemmas.{gap_is, read_all}
 pub digest_unfound : {A : Type 0} {rows : List Row} {parts : Parts} {position : ℕ} {old new : SeenSource} (by : Algorithm) (fault : ReplayFault) → PlacesAreOfRecords
     → FindsOrigin {A = A} rows parts position old new (Err fault) → DigestsOrigin rows parts position by old new (no_digest fault)
 digest_unfound {A} {rows} {parts} {position} {old} {new} by (Reason why) law has = record {
-  told = λ bytes held of are.
-      let (gap, says, at) = has.told bytes held of are in (
+  reported = λ bytes held of are.
+      let (gap, says, at) = has.reported bytes held of are in (
         None,
         record {
           content = at.placed.content;
@@ -47,7 +47,7 @@ digest_unfound {A} {rows} {parts} {position} {old} {new} by (Reason why) law has
   fails = record { may = has.fails.may; failed = has.fails.failed };
 }
 digest_unfound {A} {rows} {parts} {position} {old} {new} by (Out e) law has = record {
-  told = λ bytes held of are. tt;
+  reported = λ bytes held of are. tt;
   early = has.early;
   inside = λ bytes of are. (has.inside bytes of are).asks;
   keeps = has.keeps;

@@ -116,7 +116,7 @@ unkept {X} {All} {from} {to} {waits} sent is_sent = record {
   out = λ bytes text held says start output is. tt;
   cut = λ bytes text held says start output is.
       let out = went_out_of_longer start _ output text waits.sent (staged_went_out start _ output waits is) in
-      (let P : ℕ → Type 0 = λ n. WentOut start (output ++ text) to.tells n in subst P (sym is_sent) out);
+      (let P : ℕ → Type 0 = λ n. WentOut start (output ++ text) to.reports n in subst P (sym is_sent) out);
   kept = refl;
   cause = refl;
   fails = record { may = refl; failed = λ bytes held is. refl };
@@ -150,7 +150,7 @@ of_fault {X} {All} {from} {last} {to} {waits} {Expected} fault e sent is is_sent
   out = λ bytes text held says start output is. tt;
   cut = λ bytes text held says start output staged.
       let out = went_out_of_longer start _ output text waits.sent (staged_went_out start _ output waits staged) in
-      (let P : ℕ → Type 0 = λ n. WentOut start (output ++ text) to.tells n in subst P (sym (ended_sent fault e sent is ∙ is_sent)) out);
+      (let P : ℕ → Type 0 = λ n. WentOut start (output ++ text) to.reports n in subst P (sym (ended_sent fault e sent is ∙ is_sent)) out);
   kept = kept;
   cause = ended_sound X fault e sent to.faults is;
   fails = fails_ended fault e sent is (fails_more (λ bytes held it. expected bytes it.0 it.1) fails);

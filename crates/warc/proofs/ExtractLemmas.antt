@@ -24,7 +24,7 @@ use Rattle.warc.specs.declared.fault.ExtractFault.TheVariants.{NoRecord, Out}
 use Rattle.warc.specs.declared.record.part.Part.{Part}
 use Rattle.warc.specs.declared.record.part.Part.TheVariants.{Head, Block}
 use Rattle.warc_reading.proofs.PlacedLemmas.{placed}
-use Rattle.warc_reading.proofs.StandLemmas.{written}
+use Rattle.warc_reading.proofs.RemainLemmas.{written}
 use Rattle.warc.proofs.TakeLemmas.{absent}
 
 nothing_read : (part : Part) (found : Option Row) (s : SeenSource) → ReadsPart part found s s
@@ -35,7 +35,7 @@ no_row bytes rows is i none = absent is.are.records i (ap (λ l. slice_get l i) 
 
 pub gives_none : (part : Part) (rows : List Row) (i : ℕ) (s : SeenSource) (o : Seen) → slice_get rows i ≡ None → GivesPart part rows i s s o o (Err NoRecord)
 gives_none part rows i s o none = record {
-  told = λ bytes held is. (ap (option_map (λ p. part_text part bytes p)) (no_row bytes rows is i none), refl);
+  reported = λ bytes held is. (ap (option_map (λ p. part_text part bytes p)) (no_row bytes rows is i none), refl);
   silent = λ e. refl;
   absent = (λ e. none, λ e. refl);
   reads = nothing_read part (slice_get rows i) s;
@@ -78,24 +78,24 @@ module _ (part : Part) (rows : List Row) (i : ℕ) (row : Row) (start len : ℕ)
   there : (bytes : List ℕ) (is : IsArchiveOf bytes rows) → (text : List ℕ) × (option_map (λ p. part_text part bytes p) (slice_get is.are.records i) ≡ Some text)
       × (take len (drop start bytes) ≡ text) × HasRange start len bytes
   there bytes is =
-      let (p, stands, same) = placed is.are.records i row (sym (ap (λ l. slice_get l i) is.are.rows_are) ∙ at) in
-      let text = written bytes is.are.records is.are.spelled i p stands in
+      let (p, is_present, same) = placed is.are.records i row (sym (ap (λ l. slice_get l i) is.are.rows_are) ∙ at) in
+      let text = written bytes is.are.records is.are.spelled i p is_present in
       let from : start ≡ part_start part (row_of p) = start_is ∙ ap (part_start part) same in
       let long : len ≡ part_len part (row_of p) = len_is ∙ ap (part_len part) same in
       let R : ℕ → Type 0 = λ s. HasRange s len bytes in
       let L : ℕ → Type 0 = λ n. HasRange (part_start part (row_of p)) n bytes in (
         part_text part bytes p,
-        ap (option_map (λ p. part_text part bytes p)) stands,
+        ap (option_map (λ p. part_text part bytes p)) is_present,
         ap (λ n. take n (drop start bytes)) long ∙ ap (λ s. take (part_len part (row_of p)) (drop s bytes)) from ∙ part_there part bytes p text,
         subst R (sym from) (subst L (sym long) (part_range part bytes p text is.short)),
       )
 
-  pub gives_ok : ((bytes text : List ℕ) → old.holds ≡ Some bytes → IsRange start len bytes text → after.tells ≡ append_known before.tells text)
+  pub gives_ok : ((bytes text : List ℕ) → old.holds ≡ Some bytes → IsRange start len bytes text → after.reports ≡ append_known before.reports text)
       → new.faults ≡ old.faults → after.faults ≡ before.faults → GivesPart part rows i old new before after (Ok len)
-  gives_ok told sound cause = record {
-    told = λ bytes held is.
+  gives_ok reported sound cause = record {
+    reported = λ bytes held is.
         let (text, found, same, range) = there bytes is in
-        (text, found, sym (range_len start len bytes range.0) ∙ ap length same, told bytes _ held (range, refl) ∙ ap (append_known before.tells) same);
+        (text, found, sym (range_len start len bytes range.0) ∙ ap length same, reported bytes _ held (range, refl) ∙ ap (append_known before.reports) same);
     silent = λ e. cc e;
     absent = (λ e. cc e, λ none. absurd (some_row none));
     reads = reads;
@@ -105,13 +105,13 @@ module _ (part : Part) (rows : List Row) (i : ℕ) (row : Row) (start len : ℕ)
   }
 
   pub gives_cut : (e : OutFault) → IsOfDevice e
-      → ((bytes text : List ℕ) → old.holds ≡ Some bytes → IsRange start len bytes text → WentOut before.tells text after.tells (sent_of e))
+      → ((bytes text : List ℕ) → old.holds ≡ Some bytes → IsRange start len bytes text → WentOut before.reports text after.reports (sent_of e))
       → FailsBy {X = Unit {0}} (λ bytes. (text : List ℕ) × IsRange start len bytes text) (Err e) old new
       → after.faults ≡ failed_with e before.faults → GivesPart part rows i old new before after (Err (Out e))
   gives_cut e device cut fails cause = record {
-    told = λ bytes held is.
+    reported = λ bytes held is.
         let (text, found, same, range) = there bytes is in
-        cut_by e (option_map (λ p. part_text part bytes p) (slice_get is.are.records i)) text before.tells after.tells device found (subst (λ b. WentOut before.tells b after.tells (sent_of e)) same (cut bytes _ held (range, refl)));
+        cut_by e (option_map (λ p. part_text part bytes p) (slice_get is.are.records i)) text before.reports after.reports device found (subst (λ b. WentOut before.reports b after.reports (sent_of e)) same (cut bytes _ held (range, refl)));
     silent = λ no. cc no;
     absent = (λ no. cc no, λ none. absurd (some_row none));
     reads = reads;
@@ -124,7 +124,7 @@ module _ (part : Part) (rows : List Row) (i : ℕ) (row : Row) (start len : ℕ)
 pub extracts_missing : {S : Type 0} (archive : Archived S) (id : List ℕ) (s : SeenSource) (o : Seen)
     → ((records : List Placed) → AreOf records archive.index archive.parts → position_with records id ≡ None) → Extracts archive id s s o o (Err NoRecord)
 extracts_missing archive id s o none = record {
-  told = λ bytes held is. (ap (option_map (λ p. part_text Block bytes p)) (ap (option_and_then (slice_get is.listed.are.records)) (none is.listed.are.records is.kept)), refl);
+  reported = λ bytes held is. (ap (option_map (λ p. part_text Block bytes p)) (ap (option_and_then (slice_get is.listed.are.records)) (none is.listed.are.records is.kept)), refl);
   reads = λ bytes held is. nothing_read Block (option_map row_of (extracted is.listed.are.records id)) s;
   silent = λ no. refl;
   near = (0, nothing_read Block (slice_get archive.listing.rows 0) s);
@@ -138,10 +138,10 @@ pub extracts_at : {S : Type 0} (archive : Archived S) (id : List ℕ) (position 
     → ((records : List Placed) → AreOf records archive.index archive.parts → position_with records id ≡ Some position)
     → GivesPart Block archive.listing.rows position old new before after answer → Extracts archive id old new before after answer
 extracts_at archive id position old new before after answer found at = record {
-  told = λ bytes held is.
+  reported = λ bytes held is.
       let records = is.listed.are.records in
       let here : extracted records id ≡ slice_get records position = ap (option_and_then (slice_get records)) (found records is.kept) in
-      subst (λ o. IsExtract o answer before.tells after.tells) (sym here) (at.told bytes held is.listed);
+      subst (λ o. IsExtract o answer before.reports after.reports) (sym here) (at.reported bytes held is.listed);
   reads = λ bytes held is.
       let records = is.listed.are.records in
       let here : extracted records id ≡ slice_get records position = ap (option_and_then (slice_get records)) (found records is.kept) in

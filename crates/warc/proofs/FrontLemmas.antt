@@ -68,9 +68,9 @@ module _ (rows : List Row) (end : ℕ) (old new : SeenSource) (before after : Se
   pub copies_all : Sends {X = Unit {0}} (IsRange 0 end) old new before after (Ok tt)
       → CopiesFront rows old new before after (Ok end)
   copies_all sends = record {
-    told = λ text more held few is.
-        let told = sends.out (text ++ more) _ held (there text more few is, refl) in
-        (told ∙ ap (append_known before.tells) (front_bytes text more is), at text is);
+    reported = λ text more held few is.
+        let reported = sends.out (text ++ more) _ held (there text more few is, refl) in
+        (reported ∙ ap (append_known before.reports) (front_bytes text more is), at text is);
     cut = λ text more held few is. tt;
     failed = λ text more held few is. sends.fails.may;
     reads = reads;
@@ -83,9 +83,9 @@ module _ (rows : List Row) (end : ℕ) (old new : SeenSource) (before after : Se
   pub copies_cut : (e : OutFault) → IsOfDevice e → Sends {X = Unit {0}} (IsRange 0 end) old new before after (Err e)
       → CopiesFront rows old new before after (Err e)
   copies_cut e device sends = record {
-    told = λ text more held few is. (tt, tt);
+    reported = λ text more held few is. (tt, tt);
     cut = λ text more held few is.
-        let P : List ℕ → Type 0 = λ t. WentOut before.tells t after.tells (sent_of e) in
+        let P : List ℕ → Type 0 = λ t. WentOut before.reports t after.reports (sent_of e) in
         subst P (front_bytes text more is) (sends.cut (text ++ more) _ held (there text more few is, refl));
     failed = λ text more held few is.
         failed_as_count e old.faults new.faults (sends.fails.failed (text ++ more) held (_, (there text more few is, refl)));

@@ -9,7 +9,7 @@ use Rattle.warc_frame.proofs.EffectLemmas.{fails_more, fails_never}
 use Rattle.warc_reading.specs.Rereading.{HasHeadOf, ReadsHeads}
 use Rattle.warc_reading.specs.Row.{Row}
 use Rattle.warc.specs.Heading.{IsHeadTaken, GivesHead}
-use Rattle.warc.specs.Standing.{IsUntaken}
+use Rattle.warc.specs.Status.{IsUntaken}
 use Rattle.warc.specs.Taking.{take_result}
 use Rattle.warc.specs.declared.fault.TakeFault.{TakeFault}
 use Rattle.warc.specs.declared.fault.TakeFault.TheVariants.{NoRecord, Read, Memory}

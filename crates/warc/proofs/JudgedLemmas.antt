@@ -11,7 +11,7 @@ use Rattle.warc_reading.specs.Placing.{IsInRow}
 use Rattle.warc_reading.specs.Rereading.{HasTextOf, ReadsRows, row_len}
 use Rattle.warc_reading.specs.Row.{Placed, Row}
 use Rattle.warc.specs.Judged.{GivesVerdictBy, IsVerdictBy}
-use Rattle.warc.specs.Standing.{IsUntaken}
+use Rattle.warc.specs.Status.{IsUntaken}
 use Rattle.warc.specs.Taking.{take_result}
 use Rattle.warc.specs.declared.fault.TakeFault.{TakeFault}
 use Rattle.warc.specs.declared.fault.TakeFault.TheVariants.{NoRecord, Read, Memory}

@@ -186,14 +186,14 @@ head_of v area =
 head_spelled : (q : ℕ) (p : Placed) (front : List ℕ) → Spells p.content front → p.offset ≡ q
     → p.block_start + length p.content.block + 4 ≡ q + length front
     → (named_len kept_names p.content.fields ≤ head_length (row_of p)) × (head_length (row_of p) ≤ length front)
-head_spelled q p front is at behind =
+head_spelled q p front is at following =
     let head = head_text p.content.version is.area in
     let size : length (record_text p.content is.area) ≡ length head + length p.content.block + 4 =
     simp length-append (omega arith) in
     let whole : length front ≡ length head + length p.content.block + 4 = ap length is.text_is ∙ size in
     let named = named_in_area kept_names kept_names_apart p.content.fields is.area is.fields in
     let within = head_of p.content.version is.area in
-    (omega (arith, whole, named, within, at, behind), omega (arith, whole, at, behind))
+    (omega (arith, whole, named, within, at, following), omega (arith, whole, at, following))
 
 -- what is kept of records, the first of them at a position
 abbrev kept_len : ℕ → List Placed → ℕ
@@ -223,8 +223,8 @@ kept_more n p ps =
 all_short : (n q : ℕ) (ps : List Placed) (text : List ℕ) → SpellsFrom q ps text
     → (kept_len n ps ≤ 2 * sum_by head_length (map row_of ps)) × (sum_by head_length (map row_of ps) ≤ length text)
 all_short n q [] text is = (omega arith, omega arith)
-all_short n q (p ∷ ps) text (front, rest, one, at, behind, whole, more) =
-    let head = head_spelled q p front one at behind in
+all_short n q (p ∷ ps) text (front, rest, one, at, following, whole, more) =
+    let head = head_spelled q p front one at following in
     let later = all_short (n + 1) (q + length front) ps rest more in
     let heads = sum_by-cons head_length (row_of p) (map row_of ps) in (
       omega (arith, head.0, later.0, heads, kept_more n p ps, record_short n p),

@@ -199,14 +199,14 @@ pub by_reason : {A : Type 0} {rows : List Row} {parts : Parts} {position : ℕ} 
     → LooksBy rows parts position own joined old new answer → JudgesBy {A = A} rows parts position own joined old new (Ok (Err why))
 by_reason {A} {rows} {parts} {position} {own} {joined} {old} {new} answer why is looks =
     let has = subst (λ (a : Result (Stored A) ReplayFault). LooksBy rows parts position own joined old new a) is looks in
-    record { told = has.told; early = tt; inside = has.inside; keeps = has.keeps; fails = record { may = has.fails.may; failed = has.fails.failed } }
+    record { reported = has.reported; early = tt; inside = has.inside; keeps = has.keeps; fails = record { may = has.fails.may; failed = has.fails.failed } }
 
 pub by_out : {A : Type 0} {rows : List Row} {parts : Parts} {position : ℕ} {own joined : Verdict} {old new : SeenSource} (answer : Result (Stored A) ReplayFault) (e : OutFault) → answer ≡ Err (Out e)
     → LooksBy rows parts position own joined old new answer → JudgesBy {A = A} rows parts position own joined old new (Err e)
 by_out {A} {rows} {parts} {position} {own} {joined} {old} {new} answer e is looks =
     let has = subst (λ (a : Result (Stored A) ReplayFault). LooksBy rows parts position own joined old new a) is looks in
     record {
-      told = λ bytes held of are one all. tt;
+      reported = λ bytes held of are one all. tt;
       early = has.early;
       inside = has.inside;
       keeps = has.keeps;

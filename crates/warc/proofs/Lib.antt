@@ -41,7 +41,7 @@ pub mod MarkLemmas
 pub mod TakenLemmas
 pub mod WhereLemmas
 pub mod NeededLemmas
-pub mod StandingLemmas
+pub mod StatusLemmas
 pub mod SettledLemmas
 pub mod LeftLemmas
 pub mod PayloadLemmas

@@ -54,7 +54,7 @@ module _ (rows : List Row) (index : Indexes) (parts : Parts) (position : ℕ) wh
   no_path_there reasons s unfound found = record {
     located = λ bytes held is are. (
       capture_there bytes rows position is found.0,
-      λ tells. (
+      λ reports. (
         (reasons (contents is.are.records) (path_at (contents is.are.records) position)).0 unfound
             (sym (path_by_links is.are.records position) ∙ sym (found.1 is.are.records are)),
         refl,

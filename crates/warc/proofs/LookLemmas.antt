@@ -133,7 +133,7 @@ pub judged_none : {A : Type 0} {rows : List Row} {parts : Parts} {position : ℕ
 judged_none {A} {rows} {parts} {position} {old} {new} answer why is looks =
     let has = subst (λ (a : Result (Look A) ReplayFault). Looks rows parts position old new a) is looks in
     record {
-      told = has.told;
+      reported = has.reported;
       reads = origin_read has;
       inside = asked_within has;
       early = tt;
@@ -146,7 +146,7 @@ pub judged_out : {A : Type 0} {rows : List Row} {parts : Parts} {position : ℕ}
 judged_out {A} {rows} {parts} {position} {old} {new} answer e is looks =
     let has = subst (λ (a : Result (Look A) ReplayFault). Looks rows parts position old new a) is looks in
     record {
-      told = λ bytes held of are. tt;
+      reported = λ bytes held of are. tt;
       reads = origin_read has;
       inside = asked_within has;
       early = has.early;
@@ -172,7 +172,7 @@ module _ {A : Type 0} {rows : List Row} {parts : Parts} {position : ℕ} {old mi
 module _ (rows : List Row) (index : Indexes) (parts : Parts) (position : ℕ) where
   pub judges_no_record : {A : Type 0} → (s : SeenSource) → slice_get rows position ≡ None → JudgesAt {A = A} rows index parts position s s (Err NoRecord)
   judges_no_record s none = record {
-    told = λ bytes held is are. none_there bytes rows position is none;
+    reported = λ bytes held is are. none_there bytes rows position is none;
     early = tt;
     reads = λ bytes held is are. reads_nothing;
     inside = λ bytes is off. refl;
@@ -182,7 +182,7 @@ module _ (rows : List Row) (index : Indexes) (parts : Parts) (position : ℕ) wh
 
   pub judges_no_capture : {A : Type 0} → (s : SeenSource) → IsOtherRow rows position → JudgesAt {A = A} rows index parts position s s (Err NoCapture)
   judges_no_capture s has = record {
-    told = λ bytes held is are. other_there bytes rows position is has;
+    reported = λ bytes held is are. other_there bytes rows position is has;
     early = tt;
     reads = λ bytes held is are. reads_nothing;
     inside = λ bytes is off. refl;
@@ -204,7 +204,7 @@ module _ (rows : List Row) (index : Indexes) (parts : Parts) (position : ℕ) wh
   pub judges_no_path : {A : Type 0} → (s : SeenSource) (unfound : Unfound) → IsFoundAt rows index parts position (Capture (Err unfound))
       → let r : Outcome A = record { chosen = position; given = None; stored = Err (NotFound unfound) } in JudgesAt {A = A} rows index parts position s s (Ok r)
   judges_no_path s unfound found = record {
-    told = λ bytes held is are. (
+    reported = λ bytes held is are. (
       capture_there bytes rows position is found.0,
       refl,
       outcome_made None (Err (NotFound unfound)) (Err unfound) (contents is.are.records) (path_found (Err unfound) bytes is are found) refl refl,
@@ -230,10 +230,10 @@ module _ (rows : List Row) (index : Indexes) (parts : Parts) (position : ℕ) wh
       → Judges rows parts path.given old new (Ok stored)
       → let r : Outcome A = record { chosen = position; given = Some path.given; stored = stored } in JudgesAt {A = A} rows index parts position old new (Ok r)
   judges_made inside path stored old new found by = record {
-    told = λ bytes held is are. (
+    reported = λ bytes held is are. (
       capture_there bytes rows position is found.0,
       refl,
-      outcome_made (Some path.given) (judged_seen stored) (Ok path) (contents is.are.records) (path_found (Ok path) bytes is are found) refl (by.told bytes held is are.parts_are),
+      outcome_made (Some path.given) (judged_seen stored) (Ok path) (contents is.are.records) (path_found (Ok path) bytes is are found) refl (by.reported bytes held is are.parts_are),
     );
     early = tt;
     reads = reads_there 1 path old new found by.reads;
@@ -245,7 +245,7 @@ module _ (rows : List Row) (index : Indexes) (parts : Parts) (position : ℕ) wh
   pub judges_failed : {A : Type 0} → PathsEndInside → (path : Path) (e : OutFault) (old new : SeenSource) → IsFoundAt rows index parts position (Capture (Ok path))
       → Judges {A = A} rows parts path.given old new (Err e) → JudgesAt {A = A} rows index parts position old new (Err (Replay (Out e)))
   judges_failed {A} inside path e old new found by = record {
-    told = λ bytes held is are. (capture_there bytes rows position is found.0, early_sent e by.early);
+    reported = λ bytes held is are. (capture_there bytes rows position is found.0, early_sent e by.early);
     early = by.early;
     reads = reads_there 1 path old new found by.reads;
     inside = λ bytes (is, are). by.inside bytes is are.parts_are;
@@ -257,7 +257,7 @@ module _ (rows : List Row) (index : Indexes) (parts : Parts) (position : ℕ) wh
 
   pub gives_none : (s : SeenSource) (o : Seen) → slice_get rows position ≡ None → GivesStoredAt rows index parts position s s o o (Err NoRecord)
   gives_none s o none = record {
-    told = λ bytes held is are. (none_there bytes rows position is none, refl);
+    reported = λ bytes held is are. (none_there bytes rows position is none, refl);
     reads = λ bytes held is are. reads_nothing;
     inside = λ bytes is off. refl;
     silent = refl;
@@ -268,7 +268,7 @@ module _ (rows : List Row) (index : Indexes) (parts : Parts) (position : ℕ) wh
 
   pub gives_other : (s : SeenSource) (o : Seen) → IsOtherRow rows position → GivesStoredAt rows index parts position s s o o (Err NoCapture)
   gives_other s o has = record {
-    told = λ bytes held is are. (other_there bytes rows position is has, refl);
+    reported = λ bytes held is are. (other_there bytes rows position is has, refl);
     reads = λ bytes held is are. reads_nothing;
     inside = λ bytes is off. refl;
     silent = refl;
@@ -284,7 +284,7 @@ module _ (rows : List Row) (index : Indexes) (parts : Parts) (position : ℕ) wh
   pub gives_unfound : (s : SeenSource) (o : Seen) (unfound : Unfound) → IsFoundAt rows index parts position (Capture (Err unfound))
       → GivesStoredAt rows index parts position s s o o (Err (Replay (Reason (NotFound unfound))))
   gives_unfound s o unfound found = record {
-    told = λ bytes held is are. (
+    reported = λ bytes held is are. (
       capture_there bytes rows position is found.0,
       reason_there (Err unfound) (NotFound unfound) (contents is.are.records) (path_found (Err unfound) bytes is are found) refl,
       refl,
@@ -301,8 +301,8 @@ module _ (rows : List Row) (index : Indexes) (parts : Parts) (position : ℕ) wh
       → SendsStored rows parts path.given old new before after (Ok stored)
       → let r : StoredAnswer = record { path = path; stored = stored_seen stored } in GivesStoredAt rows index parts position old new before after (Ok r)
   gives_stored inside path stored old new before after found by = record {
-    told = λ bytes held is are.
-        let sent = by.told bytes held is are.parts_are in
+    reported = λ bytes held is are.
+        let sent = by.reported bytes held is are.parts_are in
         (capture_there bytes rows position is found.0, path_found (Ok path) bytes is are found, sent.0, sent.1);
     reads = reads_there 2 path old new found by.reads;
     inside = λ bytes (is, are). by.inside bytes is are.parts_are;
@@ -315,8 +315,8 @@ module _ (rows : List Row) (index : Indexes) (parts : Parts) (position : ℕ) wh
   pub gives_failed : {A : Type 0} → PathsEndInside → (path : Path) (fault : ReplayFault) (old new : SeenSource) (before after : Seen) → IsFoundAt rows index parts position (Capture (Ok path))
       → SendsStored {A = A} rows parts path.given old new before after (Err fault) → GivesStoredAt rows index parts position old new before after (Err (Replay fault))
   gives_failed inside path (Reason why) old new before after found by = record {
-    told = λ bytes held is are.
-        let sent = by.told bytes held is are.parts_are in (
+    reported = λ bytes held is are.
+        let sent = by.reported bytes held is are.parts_are in (
           capture_there bytes rows position is found.0,
           reason_there (Ok path) why (contents is.are.records) (path_found (Ok path) bytes is are found) sent.0,
           sent.1,
@@ -329,11 +329,11 @@ module _ (rows : List Row) (index : Indexes) (parts : Parts) (position : ℕ) wh
     cause = by.cause;
   }
   gives_failed inside path (Out e) old new before after found by = record {
-    told = λ bytes held is are. (
+    reported = λ bytes held is are. (
       capture_there bytes rows position is found.0,
       path,
       path_found (Ok path) bytes is are found,
-      by.told bytes held is are.parts_are,
+      by.reported bytes held is are.parts_are,
     );
     reads = reads_there 2 path old new found by.reads;
     inside = λ bytes (is, are). by.inside bytes is are.parts_are;
@@ -344,10 +344,10 @@ module _ (rows : List Row) (index : Indexes) (parts : Parts) (position : ℕ) wh
   }
 
 -- nothing went out
-pub nothing_sent : (A : Type 0) (records : List Record) (i : ℕ) (fault : ReplayFault) (told : Option (List ℕ)) (bytes : List ℕ) → IsEarly fault
-    → IsLook {A = A} bytes records i (Err fault) → IsSent {A = A} records i (Err fault) told told
-nothing_sent A records i (Reason why) told bytes early is = (is, refl)
-nothing_sent A records i (Out e) told bytes early is = inl (early_sent e early, refl)
+pub nothing_sent : (A : Type 0) (records : List Record) (i : ℕ) (fault : ReplayFault) (reported : Option (List ℕ)) (bytes : List ℕ) → IsEarly fault
+    → IsLook {A = A} bytes records i (Err fault) → IsSent {A = A} records i (Err fault) reported reported
+nothing_sent A records i (Reason why) reported bytes early is = (is, refl)
+nothing_sent A records i (Out e) reported bytes early is = inl (early_sent e early, refl)
 
 -- a front of what is stored went out
 pub front_sent : (A : Type 0) (records : List Record) (i : ℕ) (s : StoredBody) (e : OutFault) (text : List ℕ) (old new : Option (List ℕ)) → IsStoredAt records i (Ok s)

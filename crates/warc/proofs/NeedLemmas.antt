@@ -73,7 +73,7 @@ from_piece all j piece at = by_found (slice_get all j) refl (sym (slice_get-map 
 -- at the position of a segment stands a continuation with a number of at least 2
 pub record IsContinuationAt (all : List ReadRecord) (q : ℕ) : Type 0 where
   pub it : ReadRecord
-  pub stands : slice_get all q ≡ Some it
+  pub is_present : slice_get all q ≡ Some it
   pub kind : is_continuation it.head.kind ≡ true
   pub number : ℕ
   pub is : it.head.segment.number ≡ Number number
@@ -82,12 +82,12 @@ pub record IsContinuationAt (all : List ReadRecord) (q : ℕ) : Type 0 where
 pub segment_is : (all : List ReadRecord) (p q : ℕ) → IsSegmentOf all p q → IsContinuationAt all q
 segment_is all p q segment =
     let (j, piece, at, is) = given_at (member_of segment.first.head.id) (map piece_read all) 0 segment.member segment.listed in
-    let (r, stands, same) = from_piece all j piece at in
+    let (r, is_present, same) = from_piece all j piece at in
     let member = member_is segment.first.head.id (0 + j) piece segment.member is in
     let z : j ≡ q = (let e : segment.member.position ≡ 0 + j = member.position in omega (arith, e, segment.position)) in
     record {
       it = r;
-      stands = ap (slice_get all) (sym z) ∙ stands;
+      is_present = ap (slice_get all) (sym z) ∙ is_present;
       kind = ap (λ (x : Piece). is_continuation x.kind) same ∙ member.kind;
       number = member.number;
       is = ap (λ (x : Piece). x.segment.number) same ∙ member.is;
@@ -129,7 +129,7 @@ module _ (all : List ReadRecord) where
   no_next : (q : ℕ) → IsContinuationAt all q → next q ≡ None
   no_next q is =
       let found : slice_get (index_of all) q ≡ Some (indexed_of is.it.head) =
-      slice_get-map (λ (r : ReadRecord). indexed_of r.head) all q ∙ ap (λ o. option_map (λ (r : ReadRecord). indexed_of r.head) o) is.stands in
+      slice_get-map (λ (r : ReadRecord). indexed_of r.head) all q ∙ ap (λ o. option_map (λ (r : ReadRecord). indexed_of r.head) o) is.is_present in
       let kind : is_revisit_at (index_of all) q ≡ false =
       ap (λ o. option_map_or (λ (r : Indexed). is_revisit r.kind) o false) found ∙ not_a_revisit is.it.head.kind is.kind in
       ap (λ (b : Bool). if b then result_ok (referent_at (index_of all) (slice_get (index_of all) q)) else None) kind
@@ -142,7 +142,7 @@ module _ (all : List ReadRecord) where
 
   no_first : (f q : ℕ) → IsContinuationAt all f → IsSegmentOf all f q → ⊥
   no_first f q is segment =
-      let e : Some is.it ≡ Some segment.first = sym is.stands ∙ segment.there in
+      let e : Some is.it ≡ Some segment.first = sym is.is_present ∙ segment.there in
       let same : is.it ≡ segment.first = (cc) in
       let two : Number is.number ≡ Number 1 = sym is.is ∙ ap (λ (r : ReadRecord). r.head.segment.number) same ∙ segment.number in
       let n : is.number ≡ 1 = number_is is.number 1 two in
@@ -175,7 +175,7 @@ module _ (all : List ReadRecord) where
 
     needs_below : (p q : ℕ) → p < length all → Needs all p q → q < length all
     needs_below p q lt (inl way) = walk_below p lt way.steps q way.reached
-    needs_below p q lt (inr of) = let at = segment_is all of.first q of.segment in slice_get_within all q at.it at.stands
+    needs_below p q lt (inr of) = let at = segment_is all of.first q of.segment in slice_get_within all q at.it at.is_present
 
     pub without_needs_no_other : (positions kept : List ℕ) → AreWithout all positions kept → NeedsNoOther all kept
     without_needs_no_other positions kept are p q is needs =

@@ -120,15 +120,15 @@ by_head all row answer {one} {other} {own} {own'} same typed is =
     subst (λ (t : List ℕ). IsOriginBy all row other t answer) typed (subst (λ (h : Reading). IsOriginBy all row h own answer) same is)
 
 -- what a replay answers where the origin isn't found
-pub fault_replayed : (A : Type 0) → ReasonsAreAnswers → FailsBeforeAll → PlacesAreOfRecords → (bytes : List ℕ) (records : List Placed) (found : Result Path Unfound) (path : Path) (fault : ReplayFault) (told : Option (List ℕ))
-    → SpellsFrom 0 records bytes → found ≡ Ok path → EndsInside (contents records) found → IsEarly fault → IsOriginFound {A = A} records path.given (Err fault) → IsReplayOn (contents records) found (Err fault) told told
-fault_replayed A reasons before law bytes records found path (Reason why) told spelled is ends early (gap, says, at) = (
+pub fault_replayed : (A : Type 0) → ReasonsAreAnswers → FailsBeforeAll → PlacesAreOfRecords → (bytes : List ℕ) (records : List Placed) (found : Result Path Unfound) (path : Path) (fault : ReplayFault) (reported : Option (List ℕ))
+    → SpellsFrom 0 records bytes → found ≡ Ok path → EndsInside (contents records) found → IsEarly fault → IsOriginFound {A = A} records path.given (Err fault) → IsReplayOn (contents records) found (Err fault) reported reported
+fault_replayed A reasons before law bytes records found path (Reason why) reported spelled is ends early (gap, says, at) = (
   subst (λ (w : Why). IsAnswerOn (contents records) found (Err w)) (sym says)
       ((reasons (contents records) found).1 path (read_record at.placed.content) gap (found_as records found path at.placed is at.there (Err gap) (gap_is bytes records path.given at.placed spelled at.there gap law at.gap_is))),
   refl,
 )
-fault_replayed A reasons before law bytes records found path (Out e) told spelled is ends early at =
-    before (contents records) found told e ends (early_sent e early)
+fault_replayed A reasons before law bytes records found path (Out e) reported spelled is ends early at =
+    before (contents records) found reported e ends (early_sent e early)
 
 -- ---- what is read
 

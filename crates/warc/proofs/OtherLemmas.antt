@@ -12,7 +12,7 @@ use Rattle.warc.specs.Selecting.{AreOthers}
 -- the positions before a place are less than a number, and no others
 pub record IsPassed (ps : List ℕ) (n i : ℕ) : Type 0 where
   pub before : (k : ℕ) → k < i → k < length ps → get_or ps k 0 < n
-  pub behind : (k : ℕ) → i ≤ k → k < length ps → n ≤ get_or ps k 0
+  pub following : (k : ℕ) → i ≤ k → k < length ps → n ≤ get_or ps k 0
 
 rises : (ps : List ℕ) → IsStrictlyIncreasing ps → (j k : ℕ) → j < k → k < length ps → get_or ps j 0 < get_or ps k 0
 rises ps is j k lt within = AllPairs-from_increasing ps is j k 0 lt within
@@ -28,13 +28,13 @@ at_most : (ps : List ℕ) → IsStrictlyIncreasing ps → (j k : ℕ) → j ≤ 
 at_most ps is j k le within = at_most_by ps is j k (cases_lt j k) le within
 
 pub passed_none : (ps : List ℕ) → IsPassed ps 0 0
-passed_none ps = record { before = λ k lt within. absurd (omega (arith, lt)); behind = λ k le within. omega arith }
+passed_none ps = record { before = λ k lt within. absurd (omega (arith, lt)); following = λ k le within. omega arith }
 
 -- a position is the next one
 pub passed_hit : (ps : List ℕ) → IsStrictlyIncreasing ps → (n i : ℕ) → i < length ps → get_or ps i 0 ≡ n → IsPassed ps (n + 1) (i + 1)
 passed_hit ps is n i in_ at = record {
   before = λ k lt within. omega (arith, at, at_most ps is k i (omega (arith, lt)) in_);
-  behind = λ k le within. omega (arith, at, rises ps is i k (omega (arith, le)) within);
+  following = λ k le within. omega (arith, at, rises ps is i k (omega (arith, le)) within);
 }
 
 pub present : (ps : List ℕ) (n i : ℕ) → i < length ps → get_or ps i 0 ≡ n → Contains ps n
@@ -44,14 +44,14 @@ present ps n i in_ at = (i, in_, get_or_default_zero ps i n in_ ∙ at)
 pub passed_miss : (ps : List ℕ) → IsStrictlyIncreasing ps → (n i : ℕ) → IsPassed ps n i → (i < length ps → get_or ps i 0 ≢ n) → IsPassed ps (n + 1) i
 passed_miss ps is n i old other = record {
   before = λ k lt within. omega (arith, old.before k lt within);
-  behind = λ k le within.
+  following = λ k le within.
       let in_ : i < length ps = omega (arith, le, within) in
-      omega (arith, old.behind i (omega arith) in_, other in_, at_most ps is i k le within);
+      omega (arith, old.following i (omega arith) in_, other in_, at_most ps is i k le within);
 }
 
 found_by : (ps : List ℕ) (n i k : ℕ) → IsPassed ps n i → IsPassed ps (n + 1) i → (k < i) ⊎ (i ≤ k) → k < length ps → get_or ps k 0 ≡ n → ⊥
 found_by ps n i k old new (inl lt) within at = omega (arith, at, old.before k lt within)
-found_by ps n i k old new (inr ge) within at = omega (arith, at, new.behind k ge within)
+found_by ps n i k old new (inr ge) within at = omega (arith, at, new.following k ge within)
 
 pub absent : (ps : List ℕ) (n i : ℕ) → IsPassed ps n i → IsPassed ps (n + 1) i → Contains ps n → ⊥
 absent ps n i old new (k, within, at) =

@@ -79,12 +79,12 @@ row_short shorter position p framed a b c =
 rows_short : BareTextsAreNoLonger → (n q : ℕ) (ps : List Placed) (text : List ℕ) → SpellsFrom q ps text → n + length ps < 2 ^ 64 → q + length text < 2 ^ 64
     → length (flat_map (λ p. line_of p.0 p.1) (enumerate_from n (map row_of ps))) ≤ 262164 * length ps
 rows_short shorter n q [] text is few long = omega arith
-rows_short shorter n q (p ∷ ps) text (front, rest, one, at, behind, whole, more) few long =
+rows_short shorter n q (p ∷ ps) text (front, rest, one, at, following, whole, more) few long =
     let size = ap length whole ∙ length-append front rest in
     omega (
       arith,
       length-append (line_of n (row_of p)) (flat_map (λ p. line_of p.0 p.1) (enumerate_from (n + 1) (map row_of ps))),
-      row_short shorter n p one.framed (omega (arith, few)) (omega (arith, at, size, long)) (omega (arith, behind, size, long)),
+      row_short shorter n p one.framed (omega (arith, few)) (omega (arith, at, size, long)) (omega (arith, following, size, long)),
       rows_short shorter (n + 1) (q + length front) ps rest more (omega (arith, few)) (omega (arith, size, long)),
     )
 

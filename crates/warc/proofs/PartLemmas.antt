@@ -44,7 +44,7 @@ module _ (ps : List ℕ) (up : IsStrictlyIncreasing ps) where
   rises_back i j p q here there less = elim (cases_order i j) [
     | inl same ↦ let e : p ≡ q = same_at ps j p q (subst (λ (k : ℕ). IsSameRecord ps k p) same here) there in absurd (omega (arith, e, less))
     | inr (inl before) ↦ before
-    | inr (inr behind) ↦ let past : q < p = rises j i q p there here behind in absurd (omega (arith, past, less))
+    | inr (inr following) ↦ let past : q < p = rises j i q p there here following in absurd (omega (arith, past, less))
   ]
 
 -- ---- what is there
@@ -54,10 +54,10 @@ got {X} [] p within = absurd (omega (arith, within))
 got {X} (x ∷ xs) zero within = (x, refl)
 got {X} (x ∷ xs) (suc p) within = got xs p (omega (arith, within))
 
-pub stands_at : {X : Type 0} (xs : List X) (ps : List ℕ) → All (λ p. p < length xs) ps → (i : ℕ)
+pub is_slot_at : {X : Type 0} (xs : List X) (ps : List ℕ) → All (λ p. p < length xs) ps → (i : ℕ)
     → slice_get (at_positions xs ps) i ≡ option_and_then (slice_get xs) (slice_get ps i)
-stands_at {X} xs [] below i = refl
-stands_at {X} xs (p ∷ ps) below i = by_place (stands_at xs ps (All-tail (λ k. k < length xs) p ps below)) i
+is_slot_at {X} xs [] below i = refl
+is_slot_at {X} xs (p ∷ ps) below i = by_place (is_slot_at xs ps (All-tail (λ k. k < length xs) p ps below)) i
   where
     one : (x : X) × (slice_get xs p ≡ Some x)
     one = got xs p (All-head (λ k. k < length xs) p ps below)
@@ -73,13 +73,13 @@ stands_at {X} xs (p ∷ ps) below i = by_place (stands_at xs ps (All-tail (λ k.
 -- the same where it is
 pub is_there : {X : Type 0} (xs : List X) (ps : List ℕ) → All (λ p. p < length xs) ps → (i p : ℕ) → IsSameRecord ps i p
     → slice_get (at_positions xs ps) i ≡ slice_get xs p
-is_there {X} xs ps below i p at = stands_at xs ps below i ∙ ap (option_and_then (slice_get xs)) at
+is_there {X} xs ps below i p at = is_slot_at xs ps below i ∙ ap (option_and_then (slice_get xs)) at
 
 -- what is in the part is in the whole
 pub came_from : {X : Type 0} (xs : List X) (ps : List ℕ) → All (λ p. p < length xs) ps → (i : ℕ) (x : X)
     → slice_get (at_positions xs ps) i ≡ Some x → (p : ℕ) × IsSameRecord ps i p × (slice_get xs p ≡ Some x)
 came_from {X} xs ps below i x is =
-    option_and_then_some (slice_get xs) (slice_get ps i) x (sym (stands_at xs ps below i) ∙ is) (λ p at there. (p, at, there))
+    option_and_then_some (slice_get xs) (slice_get ps i) x (sym (is_slot_at xs ps below i) ∙ is) (λ p at there. (p, at, there))
 
 -- ---- what a list gives by place, and what some of it gives
 
@@ -190,8 +190,8 @@ pub given_at : {X M : Type 0} (f : ℕ × X → Option M) (xs : List X) (n : ℕ
 given_at {X} {M} f [] n m (k, within, is) = absurd (omega (arith, within))
 given_at {X} {M} f (x ∷ xs) n m in_ = elim (contains_option (f (n, x)) (filter_map f (enumerate_from (n + 1) xs)) m in_) [
   | inl here ↦ (let z : n + 0 ≡ n = omega arith in (0, x, refl, ap (λ at. f (at, x)) z ∙ here))
-  | inr behind ↦ (
-      let (j, y, at, is) = given_at f xs (n + 1) m behind in
+  | inr following ↦ (
+      let (j, y, at, is) = given_at f xs (n + 1) m following in
       let z : n + suc j ≡ n + 1 + j = omega arith in
       (suc j, y, at, ap (λ q. f (q, y)) z ∙ is))
 ]

@@ -37,7 +37,7 @@ use Rattle.warc_reading.specs.Placing.{IsPlacedIn}
 use Rattle.warc_reading.specs.declared.reread.RereadFault.{RereadFault}
 use Rattle.warc_reading.specs.declared.reread.RereadFault.TheVariants.{Read, Memory}
 use Rattle.warc_reading.proofs.ReadLemmas.{one_row}
-use Rattle.warc_reading.proofs.StandLemmas.{written}
+use Rattle.warc_reading.proofs.RemainLemmas.{written}
 
 -- the records, read
 abbrev pub read_all : List Placed → List ReadRecord
@@ -68,7 +68,7 @@ pub found_as : (records : List Placed) (found : Result Path Unfound) (path : Pat
     → joined_records (read_all records) (read_record p.content) ≡ joined → IsFound (read_all records) found path (read_record p.content) joined
 found_as records found path p is at joined same = record {
   path_is = is;
-  stands = read_at records path.given p at;
+  is_present = read_at records path.given p at;
   joined_is = same;
 }
 

@@ -14,7 +14,7 @@ use Rattle.warc_frame.proofs.EffectLemmas.{fails_more, reads_both, reads_within}
 use Rattle.warc_reading.specs.Archive.{IsArchiveOf}
 use Rattle.warc_reading.specs.Row.{Row}
 use Rattle.warc_reading.proofs.PlacedLemmas.{placed, take_one}
-use Rattle.warc_reading.proofs.StandLemmas.{written}
+use Rattle.warc_reading.proofs.RemainLemmas.{written}
 use Rattle.warc.specs.Selected.{AreBytesOf, HasBytesOf}
 use Rattle.warc.specs.Selecting.{IsInAnyRecord, IsSelection, ReadsRecords, at_positions, record_bytes, records_len}
 use Rattle.warc.specs.Taking.{IsInRecord, record_len}
@@ -126,9 +126,9 @@ all_at {X} P xs (p ∷ ps) each = all_cons P (slice_get xs p) (at_positions xs p
 pub has_bytes : (bytes : List ℕ) (rows : List Row) → IsArchiveOf bytes rows → (p : ℕ) (row : Row) → slice_get rows p ≡ Some row → HasBytesOf bytes row
 has_bytes bytes rows is p row at =
     let (one, here, row_is) = placed is.are.records p row (sym (ap (λ l. slice_get l p) is.are.rows_are) ∙ at) in
-    let stands = written bytes is.are.records is.are.spelled p one here in
+    let is_present = written bytes is.are.records is.are.spelled p one here in
     let P : Row → Type 0 = λ r. HasBytesOf bytes r in
-    subst P (sym row_is) (omega (arith, stands.end, stands.within), omega (arith, is.short))
+    subst P (sym row_is) (omega (arith, is_present.end, is_present.within), omega (arith, is.short))
 
 -- what is sent as the bytes of rows is the selection of an archive of these rows
 pub sends_selection : (rows seen : List Row) (ps : List ℕ) {old new : SeenSource} {before after : Seen} {answer : Result (Unit {0}) OutFault}

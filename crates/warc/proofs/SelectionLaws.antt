@@ -16,8 +16,8 @@ use Rattle.warc_reading.specs.Archive.{AreGood, IsArchiveOf, SpellsFrom, content
 use Rattle.warc_reading.specs.Placing.{IsPlacedIn}
 use Rattle.warc_reading.specs.Row.{Placed, Row, row_of}
 use Rattle.warc_reading.proofs.PlacedLemmas.{take_one}
-use Rattle.warc_reading.proofs.RowLemmas.{slice_behind}
-use Rattle.warc_reading.proofs.StandLemmas.{written}
+use Rattle.warc_reading.proofs.RowLemmas.{slice_after}
+use Rattle.warc_reading.proofs.RemainLemmas.{written}
 use Rattle.warc_reading.proofs.StreamLemmas.{spells_all}
 use Rattle.warc.specs.Laws.{AllGiveTheArchive, SelectionIsAnArchive, SelectionIsOfTheSelected}
 use Rattle.warc.specs.Selected.{HasBytesOf}
@@ -36,7 +36,7 @@ whole_from q before (r ∷ rs) text q_is (front, rest, one, at, start, text_is, 
     let end : r.block_start + length r.content.block + 4 ≡ r.offset + length front = omega (arith, start, at) in
     let first : record_bytes (before ++ text) (row_of r) ≡ front =
     ap (λ t. slice_range (before ++ t) r.offset (r.block_start + length r.content.block + 4)) text_is
-    ∙ slice_behind r.offset (r.block_start + length r.content.block + 4) before front rest (at ∙ q_is) end in
+    ∙ slice_after r.offset (r.block_start + length r.content.block + 4) before front rest (at ∙ q_is) end in
     let others : flat_map (record_bytes (before ++ text)) (map row_of rs) ≡ rest =
     ap (λ t. flat_map (record_bytes t) (map row_of rs)) (sym whole) ∙ whole_from (q + length front) (before ++ front) rs rest size more in
     ap (λ t. t ++ flat_map (record_bytes (before ++ text)) (map row_of rs)) first ∙ ap (λ t. front ++ t) others ∙ sym text_is
@@ -153,10 +153,10 @@ at_map {X} {Y} f xs (p ∷ ps) =
     ∙ cons_map f (slice_get xs p) (at_positions xs ps)
 
 spells_one : (bytes : List ℕ) (p : Placed) → IsPlacedIn bytes p → Spells p.content (record_bytes bytes (row_of p))
-spells_one bytes p stands =
-    let len : stands.len ≡ p.block_start + length p.content.block + 4 - p.offset = omega (arith, stands.end) in
+spells_one bytes p is_present =
+    let len : is_present.len ≡ p.block_start + length p.content.block + 4 - p.offset = omega (arith, is_present.end) in
     let P : ℕ → Type 0 = λ n. Spells p.content (take n (drop p.offset bytes)) in
-    subst P len stands.spells
+    subst P len is_present.spells
 
 spells_at : (bytes : List ℕ) (ps : List Placed) → AllByRecursion (IsPlacedIn bytes) ps → SpellsAll (contents ps) (flat_map (record_bytes bytes) (map row_of ps))
 spells_at bytes [] all = refl

@@ -17,7 +17,7 @@ use Rattle.warc_write.specs.Refusals.{checks}
 use Rattle.warc_write.specs.Splitting.{cut_of, part_of, piece_at, segment_count, segment_fields, segment_of, split_of, splittable}
 use Rattle.warc_write.specs.declared.segments.SplitFault.{SplitFault}
 use Rattle.warc_write.specs.declared.segments.SplitFault.TheVariants.{BadDigest}
-use Rattle.warc_write.specs.declared.segments.Part.{Part}
+use Rattle.warc_write.specs.declared.segments.SegmentPart.{SegmentPart}
 use Rattle.warc_frame.specs.declared.front.Head.{Head}
 use Rattle.warc_frame.specs.declared.version.Version.{Version}
 use Rattle.warc_value.specs.Digests.{is_bad, verdict_of}
@@ -67,7 +67,7 @@ block_len {A} cut bytes r is =
     ap length (sym is.block) ∙ length-take-le cut.block_len (drop cut.block_start bytes) (omega (arith, length-drop cut.block_start bytes, is.range.0))
 
 -- the copy that is written of a segment
-pub segment_copy : {A : Type 0} (cut : Cut A) (copy : Copied A) (part : Part) (digest : List ℕ) (at : ℕ) (bytes text : List ℕ) → at * cut.size < cut.block_len
+pub segment_copy : {A : Type 0} (cut : Cut A) (copy : Copied A) (part : SegmentPart) (digest : List ℕ) (at : ℕ) (bytes text : List ℕ) → at * cut.size < cut.block_len
     → copy.version ≡ cut.version → copy.fields ≡ segment_fields cut.fields cut.uuid part → copy.block_start ≡ cut.block_start + at * cut.size
     → copy.block_len ≡ min cut.size (cut.block_len - at * cut.size) → digest ≡ sha1 (take copy.block_len (drop copy.block_start bytes))
     → ((block : List ℕ) → length block ≡ cut.block_len → part ≡ part_with cut.size cut.block_len (piece_at cut.size block at) at digest)

@@ -94,7 +94,7 @@ module _ (rows : List Row) (row : Row) where
     at = at;
     low = omega arith;
     none = λ q r e lt. not_later_at rows q 0 r row (omega (arith, lt)) e at (instant_at row) (itself (instant_at row));
-    behind = λ q r e lt gt. absurd (omega (arith, lt, gt));
+    following = λ q r e lt gt. absurd (omega (arith, lt, gt));
   }
 
   module _ (n p : ℕ) (best : Row) (at : slice_get rows n ≡ Some row) where
@@ -115,7 +115,7 @@ module _ (rows : List Row) (row : Row) where
           (λ l. chain (instant_at row) (instant_at best) (instant_at r) (not_true _ nearer) (is.none q r e l))
           (λ ge. not_later_at rows q n r row (omega (arith, lt, ge)) e at (instant_at row) (itself (instant_at row)))
           (cases_lt q n);
-      behind = λ q r e lt gt. absurd (omega (arith, lt, gt));
+      following = λ q r e lt gt. absurd (omega (arith, lt, gt));
     }
 
     pub end_stays : (end : End) → IsEndUpTo end rows n p best → is_nearer end (instant_at row) (instant_at best) ≡ false → IsEndUpTo end rows (n + 1) p best
@@ -135,8 +135,8 @@ module _ (rows : List Row) (row : Row) where
           (λ l. is.none q r e l)
           (λ ge. not_later_at rows q n r row (omega (arith, lt, ge)) e at (instant_at best) (one_way (instant_at row) (instant_at best) (not_false _ other)))
           (cases_lt q n);
-      behind = λ q r e lt gt. ⊎_elim
-          (λ l. is.behind q r e l gt)
+      following = λ q r e lt gt. ⊎_elim
+          (λ l. is.following q r e l gt)
           (λ ge. earlier_at rows q n r row (omega (arith, lt, ge)) e at (instant_at best) (not_false _ other))
           (cases_lt q n);
     }
@@ -187,7 +187,7 @@ end_whole First rows n p row past is = record {
 end_whole Last rows n p row past is = record {
   at = is.at;
   none = λ q r e. is.none q r e (omega (arith, past, slice_get_within rows q r e));
-  behind = λ q r e gt. is.behind q r e (omega (arith, past, slice_get_within rows q r e)) gt;
+  following = λ q r e gt. is.following q r e (omega (arith, past, slice_get_within rows q r e)) gt;
 }
 
 pub empty_rows : (rows : List Row) → slice_get rows 0 ≡ None → rows ≡ []

@@ -277,7 +277,7 @@ module _ (bytes : List ℕ) (rows : List Row) (kept : SurveyKept) (is : IsArchiv
 
   -- a front of the survey went out
   pub survey_front : (before after : Seen) (count sent : ℕ) (captures : List CaptureSeen) → AreOutcomes (contents is.are.records) (take count (capture_positions rows)) captures
-      → WentOut before.tells (known_text rows kept.judged (contents is.are.records) summary ++ captures_text rows captures) after.tells sent → IsSurveyFront bytes sent before after
+      → WentOut before.reports (known_text rows kept.judged (contents is.are.records) summary ++ captures_text rows captures) after.reports sent → IsSurveyFront bytes sent before after
   survey_front before after count sent captures outcomes front = record {
     survey = record { rows = rows; judged = kept.judged; records = contents is.are.records; summary = summary; captures = captures };
     count = count;
@@ -286,7 +286,7 @@ module _ (bytes : List ℕ) (rows : List Row) (kept : SurveyKept) (is : IsArchiv
   }
 
   -- a front of what comes before the captures
-  pub survey_begun : (before after : Seen) (sent : ℕ) → WentOut before.tells (known_text rows kept.judged (contents is.are.records) summary) after.tells sent
+  pub survey_begun : (before after : Seen) (sent : ℕ) → WentOut before.reports (known_text rows kept.judged (contents is.are.records) summary) after.reports sent
       → IsSurveyFront bytes sent before after
   survey_begun before after sent front =
       survey_front before after 0 sent [] (record { chosen = refl; each = tt }) (longer (captures_text rows []) front)
@@ -294,12 +294,12 @@ module _ (bytes : List ℕ) (rows : List Row) (kept : SurveyKept) (is : IsArchiv
   -- all of it went out
   pub survey_out : (before after : Seen) (captures : List CaptureSeen) → AreFirstOutcomes (contents is.are.records) (capture_positions rows) captures
       → length captures ≡ length (capture_positions rows)
-      → after.tells ≡ append_known before.tells (known_text rows kept.judged (contents is.are.records) summary ++ captures_text rows captures) → IsSurveyOut bytes before after
-  survey_out before after captures outcomes all told =
+      → after.reports ≡ append_known before.reports (known_text rows kept.judged (contents is.are.records) summary ++ captures_text rows captures) → IsSurveyOut bytes before after
+  survey_out before after captures outcomes all reported =
       let positions = capture_positions rows in
       let whole = subst (λ (l : List ℕ). AreOutcomes (contents is.are.records) l captures) (ap (λ n. take n positions) all ∙ take_all (length positions) positions (omega arith)) outcomes in
       record {
         survey = record { rows = rows; judged = kept.judged; records = contents is.are.records; summary = summary; captures = captures };
         is = survey_is bytes rows kept is has summary counted positions captures whole;
-        told = told ∙ ap (append_known before.tells) (survey_whole rows kept.judged (contents is.are.records) summary captures);
+        reported = reported ∙ ap (append_known before.reports) (survey_whole rows kept.judged (contents is.are.records) summary captures);
       }

@@ -12,13 +12,13 @@ use Rattle.warc_frame.specs.declared.fault.Fault.{Fault}
 use Rattle.warc_frame.specs.declared.fault.FaultKind.{FaultKind}
 use Rattle.warc_frame.specs.declared.fault.FaultKind.TheVariants.{Memory as NoMemory}
 use Rattle.warc_reading.specs.Row.{Placed, Row, row_of}
-use Rattle.warc.specs.Standing.{HasRecordOf, IsUntaken}
+use Rattle.warc.specs.Status.{HasRecordOf, IsUntaken}
 use Rattle.warc_reading.specs.Placing.{IsPlacedIn}
 use Rattle.warc.specs.Taking.{IsSpelledIn, IsTaken, ReadsRecord, GivesRecord, record_len, take_result}
 use Rattle.warc.specs.declared.fault.TakeFault.{TakeFault}
 use Rattle.warc.specs.declared.fault.TakeFault.TheVariants.{NoRecord, Read, Memory}
 use Rattle.warc_reading.proofs.PlacedLemmas.{placed}
-use Rattle.warc_reading.proofs.StandLemmas.{written}
+use Rattle.warc_reading.proofs.RemainLemmas.{written}
 
 -- the text that is read where the row says spells the record
 pub spells_there : (bytes text : List ℕ) (p : Placed) (row : Row) (len : ℕ) → IsPlacedIn bytes p → row ≡ row_of p → row.offset + len ≡ row.block_start + row.block_len + 4
@@ -32,9 +32,9 @@ spells_there bytes text p row len has same end text_is =
     subst (λ t. Spells p.content t) (sym is) has.spells
 
 -- where a record is read, only lack of memory is a fault
-pub memory_told : (kind : FaultKind) (offset : ℕ) (P : Type 0) → (P → ⊥) → OrMemory kind offset P → kind ≡ NoMemory
-memory_told NoMemory offset P never is = refl
-memory_told kind offset P never is = absurd (never is)
+pub memory_reported : (kind : FaultKind) (offset : ℕ) (P : Type 0) → (P → ⊥) → OrMemory kind offset P → kind ≡ NoMemory
+memory_reported NoMemory offset P never is = refl
+memory_reported kind offset P never is = absurd (never is)
 
 -- where it stands, and that it ends before offset 2^64
 pub end_by_row : (bytes : List ℕ) (p : Placed) (row : Row) (has : IsPlacedIn bytes p) → row ≡ row_of p → row.offset + has.len ≡ row.block_start + row.block_len + 4

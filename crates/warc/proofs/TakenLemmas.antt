@@ -109,9 +109,9 @@ head_has law bytes rows i row is p at there =
     let can = checkable_archive law bytes rows is rows refl in
     record { placed = p; has = can.heads i p there; row_is = row_at is.are.records rows i row p is.are.rows_are at there }
 
-pub head_stands : HeadsAreRead → (bytes : List ℕ) (rows : List Row) (i : ℕ) (row : Row) → IsArchiveOf bytes rows
+pub head_is_present : HeadsAreRead → (bytes : List ℕ) (rows : List Row) (i : ℕ) (row : Row) → IsArchiveOf bytes rows
     → slice_get rows i ≡ Some row → HasHeadOf row bytes
-head_stands law bytes rows i row is at =
+head_is_present law bytes rows i row is at =
     let (p, there, same) = placed is.are.records i row (sym (ap (λ l. slice_get l i) is.are.rows_are) ∙ at) in
     head_has law bytes rows i row is p at there
 

@@ -188,9 +188,9 @@ module _ (late : LatestIsLast) (all : List Indexed) (ps : List ℕ) (are : ArePo
   later_same i j p q a b at_p at_q =
       let same : nat_lt p q ≡ nat_lt i j = elim (cases_lt i j) [
         | inl before ↦ less p q (rises ps are.ascending i j p q at_p at_q before) ∙ sym (less i j before)
-        | inr behind ↦ elim (cases_lt p q) [
-          | inl up ↦ (let before : i < j = rises_back ps are.ascending i j p q at_p at_q up in absurd (omega (arith, before, behind)))
-          | inr down ↦ not_less p q down ∙ sym (not_less i j behind)
+        | inr following ↦ elim (cases_lt p q) [
+          | inl up ↦ (let before : i < j = rises_back ps are.ascending i j p q at_p at_q up in absurd (omega (arith, before, following)))
+          | inr down ↦ not_less p q down ∙ sym (not_less i j following)
         ]
       ] in
       ap (λ c. is_earlier a.instant b.instant || (not (is_earlier b.instant a.instant) && c)) same
@@ -202,7 +202,7 @@ module _ (late : LatestIsLast) (all : List Indexed) (ps : List ℕ) (are : ArePo
         let is : IsLatest t all p = ((late t all).0 p).0 e in
         ((late t part).0 i).1 (record {
           it = is.it;
-          stands = there i p at ∙ is.stands;
+          is_present = there i p at ∙ is.is_present;
           passes = is.passes;
           last = λ j r at_j hit. (let (q, at_q, here) = from j r at_j in
               sym (later_same i j p q is.it r at at_q) ∙ is.last q r here hit);

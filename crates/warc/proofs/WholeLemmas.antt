@@ -50,13 +50,13 @@ whole_here law q p before front rest q_is one at start good short =
     let begins : p.block_start ≡ length (before ++ head) = omega (arith, start, size, q_is, length-append before head) in
     let bytes = before ++ (front ++ rest) in
     let parts : bytes ≡ (before ++ head) ++ (block ++ (crlf ++ (crlf ++ rest))) = ap (λ l. before ++ (l ++ rest)) one.text_is ∙ around before head block rest in
-    let behind : drop p.block_start bytes ≡ block ++ (crlf ++ (crlf ++ rest)) =
+    let following : drop p.block_start bytes ≡ block ++ (crlf ++ (crlf ++ rest)) =
     ap (λ n. drop n bytes) begins ∙ ap (drop (length (before ++ head))) parts ∙ drop-append_seam (before ++ head) (block ++ (crlf ++ (crlf ++ rest))) in
     let end : p.block_start + length block ≤ length bytes = omega (arith, start, q_is, length-append before (front ++ rest), length-append front rest) in
     record {
       head = head_here law q p before front rest q_is one at start good;
       range = (end, short);
-      block = ap (take (length block)) behind ∙ take-append_seam block (crlf ++ (crlf ++ rest));
+      block = ap (take (length block)) following ∙ take-append_seam block (crlf ++ (crlf ++ rest));
     }
 
 wholes_from : HeadsAreRead → (q : ℕ) (before : List ℕ) (records : List Placed) (text : List ℕ) → q ≡ length before → SpellsFrom q records text

@@ -74,11 +74,11 @@ IsEarlyAt (Replay fault) = IsEarly fault
 -- goes out and what is answered are as the definition says of its records
 pub record GivesBodyAt (rows : List Row) (index : Indexes) (parts : Parts) (position : ℕ) (old new : SeenSource)
     (before after : Seen) (answer : Result Answer BodyFault) : Type 0 where
-  pub told : IfHeld old.holds (λ bytes. (is : IsArchiveOf bytes rows) → AreOf is.are.records index parts
-      → IsBodyAt (contents is.are.records) position answer before.tells after.tells)
+  pub reported : IfHeld old.holds (λ bytes. (is : IsArchiveOf bytes rows) → AreOf is.are.records index parts
+      → IsBodyAt (contents is.are.records) position answer before.reports after.reports)
   pub reads : ReadsPath 2 rows index parts (λ records. path_at records position) old new
   pub inside : AsksInside rows index parts old new
   pub keeps : Preserves old new
-  pub silent : IsSilentAt answer before.tells after.tells
+  pub silent : IsSilentAt answer before.reports after.reports
   pub fails : FailsBy (IsIndexedBy rows index parts) (body_result answer) old new
   pub cause : after.faults ≡ failed_by (body_result answer) before.faults

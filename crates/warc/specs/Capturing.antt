@@ -56,7 +56,7 @@ AreFirstOutcomes records positions captures = AreOutcomes records (take (length 
 -- bytes, these are the outcomes of its records. A fault comes before anything is written
 pub record JudgesAll {A B : Type 0} (rows : List Row) (index : Indexes) (parts : Parts) (positions : List ℕ)
     (old new : SeenSource) (answer : Result (Vec (Outcome A) B) OutFault) : Type 0 where
-  pub told : IfHeld old.holds (λ bytes. (is : IsArchiveOf bytes rows) → AreOf is.are.records index parts
+  pub reported : IfHeld old.holds (λ bytes. (is : IsArchiveOf bytes rows) → AreOf is.are.records index parts
       → IfOk answer (λ outcomes. AreOutcomes (contents is.are.records) positions (outcomes_seen outcomes)))
   pub early : IfErr answer (λ e. IsEarly (Out e))
   pub inside : AsksInside rows index parts old new
@@ -74,10 +74,10 @@ pub record PutsCaptures (Right : List Placed → Type 0) (rows : List Row) (inde
   pub are : IfHeld old.holds (λ bytes. (is : IsArchiveOf bytes rows) → AreOf is.are.records index parts
       → Right is.are.records → AreFirstOutcomes (contents is.are.records) positions captures)
   pub all : OnOk answer (length captures ≡ length positions)
-  pub out : (start : Option (List ℕ)) (output : List ℕ) → IsStaged start output before.tells waits
-      → OnOk answer (IsStaged start (output ++ captures_text rows captures) after.tells waiting)
-  pub cut : (start : Option (List ℕ)) (output : List ℕ) → IsStaged start output before.tells waits
-      → IfErr answer (λ e. WentOut start (output ++ captures_text rows captures) after.tells (sent_of e))
+  pub out : (start : Option (List ℕ)) (output : List ℕ) → IsStaged start output before.reports waits
+      → OnOk answer (IsStaged start (output ++ captures_text rows captures) after.reports waiting)
+  pub cut : (start : Option (List ℕ)) (output : List ℕ) → IsStaged start output before.reports waits
+      → IfErr answer (λ e. WentOut start (output ++ captures_text rows captures) after.reports (sent_of e))
   pub inside : AsksInside rows index parts old new
   pub keeps : Preserves old new
   pub fails : FailsBy (AreIndexedAt rows index parts positions) answer old new
@@ -91,8 +91,8 @@ pub record SendsCaptures (Right : List Placed → Type 0) (rows : List Row) (ind
   pub are : IfHeld old.holds (λ bytes. (is : IsArchiveOf bytes rows) → AreOf is.are.records index parts
       → Right is.are.records → AreFirstOutcomes (contents is.are.records) positions captures)
   pub all : OnOk answer (length captures ≡ length positions)
-  pub told : OnOk answer (after.tells ≡ append_known before.tells (captures_text rows captures))
-  pub cut : IfErr answer (λ e. WentOut before.tells (captures_text rows captures) after.tells (sent_of e))
+  pub reported : OnOk answer (after.reports ≡ append_known before.reports (captures_text rows captures))
+  pub cut : IfErr answer (λ e. WentOut before.reports (captures_text rows captures) after.reports (sent_of e))
   pub inside : AsksInside rows index parts old new
   pub keeps : Preserves old new
   pub fails : FailsBy (AreIndexedAt rows index parts positions) answer old new
@@ -128,7 +128,7 @@ IsStoredFound records position (Err (Out e)) = ⊤
 -- what is stored of the origin at a position, by what is known of its block and of the joined ones
 pub record LooksBy {A : Type 0} (rows : List Row) (parts : Parts) (position : ℕ) (own joined : Verdict)
     (old new : SeenSource) (answer : Result (Stored A) ReplayFault) : Type 0 where
-  pub told : IfHeld old.holds (λ bytes. (is : IsArchiveOf bytes rows) → ArePartsOf is.are.records parts
+  pub reported : IfHeld old.holds (λ bytes. (is : IsArchiveOf bytes rows) → ArePartsOf is.are.records parts
       → IsBlockVerdict (contents is.are.records) position own
       → IsJoinedVerdict (contents is.are.records) position joined
       → IsStoredFound (contents is.are.records) position answer)
@@ -139,7 +139,7 @@ pub record LooksBy {A : Type 0} (rows : List Row) (parts : Parts) (position : �
 
 pub record JudgesBy {A : Type 0} (rows : List Row) (parts : Parts) (position : ℕ) (own joined : Verdict)
     (old new : SeenSource) (answer : Result (Result (Stored A) Why) OutFault) : Type 0 where
-  pub told : IfHeld old.holds (λ bytes. (is : IsArchiveOf bytes rows) → ArePartsOf is.are.records parts
+  pub reported : IfHeld old.holds (λ bytes. (is : IsArchiveOf bytes rows) → ArePartsOf is.are.records parts
       → IsBlockVerdict (contents is.are.records) position own
       → IsJoinedVerdict (contents is.are.records) position joined
       → IfOk answer (λ judged. IsStoredAt (contents is.are.records) position (judged_seen judged)))
@@ -151,7 +151,7 @@ pub record JudgesBy {A : Type 0} (rows : List Row) (parts : Parts) (position : �
 -- the same by what is known of all blocks, and what was found of joined ones, which is right afterwards too
 pub record JudgesOne {A : Type 0} (rows : List Row) (parts : Parts) (origin : ℕ) (known found again : List Verdict)
     (old new : SeenSource) (answer : Result (Result (Stored A) Why) OutFault) : Type 0 where
-  pub told : IfHeld old.holds (λ bytes. (is : IsArchiveOf bytes rows) → ArePartsOf is.are.records parts
+  pub reported : IfHeld old.holds (λ bytes. (is : IsArchiveOf bytes rows) → ArePartsOf is.are.records parts
       → AreFound known found is.are.records
       → IfOk answer (λ judged. IsStoredAt (contents is.are.records) origin (judged_seen judged)))
   pub remembers : IfHeld old.holds (λ bytes. (is : IsArchiveOf bytes rows) → ArePartsOf is.are.records parts
@@ -174,7 +174,7 @@ RemembersNext rows index parts known found again old =
 
 pub record JudgesNext {A : Type 0} (rows : List Row) (index : Indexes) (parts : Parts) (position : ℕ)
     (known found again : List Verdict) (old new : SeenSource) (answer : Result (Outcome A) OutFault) : Type 0 where
-  pub told : IfHeld old.holds (λ bytes. (is : IsArchiveOf bytes rows) → AreOf is.are.records index parts
+  pub reported : IfHeld old.holds (λ bytes. (is : IsArchiveOf bytes rows) → AreOf is.are.records index parts
       → AreFound known found is.are.records
       → IfOk answer (λ o. IsOutcome (contents is.are.records) (outcome_seen o)))
   pub remembers : RemembersNext rows index parts known found again old
@@ -193,7 +193,7 @@ pub record AreSoFar {A : Type 0} (records : List Placed) (known found : List Ver
 -- what is answered of the captures at positions, by what is known of blocks
 pub record JudgesEach {A B : Type 0} (known : List Verdict) (rows : List Row) (index : Indexes) (parts : Parts)
     (positions : List ℕ) (old new : SeenSource) (answer : Result (Vec (Outcome A) B) OutFault) : Type 0 where
-  pub told : IfHeld old.holds (λ bytes. (is : IsArchiveOf bytes rows) → AreOf is.are.records index parts
+  pub reported : IfHeld old.holds (λ bytes. (is : IsArchiveOf bytes rows) → AreOf is.are.records index parts
       → AreKnownBlocks known is.are.records
       → IfOk answer (λ outcomes. AreOutcomes (contents is.are.records) positions (outcomes_seen outcomes)))
   pub early : IfErr answer (λ e. IsEarly (Out e))

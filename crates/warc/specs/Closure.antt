@@ -27,7 +27,7 @@ records_read records = map read_record (contents records)
 -- are such as a selection takes. A fault comes before anything is written
 pub record GivesPositions {A : Type 0} (AreRight : List ReadRecord → List ℕ → Type 0) (rows : List Row)
     (index : Indexes) (parts : Parts) (old new : SeenSource) (answer : Result (Vec ℕ A) OutFault) : Type 0 where
-  pub told : IfHeld old.holds (λ bytes. (is : IsArchiveOf bytes rows) → AreOf is.are.records index parts
+  pub reported : IfHeld old.holds (λ bytes. (is : IsArchiveOf bytes rows) → AreOf is.are.records index parts
       → IfOk answer (λ given. AreRight (records_read is.are.records) given.items))
   pub are : IfOk answer (λ given. ArePositions (length rows) given.items)
   pub reads : ReadsHeads rows old new

@@ -30,11 +30,11 @@ IsExtract found answer old new = IsGiven (option_map (λ p. part_text Block [] p
 -- goes out. A failed read or write is the only fault
 pub record Extracts {S : Type 0} (archive : Archived S) (id : List ℕ) (old new : SeenSource) (before after : Seen)
     (answer : Result ℕ ExtractFault) : Type 0 where
-  pub told : IfHeld old.holds (λ bytes. (is : IsIndexed bytes archive)
-      → IsExtract (extracted is.listed.are.records id) answer before.tells after.tells)
+  pub reported : IfHeld old.holds (λ bytes. (is : IsIndexed bytes archive)
+      → IsExtract (extracted is.listed.are.records id) answer before.reports after.reports)
   pub reads : IfHeld old.holds (λ bytes. (is : IsIndexed bytes archive)
       → ReadsPart Block (option_map row_of (extracted is.listed.are.records id)) old new)
-  pub silent : answer ≡ Err NoRecord → after.tells ≡ before.tells
+  pub silent : answer ≡ Err NoRecord → after.reports ≡ before.reports
   pub near : (place : ℕ) × ReadsPart Block (slice_get archive.listing.rows place) old new
   pub device : IfErr (extract_result answer) IsOfDevice
   pub fails : FailsBy (λ bytes. IsIndexed bytes archive) (extract_result answer) old new

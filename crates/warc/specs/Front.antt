@@ -40,9 +40,9 @@ IfBegun source rows P = (text more : List ℕ) → source.holds ≡ Some (text +
 -- the only fault.
 pub record CopiesFront (rows : List Row) (old new : SeenSource) (before after : Seen) (answer : Result ℕ OutFault)
     : Type 0 where
-  pub told : IfBegun old rows (λ text.
-      OnOk answer (after.tells ≡ append_known before.tells text) × IfOk answer (λ n. n ≡ length text))
-  pub cut : IfBegun old rows (λ text. IfErr answer (λ e. WentOut before.tells text after.tells (sent_of e)))
+  pub reported : IfBegun old rows (λ text.
+      OnOk answer (after.reports ≡ append_known before.reports text) × IfOk answer (λ n. n ≡ length text))
+  pub cut : IfBegun old rows (λ text. IfErr answer (λ e. WentOut before.reports text after.reports (sent_of e)))
   pub failed : IfBegun old rows (λ text. HasFailedBy answer old.faults new.faults)
   pub reads : (text : List ℕ) → IsArchiveOf text rows → ReadsRange 0 (length text) old new
   pub near : ReadsRange 0 max_archive old new

@@ -27,8 +27,8 @@ pub mod Replaying
 pub mod Segments
 pub mod Selected
 pub mod Selecting
-pub mod Standing
-pub mod Standings
+pub mod Status
+pub mod Statuses
 pub mod Summary
 pub mod Survey
 pub mod Tallies

@@ -70,7 +70,7 @@ AsksWithin rows parts old new =
 -- position is that of a record
 pub record Looks {A : Type 0} (rows : List Row) (parts : Parts) (position : ℕ) (old new : SeenSource)
     (answer : Result (Look A) ReplayFault) : Type 0 where
-  pub told : IfHeld old.holds (λ bytes. (is : IsArchiveOf bytes rows) → ArePartsOf is.are.records parts
+  pub reported : IfHeld old.holds (λ bytes. (is : IsArchiveOf bytes rows) → ArePartsOf is.are.records parts
       → IsLook bytes (contents is.are.records) position answer)
   pub reads : IfHeld old.holds (λ bytes. (is : IsArchiveOf bytes rows) → ArePartsOf is.are.records parts
       → LooksOn is.are.records (slice_get is.are.records position) old new answer)
@@ -83,7 +83,7 @@ pub record Looks {A : Type 0} (rows : List Row) (parts : Parts) (position : ℕ)
 -- the same without the places
 pub record Judges {A : Type 0} (rows : List Row) (parts : Parts) (position : ℕ) (old new : SeenSource)
     (answer : Result (Result (Stored A) Why) OutFault) : Type 0 where
-  pub told : IfHeld old.holds (λ bytes. (is : IsArchiveOf bytes rows) → ArePartsOf is.are.records parts
+  pub reported : IfHeld old.holds (λ bytes. (is : IsArchiveOf bytes rows) → ArePartsOf is.are.records parts
       → IfOk answer (λ judged. IsStoredAt (contents is.are.records) position (judged_seen judged)))
   pub reads : ReadsOrigin 1 rows parts position old new
   pub inside : AsksWithin rows parts old new
@@ -103,11 +103,11 @@ IsSent records position (Err (Out e)) old new = IsFrontAt records position (sent
 -- the same by rows and parts
 pub record SendsStored {A : Type 0} (rows : List Row) (parts : Parts) (position : ℕ) (old new : SeenSource)
     (before after : Seen) (answer : Result (Stored A) ReplayFault) : Type 0 where
-  pub told : IfHeld old.holds (λ bytes. (is : IsArchiveOf bytes rows) → ArePartsOf is.are.records parts
-      → IsSent (contents is.are.records) position answer before.tells after.tells)
+  pub reported : IfHeld old.holds (λ bytes. (is : IsArchiveOf bytes rows) → ArePartsOf is.are.records parts
+      → IsSent (contents is.are.records) position answer before.reports after.reports)
   pub reads : ReadsOrigin 2 rows parts position old new
   pub inside : AsksWithin rows parts old new
-  pub silent : IsSilent answer before.tells after.tells
+  pub silent : IsSilent answer before.reports after.reports
   pub keeps : Preserves old new
   pub fails : FailsBy (IsRecordAt rows parts position) (out_result answer) old new
   pub cause : after.faults ≡ failed_by (out_result answer) before.faults

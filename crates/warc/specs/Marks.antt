@@ -98,7 +98,7 @@ pub record IsSegmentAt (records : List Placed) (p q : ℕ) : Type 0 where
 -- the fields of the record at a position, read again; of the source its head alone is read
 pub record SaysAgain (rows : List Row) (position : ℕ) (old new : SeenSource)
     (answer : Result (List Pair) OutFault) : Type 0 where
-  pub told : IfHeld old.holds (λ bytes. (is : IsArchiveOf bytes rows) (p : Placed)
+  pub reported : IfHeld old.holds (λ bytes. (is : IsArchiveOf bytes rows) (p : Placed)
       → slice_get is.are.records position ≡ Some p → IfOk answer (λ head. head ≡ p.content.fields))
   pub early : IfErr answer (λ e. IsEarly (Out e))
   pub reads : (row : Row) → slice_get rows position ≡ Some row → ReadsHeads (row ∷ []) old new
@@ -119,7 +119,7 @@ HasNoSegment marks = (q : ℕ) → mark_in marks q ≡ Segment → ⊥
 -- the series of the record at a position is marked, where the source holds the archive's bytes
 pub record TakesOne (rows : List Row) (parts : Parts) (position : ℕ) (marks left : List Mark) (old new : SeenSource)
     (answer : Result (Unit {0}) OutFault) : Type 0 where
-  pub told : IfHeld old.holds (λ bytes. (is : IsArchiveOf bytes rows) (p : Placed)
+  pub reported : IfHeld old.holds (λ bytes. (is : IsArchiveOf bytes rows) (p : Placed)
       → slice_get is.are.records position ≡ Some p → ArePartsOf is.are.records parts
       → AreTaken (pieces_of is.are.records) marks
       → OnOk answer (TakesSeries (pieces_of is.are.records) (reading_of p.content.fields) marks left))
@@ -130,7 +130,7 @@ pub record TakesOne (rows : List Row) (parts : Parts) (position : ℕ) (marks le
 -- the segments of all marked records are marked; each head is read at most once, and nothing else
 pub record TakesAll (rows : List Row) (parts : Parts) (marks left : List Mark) (old new : SeenSource)
     (answer : Result (Unit {0}) OutFault) : Type 0 where
-  pub told : IfHeld old.holds (λ bytes. (is : IsArchiveOf bytes rows) → ArePartsOf is.are.records parts
+  pub reported : IfHeld old.holds (λ bytes. (is : IsArchiveOf bytes rows) → ArePartsOf is.are.records parts
       → HasNoSegment marks → OnOk answer (AreTakenOf is.are.records (length rows) marks left))
   pub early : IfErr answer (λ e. IsEarly (Out e))
   pub reads : ReadsHeads rows old new

@@ -101,7 +101,7 @@ pub record StaysInside {X : Type 0} (items : X → List Place) (bytes : List ℕ
 -- what is found of the origin at a position, by rows and parts; of the source its head alone is read
 pub record FindsOrigin {A : Type 0} (rows : List Row) (parts : Parts) (position : ℕ) (old new : SeenSource)
     (answer : Result (Origin A) ReplayFault) : Type 0 where
-  pub told : IfHeld old.holds (λ bytes. (is : IsArchiveOf bytes rows) → ArePartsOf is.are.records parts
+  pub reported : IfHeld old.holds (λ bytes. (is : IsArchiveOf bytes rows) → ArePartsOf is.are.records parts
       → IsOriginFound is.are.records position answer)
   pub reads : IfHeld old.holds (λ bytes. (is : IsArchiveOf bytes rows) → ArePartsOf is.are.records parts
       → ReadsOnly (IsOfOrigin is.are.records (slice_get is.are.records position))

@@ -73,7 +73,7 @@ fault_result (Err (Replay fault)) = out_result {X = Unit {0}} (Err fault)
 -- bytes, it is the outcome of its records. Nothing is written, so no fault says that a write failed
 pub record JudgesAt {A : Type 0} (rows : List Row) (index : Indexes) (parts : Parts) (position : ℕ)
     (old new : SeenSource) (answer : Result (Outcome A) BodyFault) : Type 0 where
-  pub told : IfHeld old.holds (λ bytes. (is : IsArchiveOf bytes rows) → AreOf is.are.records index parts
+  pub reported : IfHeld old.holds (λ bytes. (is : IsArchiveOf bytes rows) → AreOf is.are.records index parts
       → IsOutcomeAt (contents is.are.records) position answer)
   pub early : IfErr answer IsEarlyAt
   pub reads : ReadsPath 1 rows index parts (λ records. path_at records position) old new
@@ -122,11 +122,11 @@ IsStoredOut records position (Err (Replay (Out e))) old new = IsCaptureAt record
 -- archive's source holds its bytes, what goes out and what is answered are as the definition says of its records
 pub record GivesStoredAt (rows : List Row) (index : Indexes) (parts : Parts) (position : ℕ) (old new : SeenSource)
     (before after : Seen) (answer : Result StoredAnswer BodyFault) : Type 0 where
-  pub told : IfHeld old.holds (λ bytes. (is : IsArchiveOf bytes rows) → AreOf is.are.records index parts
-      → IsStoredOut (contents is.are.records) position answer before.tells after.tells)
+  pub reported : IfHeld old.holds (λ bytes. (is : IsArchiveOf bytes rows) → AreOf is.are.records index parts
+      → IsStoredOut (contents is.are.records) position answer before.reports after.reports)
   pub reads : ReadsPath 2 rows index parts (λ records. path_at records position) old new
   pub inside : AsksInside rows index parts old new
-  pub silent : IsSilentAt answer before.tells after.tells
+  pub silent : IsSilentAt answer before.reports after.reports
   pub keeps : Preserves old new
   pub fails : FailsBy (IsIndexedBy rows index parts) (fault_result answer) old new
   pub cause : after.faults ≡ failed_by (fault_result answer) before.faults

@@ -65,10 +65,10 @@ ReadsPart part found old new = ReadsOnly (IsInPart part found) (found_len part f
 -- or write is the only fault
 pub record GivesPart (part : Part) (rows : List Row) (position : ℕ) (old new : SeenSource) (before after : Seen)
     (answer : Result ℕ ExtractFault) : Type 0 where
-  pub told : IfHeld old.holds (λ bytes. (is : IsArchiveOf bytes rows)
-      → IsGiven (option_map (λ p. part_text part bytes p) (slice_get is.are.records position)) answer before.tells
-      after.tells)
-  pub silent : answer ≡ Err NoRecord → after.tells ≡ before.tells
+  pub reported : IfHeld old.holds (λ bytes. (is : IsArchiveOf bytes rows)
+      → IsGiven (option_map (λ p. part_text part bytes p) (slice_get is.are.records position)) answer before.reports
+      after.reports)
+  pub silent : answer ≡ Err NoRecord → after.reports ≡ before.reports
   pub absent : (answer ≡ Err NoRecord) ↔ (slice_get rows position ≡ None)
   pub reads : ReadsPart part (slice_get rows position) old new
   pub device : IfErr (extract_result answer) IsOfDevice

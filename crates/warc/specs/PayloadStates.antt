@@ -70,7 +70,7 @@ pub record IsKnownOf (known : List Known) (origin : ℕ) (by : Algorithm) (k : K
 -- the digest of the payload of the origin at a position, by rows and parts
 pub record DigestsOrigin (rows : List Row) (parts : Parts) (origin : ℕ) (by : Algorithm) (old new : SeenSource)
     (answer : Result (Option PayloadDigest) OutFault) : Type 0 where
-  pub told : IfHeld old.holds (λ bytes. (is : IsArchiveOf bytes rows) → ArePartsOf is.are.records parts
+  pub reported : IfHeld old.holds (λ bytes. (is : IsArchiveOf bytes rows) → ArePartsOf is.are.records parts
       → IfOk answer (IsOriginDigest (contents is.are.records) origin by))
   pub early : IfErr answer (λ e. IsEarly (Out e))
   pub inside : AsksWithin rows parts old new
@@ -85,7 +85,7 @@ no_digest (Out e) = Err e
 -- the same, or one that was known; what is known then is known of these records
 pub record DigestsOnce (rows : List Row) (parts : Parts) (origin : ℕ) (by : Algorithm) (known knows : List Known)
     (old new : SeenSource) (answer : Result (Option PayloadDigest) OutFault) : Type 0 where
-  pub told : IfHeld old.holds (λ bytes. (is : IsArchiveOf bytes rows) → ArePartsOf is.are.records parts
+  pub reported : IfHeld old.holds (λ bytes. (is : IsArchiveOf bytes rows) → ArePartsOf is.are.records parts
       → AreKnown (contents is.are.records) known → IfOk answer (λ digest.
       IsOriginDigest (contents is.are.records) origin by digest × AreKnown (contents is.are.records) knows))
   pub early : IfErr answer (λ e. IsEarly (Out e))
@@ -97,7 +97,7 @@ pub record DigestsOnce (rows : List Row) (parts : Parts) (origin : ℕ) (by : Al
 pub record DigestsPath (rows : List Row) (index : Indexes) (parts : Parts) (position : ℕ) (by : Algorithm)
     (known knows : List Known) (old new : SeenSource) (answer : Result (Option PayloadDigest) OutFault)
     : Type 0 where
-  pub told : IfHeld old.holds (λ bytes. (is : IsArchiveOf bytes rows) → AreOf is.are.records index parts
+  pub reported : IfHeld old.holds (λ bytes. (is : IsArchiveOf bytes rows) → AreOf is.are.records index parts
       → AreKnown (contents is.are.records) known → IfOk answer (λ digest.
       IsPathDigest (contents is.are.records) position by digest × AreKnown (contents is.are.records) knows))
   pub early : IfErr answer (λ e. IsEarly (Out e))
@@ -116,7 +116,7 @@ pub record IsRowAt (records : List Placed) (position : ℕ) (row : Row) (fields 
 pub record JudgesPayload (rows : List Row) (index : Indexes) (parts : Parts) (position : ℕ) (row : Row)
     (fields : List Pair) (known knows : List Known) (old new : SeenSource)
     (answer : Result (Option PayloadVerdict) OutFault) : Type 0 where
-  pub told : IfHeld old.holds (λ bytes. (is : IsArchiveOf bytes rows) → AreOf is.are.records index parts
+  pub reported : IfHeld old.holds (λ bytes. (is : IsArchiveOf bytes rows) → AreOf is.are.records index parts
       → AreKnown (contents is.are.records) known → (at : IsRowAt is.are.records position row fields)
       → IfOk answer (λ verdict. IsJudgedPayload (contents is.are.records) position at.placed.content verdict
       × AreKnown (contents is.are.records) knows))
@@ -142,7 +142,7 @@ pub record IsComparedAt (records : List Record) (position : ℕ) (fields : List 
 -- the head of the record at a position, and the verdict on its payload, by rows, an index and parts
 pub record JudgesNextPayload {A : Type 0} (rows : List Row) (index : Indexes) (parts : Parts) (position : ℕ)
     (known knows : List Known) (old new : SeenSource) (answer : Result (Compared A) OutFault) : Type 0 where
-  pub told : IfHeld old.holds (λ bytes. (is : IsArchiveOf bytes rows) → AreOf is.are.records index parts
+  pub reported : IfHeld old.holds (λ bytes. (is : IsArchiveOf bytes rows) → AreOf is.are.records index parts
       → AreKnown (contents is.are.records) known → IfOk answer (λ c.
       IsComparedAt (contents is.are.records) position c.head c.verdict
       × AreKnown (contents is.are.records) knows))
@@ -161,7 +161,7 @@ take_fault (outs.Memory sent) = Memory
 pub record JudgesMorePayloads (rows : List Row) (index : Indexes) (parts : Parts) (position : ℕ)
     (known knows : List Known) (judged judges : PayloadJudgements) (old new : SeenSource)
     (answer : Result (Unit {0}) OutFault) : Type 0 where
-  pub told : IfHeld old.holds (λ bytes. (is : IsArchiveOf bytes rows) → AreOf is.are.records index parts
+  pub reported : IfHeld old.holds (λ bytes. (is : IsArchiveOf bytes rows) → AreOf is.are.records index parts
       → AreKnown (contents is.are.records) known → AreJudgedPayloads (contents is.are.records) position judged
       → OnOk answer (AreKnown (contents is.are.records) knows
       × AreJudgedPayloads (contents is.are.records) (position + 1) judges))

@@ -146,7 +146,7 @@ pub record AreJudgedPayloads (records : List Record) (count : ℕ) (judged : Pay
 -- they are those on the records that they spell. Any source is asked for no byte after the archive's
 pub record JudgesPayloads (rows : List Row) (index : Indexes) (parts : Parts) (old new : SeenSource)
     (answer : Result PayloadJudgements OutFault) : Type 0 where
-  pub told : IfHeld old.holds (λ bytes. (is : IsArchiveOf bytes rows) → AreOf is.are.records index parts
+  pub reported : IfHeld old.holds (λ bytes. (is : IsArchiveOf bytes rows) → AreOf is.are.records index parts
       → IfOk answer (λ p. AreJudgedPayloads (contents is.are.records) (length rows) p))
   pub early : IfErr answer (λ e. IsEarly (Out e))
   pub inside : AsksInside rows index parts old new

@@ -82,8 +82,8 @@ AsksInside rows index parts old new =
 -- what goes out and what is answered are as the definition of the answer says of its records
 pub record ReplaysOn (rows : List Row) (index : Indexes) (parts : Parts) (way : List Record → Result Path Unfound)
     (old new : SeenSource) (before after : Seen) (answer : Result Answer ReplayFault) : Type 0 where
-  pub told : IfHeld old.holds (λ bytes. (is : IsArchiveOf bytes rows) → AreOf is.are.records index parts
-      → IsReplayOn (contents is.are.records) (way (contents is.are.records)) answer before.tells after.tells)
+  pub reported : IfHeld old.holds (λ bytes. (is : IsArchiveOf bytes rows) → AreOf is.are.records index parts
+      → IsReplayOn (contents is.are.records) (way (contents is.are.records)) answer before.reports after.reports)
   pub reads : ReadsPath 2 rows index parts way old new
   pub inside : AsksInside rows index parts old new
   pub keeps : Preserves old new

@@ -63,7 +63,7 @@ pub record IsFirstRow (rows : List Row) (position : ℕ) (row : Row) : Type 0 wh
 pub record IsLastRow (rows : List Row) (position : ℕ) (row : Row) : Type 0 where
   pub at : slice_get rows position ≡ Some row
   pub none : (q : ℕ) (r : Row) → slice_get rows q ≡ Some r → is_earlier (instant_at row) (instant_at r) ≡ false
-  pub behind : (q : ℕ) (r : Row) → slice_get rows q ≡ Some r → position < q
+  pub following : (q : ℕ) (r : Row) → slice_get rows q ≡ Some r → position < q
       → is_earlier (instant_at r) (instant_at row) ≡ true
 
 abbrev pub IsEndRow : End → List Row → ℕ → Row → Type 0

@@ -105,20 +105,20 @@ pub record IsSurveyed {S : Type 0} (bytes : List ℕ) (a : SurveyedArchive S) : 
 pub record IsSurveyOut (bytes : List ℕ) (before after : Seen) : Type 0 where
   pub survey : Survey
   pub is : IsWholeSurvey bytes survey
-  pub told : after.tells ≡ append_known before.tells (survey_text survey)
+  pub reported : after.reports ≡ append_known before.reports (survey_text survey)
 
 -- a front of the survey of the archive went out, as long as the fault says
 pub record IsSurveyFront (bytes : List ℕ) (sent : ℕ) (before after : Seen) : Type 0 where
   pub survey : Survey
   pub count : ℕ
   pub is : IsFrontSurvey bytes count survey
-  pub front : WentOut before.tells (survey_text survey) after.tells sent
+  pub front : WentOut before.reports (survey_text survey) after.reports sent
 
 -- The survey of an archive is written, by its rows and by what is kept. If its source holds the archive's bytes, all of
 -- it goes out, or a front. The source is asked for bytes of the archive alone
 pub record WritesSurvey (rows : List Row) (kept : SurveyKept) (old new : SeenSource) (before after : Seen)
     (answer : Result (Unit {0}) OutFault) : Type 0 where
-  pub told : IfHeld old.holds (λ bytes. (is : IsArchiveOf bytes rows) → IsSurveyKept is.are.records kept
+  pub reported : IfHeld old.holds (λ bytes. (is : IsArchiveOf bytes rows) → IsSurveyKept is.are.records kept
       → OnOk answer (IsSurveyOut bytes before after))
   pub cut : IfHeld old.holds (λ bytes. (is : IsArchiveOf bytes rows) → IsSurveyKept is.are.records kept
       → IfErr answer (λ e. IsSurveyFront bytes (sent_of e) before after))
@@ -167,10 +167,10 @@ pub record AreGathered (records : List Placed) (judged : Judgements) (marks : Su
 -- a text is added to an output: it is staged after what waits, or a front of it all went out
 pub record PutsPart (text : List ℕ) (old new : Seen) (waits waiting : Staged) (answer : Result (Unit {0}) OutFault)
     : Type 0 where
-  pub out : (start : Option (List ℕ)) (output : List ℕ) → IsStaged start output old.tells waits
-      → OnOk answer (IsStaged start (output ++ text) new.tells waiting)
-  pub cut : (start : Option (List ℕ)) (output : List ℕ) → IsStaged start output old.tells waits
-      → IfErr answer (λ e. WentOut start (output ++ text) new.tells (sent_of e))
+  pub out : (start : Option (List ℕ)) (output : List ℕ) → IsStaged start output old.reports waits
+      → OnOk answer (IsStaged start (output ++ text) new.reports waiting)
+  pub cut : (start : Option (List ℕ)) (output : List ℕ) → IsStaged start output old.reports waits
+      → IfErr answer (λ e. WentOut start (output ++ text) new.reports (sent_of e))
 
 -- what a survey says without its captures, and the text up to them
 abbrev pub known_text : List Row → Judgements → List Record → Summary → List ℕ

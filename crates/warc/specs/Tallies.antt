@@ -28,7 +28,7 @@ pub record IsLastUpTo (rows : List Row) (n position : ℕ) (row : Row) : Type 0 
   pub at : slice_get rows position ≡ Some row
   pub low : position < n
   pub none : (q : ℕ) (r : Row) → slice_get rows q ≡ Some r → q < n → is_earlier (instant_at row) (instant_at r) ≡ false
-  pub behind : (q : ℕ) (r : Row) → slice_get rows q ≡ Some r → q < n → position < q
+  pub following : (q : ℕ) (r : Row) → slice_get rows q ≡ Some r → q < n → position < q
       → is_earlier (instant_at r) (instant_at row) ≡ true
 
 abbrev pub IsEndUpTo : End → List Row → ℕ → ℕ → Row → Type 0

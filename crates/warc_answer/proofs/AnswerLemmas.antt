@@ -19,40 +19,40 @@ use Rattle.warc_answer.proofs.PayloadLemmas.{payload_once, payload_some}
 
 -- ---- the origin stands in the list
 
-pub below_stands : {A : Type 0} (xs : List A) (p : ℕ) (x : A) → slice_get xs p ≡ Some x → p < length xs
-below_stands [] p x e = absurd (cc)
-below_stands (y ∷ xs) zero x e = omega arith
-below_stands (y ∷ xs) (suc p) x e = let lt : p < length xs = below_stands xs p x e in omega arith
+pub below_is_present : {A : Type 0} (xs : List A) (p : ℕ) (x : A) → slice_get xs p ≡ Some x → p < length xs
+below_is_present [] p x e = absurd (cc)
+below_is_present (y ∷ xs) zero x e = omega arith
+below_is_present (y ∷ xs) (suc p) x e = let lt : p < length xs = below_is_present xs p x e in omega arith
 
-pub stands_below : {A : Type 0} (xs : List A) (p : ℕ) → p < length xs → (x : A) × (slice_get xs p ≡ Some x)
-stands_below [] p lt = absurd (omega arith)
-stands_below (y ∷ xs) zero lt = (y, refl)
-stands_below (y ∷ xs) (suc p) lt = stands_below xs p (omega arith)
+pub is_present_below : {A : Type 0} (xs : List A) (p : ℕ) → p < length xs → (x : A) × (slice_get xs p ≡ Some x)
+is_present_below [] p lt = absurd (omega arith)
+is_present_below (y ∷ xs) zero lt = (y, refl)
+is_present_below (y ∷ xs) (suc p) lt = is_present_below xs p (omega arith)
 
 abbrev path_by : ℕ → Result ℕ Unfound → Result Path Unfound
 path_by chosen origin = ok_then (λ given. Ok (record { chosen = chosen; given = given })) origin
 
 from_below : OriginsAreRecords → (all : List Indexed) (p : ℕ) → p < length all → (path : Path) → path_from all p ≡ Ok path
     → path.given < length all
-from_below stand all p lt path e = by_origin (origin_of all p) refl e
+from_below remain all p lt path e = by_origin (origin_of all p) refl e
   where
     by_origin : (o : Result ℕ Unfound) → origin_of all p ≡ o → path_by p o ≡ Ok path → path.given < length all
     by_origin (Err why) is e = absurd (cc)
     by_origin (Ok q) is e =
         let same : q ≡ path.given =
         (let w : Path = record { chosen = p; given = q } in let f : w ≡ path = (cc) in ap (λ (v : Path). v.given) f) in
-        subst (λ (n : ℕ). n < length all) same (stand all p q lt is)
+        subst (λ (n : ℕ). n < length all) same (remain all p q lt is)
 
 path_below : ChosenIsLatest → OriginsAreRecords → (all : List Indexed) (uri : List ℕ) (moment : Instant) (path : Path)
     → path_of all uri moment ≡ Ok path → path.given < length all
-path_below latest stand all uri moment path e = by_chosen (chosen_of all uri moment) refl e
+path_below latest remain all uri moment path e = by_chosen (chosen_of all uri moment) refl e
   where
     by_chosen : (c : Result ℕ Unfound) → chosen_of all uri moment ≡ c → ok_then (path_from all) c ≡ Ok path
         → path.given < length all
     by_chosen (Err why) is e = absurd (cc)
     by_chosen (Ok p) is e =
         let chosen = ((latest all uri moment).0 p).0 is in
-        from_below stand all p (below_stands all p chosen.it chosen.stands) path e
+        from_below remain all p (below_is_present all p chosen.it chosen.is_present) path e
 
 -- ---- one outcome
 
@@ -77,7 +77,7 @@ on_some : OneOfThree → (all : List ReadRecord) (path : Result Path Unfound)
     → ((p : Path) → path ≡ Ok p → p.given < length all) → (outcome : Result Given Reason) × IsGivenOn all path outcome
 on_some three all (Err why) within = (Err (NotFound why), refl)
 on_some three all (Ok path) within =
-    let at = stands_below all path.given (within path refl) in
+    let at = is_present_below all path.given (within path refl) in
     let payload = payload_some three at.0 (joined_records all at.0) in
     let outcome : Result Given Reason = given_by path (is_truncated (joined_records all at.0)) payload.0 in
     let here : IsGivenAt all path (Some at.0) outcome = (payload.0, payload.1, refl) in
@@ -90,11 +90,11 @@ as_many records =
 
 pub paths_end_inside : ChosenIsLatest → OriginsAreRecords → PathsEndInside
 unfolding path_for path_at
-paths_end_inside latest stand records = (
+paths_end_inside latest remain records = (
   λ uri moment path e. subst (λ (n : ℕ). path.given < n) (as_many records)
-      (path_below latest stand (index_of (map read_record records)) uri moment path e),
+      (path_below latest remain (index_of (map read_record records)) uri moment path e),
   λ position lt path e. subst (λ (n : ℕ). path.given < n) (as_many records)
-      (from_below stand (index_of (map read_record records)) position (subst (λ (n : ℕ). position < n) (sym (as_many records)) lt) path e),
+      (from_below remain (index_of (map read_record records)) position (subst (λ (n : ℕ). position < n) (sym (as_many records)) lt) path e),
 )
 
 pub answer_some : OneOfThree → (records : List Record) (found : Result Path Unfound) → EndsInside records found
@@ -110,7 +110,7 @@ unfolding IsAnswerOn
 answer_once once coded records found one other is also = on_once once coded (map read_record records) found one other is also
 
 pub answers_once : AtMostOneBody → NoBodyWhereCoded → OneOfThree → ChosenIsLatest → OriginsAreRecords → AnswersOnce
-answers_once once coded three latest stand records uri moment =
+answers_once once coded three latest remain records uri moment =
     let found = path_for records uri moment in
-    let some = answer_some three records found ((paths_end_inside latest stand records).0 uri moment) in
+    let some = answer_some three records found ((paths_end_inside latest remain records).0 uri moment) in
     (some.0, some.1, λ other is. answer_once once coded records found some.0 other some.1 is)

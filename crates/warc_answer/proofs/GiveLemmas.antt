@@ -28,7 +28,7 @@ use Rattle.warc_segment.specs.Joined.{ReadRecord, ArePlacesOf, JoinedHasTotal}
 use Rattle.warc_answer.specs.Answers.{Given, IsAnswerOn, is_truncated, given_by}
 use Rattle.warc_answer.specs.Giving.{BeginsAt, BeginsNowhere, HasRoom, IsFront, IsStart, any_bad_at}
 use Rattle.warc_answer.specs.Laws.{FailsBeforeAll, IsFound, PlacesAreAsLong}
-use Rattle.warc_answer.specs.Payloads.{Payload, IsBehindHead, IsPayload, has_bad_block, is_http_response, read_record, whole_block}
+use Rattle.warc_answer.specs.Payloads.{Payload, IsAfterHead, IsPayload, has_bad_block, is_http_response, read_record, whole_block}
 use Rattle.warc_answer.specs.Origins.{AreBlocksIn}
 use Rattle.warc_answer.specs.Places.{LieIn, bytes_at, len_of, text_at}
 use Rattle.warc_answer.specs.Replays.{IsReplayOn, WritesLate, body_of, given, out_result}
@@ -225,7 +225,7 @@ good_payload origin joined start fine begins =
     by_http : (b : Bool)
         → MatchBool b ((status : ℕ) × (start.status ≡ Some status) × GivesBody block status (drop start.skip block))
         ((start.status ≡ None) × (start.skip ≡ 0))
-        → MatchBool b (IsBehindHead block (payload_at start block))
+        → MatchBool b (IsAfterHead block (payload_at start block))
         (payload_at start block ≡ Ok (record { status = None; bytes = block }))
     by_http true x = x
     by_http false x = λ i. Ok (record { status = x.0 i; bytes = drop (x.1 i) block })
@@ -253,7 +253,7 @@ same_known (Some l) = ap Some (sym (append-nil l))
 
 pub none_out : (start : Option (List ℕ)) (output : List ℕ) → WentOut start output start 0
 none_out start output =
-    record { count = 0; within = omega arith; told = same_known start; number = omega arith }
+    record { count = 0; within = omega arith; reported = same_known start; number = omega arith }
 
 -- ---- what a replay is
 
@@ -335,9 +335,9 @@ pub places_are_as_long : PlacesAreAsLong
 places_are_as_long bytes places joined are = places_len bytes places joined are
 
 pub fails_before_all : OneOfThree → FailsBeforeAll
-fails_before_all three records way told e within none =
+fails_before_all three records way reported e within none =
     let it = answer_some three records way within in
-    (it.0, it.1, subst (λ (n : ℕ). WentOut told (body_of it.0) told n) (sym none) (none_out told (body_of it.0)))
+    (it.0, it.1, subst (λ (n : ℕ). WentOut reported (body_of it.0) reported n) (sym none) (none_out reported (body_of it.0)))
 
 -- nothing goes out before a fault that comes before anything is written
 pub early_late : {X : Type 0} (fault : ReplayFault) (o : Seen) → IsEarly fault → WritesLate {X = X} (Err fault) o o

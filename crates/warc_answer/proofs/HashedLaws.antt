@@ -17,14 +17,14 @@ use Rattle.warc_answer.specs.Stored.{IsStoredBy, IsStoredIn, StoredBody, joined_
 use Rattle.warc_answer.specs.declared.answer.Path.{Path}
 use Rattle.warc_answer.specs.declared.answer.Reason.{Reason as Why}
 use Rattle.warc_answer.specs.declared.answer.Reason.TheVariants.{NotFound, Segments, BadDigest, BadHead, Coded}
-use Rattle.warc_answer.proofs.AnswerLemmas.{stands_below}
+use Rattle.warc_answer.proofs.AnswerLemmas.{is_present_below}
 use Rattle.warc_answer.proofs.StoredLemmas.{text_there}
 
 -- ---- one payload
 
 -- all that is behind a head, as it is stored
-abbrev behind : ResponseHead → List ℕ → Option StoredPayload
-behind head rest = Some (record { coded = is_transfer_coded head; bytes = rest })
+abbrev following : ResponseHead → List ℕ → Option StoredPayload
+following head rest = Some (record { coded = is_transfer_coded head; bytes = rest })
 
 block_once : AtMostOneHead → (http : Bool) (block : List ℕ) (a b : Option StoredPayload) → HasPayload http block a
     → HasPayload http block b → a ≡ b
@@ -45,9 +45,9 @@ block_once one false block (Some p) None x y = absurd y
 block_some : OneOfThree → (http : Bool) (block : List ℕ) → (payload : Option StoredPayload) × HasPayload http block payload
 block_some three false block = (Some (record { coded = false; bytes = block }), (refl, refl))
 block_some three true block = elim (three block) [
-  | inl body ↦ let head = body.2.0 in (behind head body.1, (head, body.2.1, refl))
+  | inl body ↦ let head = body.2.0 in (following head body.1, (head, body.2.1, refl))
   | inr other ↦ elim other [
-    | inl coded ↦ (behind coded.0 coded.1, (coded.0, coded.2, refl))
+    | inl coded ↦ (following coded.0 coded.1, (coded.0, coded.2, refl))
     | inr none ↦ (None, none)
   ]
 ]
@@ -101,7 +101,7 @@ on_some : OneOfThree → (records : List Record) (found : Result Path Unfound) �
     → (payload : Option StoredPayload) × IsPayloadOn records found payload
 on_some three records (Err why) within = (None, refl)
 on_some three records (Ok path) within =
-    let there = stands_below records path.given (within path refl) in
+    let there = is_present_below records path.given (within path refl) in
     let some = by_some three there.0 (joined_to records there.0) in
     (some.0, record { content = there.0; there = there.1; is = some.1 })
 

@@ -38,9 +38,9 @@ front_taken text buf n within same =
     sym (take-take n n buf (omega arith)) ∙ ap (take n) same ∙ take-take n 65536 text less
 
 -- the front behind a head, and what was read after the front, is all that is behind the head
-pub behind_head : (text buf : List ℕ) (n head_len : ℕ) → n ≤ length buf → take n buf ≡ front_of text → head_len ≤ n
+pub after_head : (text buf : List ℕ) (n head_len : ℕ) → n ≤ length buf → take n buf ≡ front_of text → head_len ≤ n
     → take (n - head_len) (drop head_len buf) ++ drop n text ≡ drop head_len text
-behind_head text buf n head_len within same less =
+after_head text buf n head_len within same less =
     let k : ℕ = n - head_len in
     let split : n ≡ head_len + k = omega arith in
     let front : take k (drop head_len buf) ≡ take k (drop head_len text) =
@@ -62,11 +62,11 @@ head_taken buf n info head within is = omega (arith, head_within (take n buf) in
 
 -- ---- the payload that a digest is of
 
-pub behind_digest : (bad : Bool) (text bytes : List ℕ) (info : HeadInfo) (head : ResponseHead) (by : Algorithm)
+pub after_digest : (bad : Bool) (text bytes : List ℕ) (info : HeadInfo) (head : ResponseHead) (by : Algorithm)
     (digest : Digest) → bad ≡ false → IsInfoOf text info head → bytes ≡ drop info.head_len text
     → digest_seen digest ≡ (by, block_hash by bytes)
     → IsDigestIn bad true by text (Some (record { digest = digest; coded = info.transfer_coded }))
-behind_digest bad text bytes info head by digest fine is same seen = (
+after_digest bad text bytes info head by digest fine is same seen = (
   Some (record { coded = info.transfer_coded; bytes = drop info.head_len text }),
   on_false _ _ bad fine (head, is.front, is.transfer_coded),
   (refl, seen ∙ ap (λ l. (by, block_hash by l)) same),

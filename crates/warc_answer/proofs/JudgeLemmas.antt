@@ -55,13 +55,13 @@ judged_none Unchecked n is = refl
 pub reads_rest : (w : Wanted) (start len front done at : ℕ) (old mid new : SeenSource) → front ≤ len → done ≡ front
     → at ≤ start + done → start ≤ at → (w ≡ Unchecked → ⊥) → ReadsRange start front old mid
     → ReadsRange at (len - done) mid new → ReadsRange start (front + judged_len w (len - front)) old new
-reads_rest (Sha1 digest) start len front done at old mid new le same before behind is first rest =
+reads_rest (Sha1 digest) start len front done at old mid new le same before following is first rest =
     let one : ReadsOnly (IsInRange start (front + (len - front))) front old mid =
     reads_within (λ q in_. (in_.0, omega (arith, in_.1))) (omega arith) first in
     let other : ReadsOnly (IsInRange start (front + (len - front))) (len - front) mid new =
     reads_within (λ q in_. (omega (arith, in_.0), omega (arith, in_.1))) (omega arith) rest in
     reads_both one other
-reads_rest Unchecked start len front done at old mid new le same before behind is first rest = absurd (is refl)
+reads_rest Unchecked start len front done at old mid new le same before following is first rest = absurd (is refl)
 
 -- a place whose digest is checked is one of those
 in_checked : (places : List Place) (i : ℕ) (d : Place) → i < length places → is_checked (get_or places i d).wanted ≡ true

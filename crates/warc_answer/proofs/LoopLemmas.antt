@@ -13,7 +13,7 @@ use Rattle.warc_segment.specs.Joined.{ReadRecord, joined_records}
 use Rattle.warc_segment.specs.declared.gap.Gap.{Gap}
 use Rattle.warc_answer.specs.Answers.{Given, IsAnswerOn, IsGivenAt, IsGivenOn, given_by, index_of, is_truncated, path_for}
 use Rattle.warc_answer.specs.Laws.{ChosenLoops, IsOfLoop, LoopsAreAnswered, LoopsAreReplayed}
-use Rattle.warc_answer.specs.Payloads.{IsBehindHead, IsPayload, Payload, has_bad_block, is_http_response, read_record, whole_block}
+use Rattle.warc_answer.specs.Payloads.{IsAfterHead, IsPayload, Payload, has_bad_block, is_http_response, read_record, whole_block}
 use Rattle.warc_answer.specs.Replays.{IsReplay}
 use Rattle.warc_answer.specs.declared.answer.Answer.{Answer}
 use Rattle.warc_answer.specs.declared.answer.Path.{Path}
@@ -21,7 +21,7 @@ use Rattle.warc_answer.specs.declared.answer.Reason.{Reason as Why}
 use Rattle.warc_answer.specs.declared.answer.Reason.TheVariants.{NotFound, Segments, BadDigest, BadHead, Coded}
 use Rattle.warc_answer.specs.declared.answer.ReplayFault.{ReplayFault}
 use Rattle.warc_answer.specs.declared.answer.ReplayFault.TheVariants.{Reason, Out}
-use Rattle.warc_answer.proofs.AnswerLemmas.{below_stands}
+use Rattle.warc_answer.proofs.AnswerLemmas.{below_is_present}
 use Rattle.warc_answer.proofs.ReasonLemmas.{reasons_are_answers}
 
 -- ---- an origin that is found gives no reason why none is found
@@ -30,7 +30,7 @@ abbrev unfound : Unfound → Result Payload Why
 unfound u = Err (NotFound u)
 
 not_whole : (bad http : Bool) (block : List ℕ) (whole : Result Payload Why) (u : Unfound) → (whole ≡ unfound u → ⊥)
-    → MatchBool bad (unfound u ≡ Err BadDigest) (MatchBool http (IsBehindHead block (unfound u)) (unfound u ≡ whole)) → ⊥
+    → MatchBool bad (unfound u ≡ Err BadDigest) (MatchBool http (IsAfterHead block (unfound u)) (unfound u ≡ whole)) → ⊥
 not_whole true http block whole u other is = absurd (cc)
 not_whole false true block whole u other is = is
 not_whole false false block whole u other is = other (sym is)
@@ -77,7 +77,7 @@ origin_loops p (Err why) e = (cc)
 -- the chosen capture is one of them
 chosen_below : ChosenIsLatest → (all : List Indexed) (uri : List ℕ) (moment : Instant) (p : ℕ) → chosen_of all uri moment ≡ Ok p → p < length all
 chosen_below late all uri moment p is =
-    let chosen = ((late all uri moment).0 p).0 is in below_stands all p chosen.it chosen.stands
+    let chosen = ((late all uri moment).0 p).0 is in below_is_present all p chosen.it chosen.is_present
 
 back_by : ChosenIsLatest → ChainLoops → (all : List Indexed) (uri : List ℕ) (moment : Instant) (c : Result ℕ Unfound) → chosen_of all uri moment ≡ c
     → ok_then (λ p. way_from p (origin_of all p)) c ≡ Err Loop → (p : ℕ) × (chosen_of all uri moment ≡ Ok p) × ComesBack (next_of all) p
@@ -112,8 +112,8 @@ module _ (late : ChosenIsLatest) (chains : ChainLoops) (records : List Record) (
   only_loop outcome loops is = subst (λ (way : Result Path Unfound). IsGivenOn (map read_record records) way outcome) (path_loops loops) is
 
   replayed : (answer : Result Answer ReplayFault) (old new : Option (List ℕ)) → IsReplay records uri moment answer old new → IsOfLoop (ChosenLoops records uri moment) answer
-  replayed (Ok answer) old new (body, is, told) = λ loops. let e = only_loop _ loops is in absurd (cc)
-  replayed (Err (Reason why)) old new (is, told) = (
+  replayed (Ok answer) old new (body, is, reported) = λ loops. let e = only_loop _ loops is in absurd (cc)
+  replayed (Err (Reason why)) old new (is, reported) = (
     λ same. loops_by (subst (λ (w : Why). IsAnswerOn records (path_for records uri moment) (Err w)) same is),
     λ loops. let e : ◌≡◌ {A = Result Given Why} (Err why) (Err (NotFound Loop)) = only_loop _ loops is in (cc),
   )

@@ -5,7 +5,7 @@ use Rattle.warc_payload.specs.Laws.{AtMostOneBody, NoBodyWhereCoded, OneOfThree}
 use Rattle.warc_payload.specs.Payload.{GivesBody}
 use Rattle.warc_segment.specs.Joined.{ReadRecord}
 use Rattle.warc_segment.specs.declared.gap.Gap.{Gap}
-use Rattle.warc_answer.specs.Payloads.{whole_block, has_bad_block, is_http_response, Payload, IsBehindHead, IsPayload}
+use Rattle.warc_answer.specs.Payloads.{whole_block, has_bad_block, is_http_response, Payload, IsAfterHead, IsPayload}
 use Rattle.warc_answer.specs.declared.answer.Reason.{Reason}
 use Rattle.warc_answer.specs.declared.answer.Reason.TheVariants.{NotFound, Segments, BadDigest, BadHead, Coded}
 
@@ -17,8 +17,8 @@ same_payload once block a b x y e f g h =
     λ i. record { status = status i; bytes = same.1 i }
 
 -- behind an HTTP head there is one thing
-head_once : AtMostOneBody → NoBodyWhereCoded → (block : List ℕ) (a b : Result Payload Reason) → IsBehindHead block a
-    → IsBehindHead block b → a ≡ b
+head_once : AtMostOneBody → NoBodyWhereCoded → (block : List ℕ) (a b : Result Payload Reason) → IsAfterHead block a
+    → IsAfterHead block b → a ≡ b
 head_once once coded block (Ok a) (Ok b) x y = ap Ok (same_payload once block a b x.0 y.0 x.1 y.1 x.2 y.2)
 head_once once coded block (Ok a) (Err Coded) x y = absurd (coded block x.0 a.bytes x.2 y)
 head_once once coded block (Ok a) (Err BadHead) x y = absurd (y x.2.0 a.bytes x.2.1)
@@ -41,7 +41,7 @@ head_once once coded block (Err BadDigest) b x y = absurd x
 head_once once coded block (Err (NotFound unfound)) b x y = absurd x
 head_once once coded block (Err (Segments gap)) b x y = absurd x
 
-head_some : OneOfThree → (block : List ℕ) → (payload : Result Payload Reason) × IsBehindHead block payload
+head_some : OneOfThree → (block : List ℕ) → (payload : Result Payload Reason) × IsAfterHead block payload
 head_some three block = elim (three block) [
   | inl w ↦ (Ok (record { status = Some w.0; bytes = w.1 }), (w.0, refl, w.2))
   | inr (inl coded) ↦ (Err Coded, coded)
@@ -51,7 +51,7 @@ head_some three block = elim (three block) [
 -- a payload that is a reason where a digest is bad, else as the head or the block says
 abbrev ByTests : Bool → Bool → List ℕ → Result Payload Reason → Result Payload Reason → Type 0
 ByTests bad http block whole payload =
-    MatchBool bad (payload ≡ Err BadDigest) (MatchBool http (IsBehindHead block payload) (payload ≡ whole))
+    MatchBool bad (payload ≡ Err BadDigest) (MatchBool http (IsAfterHead block payload) (payload ≡ whole))
 
 tests_once : AtMostOneBody → NoBodyWhereCoded → (bad http : Bool) (block : List ℕ) (whole a b : Result Payload Reason)
     → ByTests bad http block whole a → ByTests bad http block whole b → a ≡ b

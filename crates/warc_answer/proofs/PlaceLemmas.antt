@@ -200,7 +200,7 @@ pub read_more : (places : List Place) (i at n : ℕ) (d : Place) (old mid new : 
     → (get_or places i d).start ≤ at → at + n ≤ (get_or places i d).start + (get_or places i d).len
     → ReadsPlaces places (len_of (take i places)) old mid → ReadsRange at n mid new
     → ReadsPlaces places (len_of (take (i + 1) places)) old new
-read_more places i at n d old mid new lt behind before has filled =
+read_more places i at n d old mid new lt following before has filled =
     let inside : (q : ℕ) → IsInRange at n q → IsInOne places q =
     λ q in_. (get_or places i d, All-contains_itself places i d lt, omega (arith, in_.0), omega (arith, in_.1)) in
     let part : ReadsPlaces places n mid new = reads_within inside (omega arith) filled in

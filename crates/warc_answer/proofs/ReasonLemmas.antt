@@ -22,7 +22,7 @@ answer_of records way path origin joined outcome found is =
     let by : IsGivenBy path origin (joined_records all origin) outcome =
     subst (λ (j : Result (List ReadRecord) Gap). IsGivenBy path origin j outcome) (sym found.joined_is) is in
     let at : IsGivenAt all path (slice_get all path.given) outcome =
-    subst (λ (o : Option ReadRecord). IsGivenAt all path o outcome) (sym found.stands) by in
+    subst (λ (o : Option ReadRecord). IsGivenAt all path o outcome) (sym found.is_present) by in
     subst (λ (p : Result Path Unfound). IsGivenOn all p outcome) (sym found.path_is) at
 
 unfound_answer : (records : List Record) (way : Result Path Unfound) (unfound : Unfound) → way ≡ Err unfound

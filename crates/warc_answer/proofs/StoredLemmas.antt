@@ -18,11 +18,11 @@ use Rattle.warc_answer.specs.Answers.{IsAnswerOn, given_by, is_truncated}
 use Rattle.warc_answer.specs.Giving.{any_bad_at}
 use Rattle.warc_answer.specs.Judging.{IsHeadIn, IsSaidOf, IsSeenIn}
 use Rattle.warc_answer.specs.Laws.{IsFound}
-use Rattle.warc_answer.specs.Payloads.{IsBehindHead, IsPayload, Payload, has_bad_block, is_http_response, read_record, whole_block}
+use Rattle.warc_answer.specs.Payloads.{IsAfterHead, IsPayload, Payload, has_bad_block, is_http_response, read_record, whole_block}
 use Rattle.warc_answer.specs.Places.{len_of, text_at}
 use Rattle.warc_answer.specs.Replays.{given, out_result}
 use Rattle.warc_answer.specs.Seen.{IsEarly, IsJudged, stored_seen}
-use Rattle.warc_answer.specs.Stored.{AreMeasures, IsStoredBehind, IsStoredBy, IsStoredIn, StoredBody, StoredIsAnswered, answer_with, joined_text, joined_text_at, joined_to}
+use Rattle.warc_answer.specs.Stored.{AreMeasures, IsStoredAfter, IsStoredBy, IsStoredIn, StoredBody, StoredIsAnswered, answer_with, joined_text, joined_text_at, joined_to}
 use Rattle.warc_answer.specs.declared.answer.Path.{Path}
 use Rattle.warc_answer.specs.declared.answer.Reason.{Reason as Why}
 use Rattle.warc_answer.specs.declared.answer.Reason.TheVariants.{NotFound, Segments, BadDigest, BadHead, Coded}
@@ -111,12 +111,12 @@ abbrev payload_of : List ℕ → Result StoredBody Why → Result Payload Why
 payload_of block (Err why) = Err why
 payload_of block (Ok s) = payload_by s.coded block s
 
-by_coding : (block : List ℕ) (s : StoredBody) (b : Bool) → IsStoredBehind block s → s.coded ≡ b → IsBehindHead block (payload_by b block s)
+by_coding : (block : List ℕ) (s : StoredBody) (b : Bool) → IsStoredAfter block s → s.coded ≡ b → IsAfterHead block (payload_by b block s)
 by_coding block s true is e = (is.head, drop s.head_len block, is.front, sym is.coded_is ∙ e)
 by_coding block s false is e = (status_code is.head, is.status_is, (is.head, is.front, refl, sym is.coded_is ∙ e))
 
 by_head : (http : Bool) (fields : List Pair) (block : List ℕ) (stored : Result StoredBody Why) → IsStoredIn http fields block stored
-    → MatchBool http (IsBehindHead block (payload_of block stored)) (payload_of block stored ≡ Ok (record { status = None; bytes = block }))
+    → MatchBool http (IsAfterHead block (payload_of block stored)) (payload_of block stored ≡ Ok (record { status = None; bytes = block }))
 by_head true fields block (Ok s) is = by_coding block s s.coded is refl
 by_head false fields block (Ok s) is =
     ap (λ b. payload_by b block s) is.coded_is ∙ (λ i. Ok (record { status = is.status_is i; bytes = drop (is.head_len_is i) block }))
@@ -130,7 +130,7 @@ by_head http fields block (Err (Segments gap)) is = absurd is
 by_digest : (bad http : Bool) (Rest : Type 0) (fields : List Pair) (block : List ℕ) (stored : Result StoredBody Why)
     → MatchBool bad (stored ≡ Err BadDigest) (IsStoredIn http fields block stored × Rest)
     → MatchBool bad (payload_of block stored ≡ Err BadDigest)
-    (MatchBool http (IsBehindHead block (payload_of block stored)) (payload_of block stored ≡ Ok (record { status = None; bytes = block })))
+    (MatchBool http (IsAfterHead block (payload_of block stored)) (payload_of block stored ≡ Ok (record { status = None; bytes = block })))
 by_digest true http Rest fields block stored is = ap (payload_of block) is
 by_digest false http Rest fields block stored is = by_head http fields block stored is.0
 
@@ -158,7 +158,7 @@ answered : (records : List Record) (path : Path) (content : Record) (payload : R
     → IsAnswerOn records (Ok path) (given_by path (is_truncated (joined_to records content)) payload)
 answered records path content payload there is =
     answer_of records (Ok path) path (read_record content) (joined_to records content) _
-    (record { path_is = refl; stands = slice_get-map read_record records path.given ∙ ap (option_map read_record) there; joined_is = refl })
+    (record { path_is = refl; is_present = slice_get-map read_record records path.given ∙ ap (option_map read_record) there; joined_is = refl })
     (payload, is, refl)
 
 pub text_there : (records : List Record) (position : ℕ) (content : Record) → slice_get records position ≡ Some content

@@ -43,7 +43,7 @@ ConversionKeepsAnswers =
 pub record IsFound (all : List ReadRecord) (found : Result Path Unfound) (path : Path) (origin : ReadRecord)
     (joined : Result (List ReadRecord) Gap) : Type 0 where
   pub path_is : found ≡ Ok path
-  pub stands : slice_get all path.given ≡ Some origin
+  pub is_present : slice_get all path.given ≡ Some origin
   pub joined_is : joined_records all origin ≡ joined
 
 -- the reasons before the payload: no path, and a gap
@@ -74,8 +74,8 @@ PlacesAreAsLong =
 -- a replay that fails before anything goes out is one, whatever the answer is
 abbrev pub FailsBeforeAll : Type 0
 FailsBeforeAll =
-    (records : List Record) (found : Result Path Unfound) (told : Option (List ℕ)) (e : OutFault)
-    → EndsInside records found → sent_of e ≡ 0 → IsReplayOn records found (Err (Out e)) told told
+    (records : List Record) (found : Result Path Unfound) (reported : Option (List ℕ)) (e : OutFault)
+    → EndsInside records found → sent_of e ≡ 0 → IsReplayOn records found (Err (Out e)) reported reported
 
 -- a capture is chosen for a URI as of a moment, and the chain from it comes back to a record that it has left
 pub record ChosenLoops (records : List Record) (uri : List ℕ) (moment : Instant) : Type 0 where

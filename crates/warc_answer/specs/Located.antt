@@ -33,4 +33,4 @@ abbrev pub IsLocatedOn : List ℕ → List Record → Result Path Unfound → Re
 IsLocatedOn bytes records found (Ok body) =
     IsAnswerOn records found (given body.answer (spans_text body.spans bytes)) × AreInside body.spans bytes
 IsLocatedOn bytes records found (Err fault) =
-    (tells : Option (List ℕ)) → IsReplayOn records found (Err fault) tells tells
+    (reports : Option (List ℕ)) → IsReplayOn records found (Err fault) reports reports

@@ -49,18 +49,18 @@ pub record Payload : Type 0 where
   pub bytes : List ℕ
 
 -- what the block of an HTTP response gives after its head
-abbrev pub IsBehindHead : List ℕ → Result Payload Reason → Type 0
-IsBehindHead block (Ok payload) = (status : ℕ) × (payload.status ≡ Some status) × GivesBody block status payload.bytes
-IsBehindHead block (Err Coded) = GivesCodedBody block
-IsBehindHead block (Err BadHead) = HasNoHead block
-IsBehindHead block (Err BadDigest) = ⊥
-IsBehindHead block (Err (NotFound unfound)) = ⊥
-IsBehindHead block (Err (Segments gap)) = ⊥
+abbrev pub IsAfterHead : List ℕ → Result Payload Reason → Type 0
+IsAfterHead block (Ok payload) = (status : ℕ) × (payload.status ≡ Some status) × GivesBody block status payload.bytes
+IsAfterHead block (Err Coded) = GivesCodedBody block
+IsAfterHead block (Err BadHead) = HasNoHead block
+IsAfterHead block (Err BadDigest) = ⊥
+IsAfterHead block (Err (NotFound unfound)) = ⊥
+IsAfterHead block (Err (Segments gap)) = ⊥
 
 -- the payload of an origin, by the records that are joined to it or their gap: the first reason that fits, or the body
 abbrev pub IsPayload : ReadRecord → Result (List ReadRecord) Gap → Result Payload Reason → Type 0
 IsPayload origin (Err gap) payload = payload ≡ Err (Segments gap)
 IsPayload origin (Ok joined) payload =
     MatchBool (list_any has_bad_block joined) (payload ≡ Err BadDigest)
-    (MatchBool (is_http_response origin.head) (IsBehindHead (whole_block joined) payload)
+    (MatchBool (is_http_response origin.head) (IsAfterHead (whole_block joined) payload)
     (payload ≡ Ok (record { status = None; bytes = whole_block joined })))

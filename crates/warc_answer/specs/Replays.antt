@@ -58,7 +58,7 @@ out_result (Err (Out e)) = Err e
 -- whatever the source holds, nothing goes out before a reason or before memory is refused, and the sink has failed once
 -- more exactly by a failed write
 pub record WritesLate {X : Type 0} (answer : Result X ReplayFault) (before after : Seen) : Type 0 where
-  pub silent : IsSilent answer before.tells after.tells
+  pub silent : IsSilent answer before.reports after.reports
   pub cause : after.faults ≡ failed_by (out_result answer) before.faults
 
 -- a reason, or a failed read or write

@@ -38,7 +38,7 @@ abbrev pub own_type : List Pair → List ℕ
 own_type fields = value_or_empty content_type fields
 
 -- the joined blocks of an HTTP response are this head, and then what is stored
-pub record IsStoredBehind (block : List ℕ) (s : StoredBody) : Type 0 where
+pub record IsStoredAfter (block : List ℕ) (s : StoredBody) : Type 0 where
   pub head : ResponseHead
   pub front : BeginsWithHead block head (drop s.head_len block)
   pub status_is : s.status ≡ Some (status_code head)
@@ -55,7 +55,7 @@ pub record IsAllOf (fields : List Pair) (s : StoredBody) : Type 0 where
 
 -- what is stored in the joined blocks of an origin with these fields, an HTTP response or another record
 abbrev pub IsStoredIn : Bool → List Pair → List ℕ → Result StoredBody Reason → Type 0
-IsStoredIn http fields block (Ok s) = MatchBool http (IsStoredBehind block s) (IsAllOf fields s)
+IsStoredIn http fields block (Ok s) = MatchBool http (IsStoredAfter block s) (IsAllOf fields s)
 IsStoredIn http fields block (Err BadHead) = MatchBool http (HasNoHead block) ⊥
 IsStoredIn http fields block (Err BadDigest) = ⊥
 IsStoredIn http fields block (Err Coded) = ⊥

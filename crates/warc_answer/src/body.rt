@@ -70,7 +70,7 @@ fn start_through<S: Source>(
 }
 
 /// The same, through a buffer of its own that has room for any HTTP head.
-fn find_behind_long_head<S: Source>(
+fn find_after_long_head<S: Source>(
     source: &mut S,
     places: &[Place],
 ) -> Result<BodyStart, ReplayFault>
@@ -81,7 +81,7 @@ fn find_behind_long_head<S: Source>(
 }
 
 /// The same, through a short buffer where the joined blocks are short.
-fn find_behind_head<S: Source>(source: &mut S, places: &[Place]) -> Result<BodyStart, ReplayFault>
+fn find_after_head<S: Source>(source: &mut S, places: &[Place]) -> Result<BodyStart, ReplayFault>
     ensures { FindsStart true places.now (S.seen source.old) (S.seen source.new) result }
 {
     let total = total(places);
@@ -90,7 +90,7 @@ fn find_behind_head<S: Source>(source: &mut S, places: &[Place]) -> Result<BodyS
         return start_through(source, places, &mut front);
     }
     if total > PIECE as u64 {
-        return find_behind_long_head(source, places);
+        return find_after_long_head(source, places);
     }
     let mut front = [0; PIECE];
     start_through(source, places, &mut front)
@@ -120,7 +120,7 @@ pub(crate) fn find_body<S: Source>(
     ensures { FindsStart http places.now (S.seen source.old) (S.seen source.new) result }
 {
     if http {
-        find_behind_head(source, places)
+        find_after_head(source, places)
     } else {
         find_whole(source, places)
     }

@@ -172,7 +172,7 @@ fn digest_through<S: Source>(
 }
 
 /// The same, through a buffer of its own that has room for any HTTP head.
-fn digest_behind_long_head<S: Source>(
+fn digest_after_long_head<S: Source>(
     source: &mut S,
     places: &[Place],
     algorithm: Algorithm,
@@ -188,7 +188,7 @@ fn digest_behind_long_head<S: Source>(
 }
 
 /// The same, through a short buffer where the joined blocks are short.
-fn digest_behind_head<S: Source>(
+fn digest_after_head<S: Source>(
     source: &mut S,
     places: &[Place],
     algorithm: Algorithm,
@@ -200,7 +200,7 @@ fn digest_behind_head<S: Source>(
     ensures fails { FailsBy (LieIn places.now) (read_result result) (S.seen source.old) (S.seen source.new) }
 {
     if total(places) > PIECE as u64 {
-        return digest_behind_long_head(source, places, algorithm);
+        return digest_after_long_head(source, places, algorithm);
     }
     let mut front = [0; PIECE];
     digest_through(source, places, &mut front, algorithm)
@@ -244,7 +244,7 @@ fn digest_payload<S: Source>(
     ensures fails { FailsBy (LieIn places.now) (read_result result) (S.seen source.old) (S.seen source.new) }
 {
     if http {
-        digest_behind_head(source, places, algorithm)
+        digest_after_head(source, places, algorithm)
     } else {
         digest_whole(source, places, algorithm)
     }

@@ -21,7 +21,7 @@ ghost use Rattle.warc_answer.specs.Stored.{own_type};
 use crate::answer::{Reason, ReplayFault};
 use crate::blocks::{SHORT, read_front};
 use crate::replay::total;
-use crate::stored::{Stored, all_of, judge_joined, stored_after};
+use crate::stored::{Stored, all_of, find_stored, stored_after};
 use std::alloc::Allocator;
 use warc_frame::{OutFault, Source};
 use warc_payload::laws::front_has_no_head;
@@ -102,7 +102,7 @@ fn find_head<S: Source, A: Allocator + Copy>(
 }
 
 /// What is stored in the joined blocks of an HTTP response, none of which is bad.
-fn judge_http<S: Source, A: Allocator + Copy>(
+fn find_stored_http<S: Source, A: Allocator + Copy>(
     alloc: A,
     source: &mut S,
     places: &[Place],
@@ -135,13 +135,13 @@ fn judge_good<S: Source, A: Allocator + Copy>(
 {
     joined_has_total();
     if http {
-        judge_http(alloc, source, places)
+        find_stored_http(alloc, source, places)
     } else {
         all_of(alloc, own, places)
     }
 }
 
-/// What is stored of an origin, as `judge_joined` judges it, by what is known of the joined blocks. If they are good,
+/// What is stored of an origin, as `find_stored` judges it, by what is known of the joined blocks. If they are good,
 /// the front of an HTTP response alone is read, to find its head: 2,048 bytes of it, and if the head is longer, 65,536.
 /// If they are bad, nothing is read. If nothing is known, they are judged.
 pub fn judge_known<S: Source, A: Allocator + Copy>(
@@ -161,7 +161,7 @@ pub fn judge_known<S: Source, A: Allocator + Copy>(
     ensures fails { FailsBy (AreBlocksIn places.now) (out_result result) (S.seen source.old) (S.seen source.new) }
 {
     match known {
-        Verdict::Unchecked => judge_joined(alloc, source, http, own, places),
+        Verdict::Unchecked => find_stored(alloc, source, http, own, places),
         Verdict::Good => judge_good(alloc, source, http, own, places),
         Verdict::Bad => Err(ReplayFault::Reason(Reason::BadDigest)),
     }

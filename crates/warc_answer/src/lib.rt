@@ -18,4 +18,4 @@ pub use hashed::{PayloadDigest, digest_joined, digest_own};
 pub use known::judge_known;
 pub use located::{Located, Span, locate_joined};
 pub use replay::replay_joined;
-pub use stored::{Stored, judge_joined};
+pub use stored::{Stored, find_stored};

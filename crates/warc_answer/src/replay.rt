@@ -57,7 +57,7 @@ pub(crate) fn begin_body<S: Source>(
         IfOk result (λ b. IsAnswerOn records found (given b.answer (drop b.skip (text_at places.now bytes))))) }
     ensures refused { IfHeld (S.seen source.old).holds (λ bytes. (records : List Record)
         (found : Result Path Unfound) → IsJoinedOn bytes records found path http places.now →
-        IfErr result (λ fault. (told : Option (List ℕ)) → IsReplayOn records found (Err fault) told told)) }
+        IfErr result (λ fault. (reported : Option (List ℕ)) → IsReplayOn records found (Err fault) reported reported)) }
     ensures early { IfErr result IsEarly }
     ensures device { IfErr result WantsNoMemory }
     ensures reads { ReadsToJudge http places.now (S.seen source.old) (S.seen source.new) }
@@ -91,7 +91,7 @@ pub fn replay_joined<S: Source, W: Sink>(
 ) -> Result<Answer, ReplayFault>
     ensures replayed { IfHeld (S.seen source.old).holds (λ bytes. (records : List Record)
         (found : Result Path Unfound) → IsJoinedOn bytes records found path http places.now →
-        IsReplayOn records found result (W.seen out.old).tells (W.seen out.new).tells) }
+        IsReplayOn records found result (W.seen out.old).reports (W.seen out.new).reports) }
     ensures late { WritesLate result (W.seen out.old) (W.seen out.new) }
     ensures device { IfErr result WantsNoMemory }
 

@@ -136,7 +136,7 @@ pub(crate) fn stored_after<A: Allocator>(head: StoredHead<A>, places: &[Place]) 
 }
 
 /// What is stored in the joined blocks of an HTTP response.
-fn judge_http<S: Source, A: Allocator + Copy>(
+fn find_stored_http<S: Source, A: Allocator + Copy>(
     alloc: A,
     source: &mut S,
     places: &[Place],
@@ -176,7 +176,7 @@ pub(crate) fn all_of<A: Allocator + Copy>(
 }
 
 /// What is stored in the joined blocks of another origin, whose own `Content-Type` has this value.
-fn judge_other<S: Source, A: Allocator + Copy>(
+fn find_stored_other<S: Source, A: Allocator + Copy>(
     alloc: A,
     source: &mut S,
     own: &[u8],
@@ -199,7 +199,7 @@ fn judge_other<S: Source, A: Allocator + Copy>(
 /// doesn't begin with an HTTP head. `places` are the places of the joined blocks, as `Parts::join` gives them; `http`
 /// says whether the origin is an HTTP response, and `own` is the value of its own `Content-Type`, empty where it has
 /// none. Each byte of the joined blocks is read at most once, to judge their digests and to find the HTTP head.
-pub fn judge_joined<S: Source, A: Allocator + Copy>(
+pub fn find_stored<S: Source, A: Allocator + Copy>(
     alloc: A,
     source: &mut S,
     http: bool,
@@ -215,8 +215,8 @@ pub fn judge_joined<S: Source, A: Allocator + Copy>(
 {
     joined_has_total();
     if http {
-        judge_http(alloc, source, places)
+        find_stored_http(alloc, source, places)
     } else {
-        judge_other(alloc, source, own, places)
+        find_stored_other(alloc, source, own, places)
     }
 }

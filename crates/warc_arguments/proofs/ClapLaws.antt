@@ -18,7 +18,7 @@ use Rattle.clap.proofs.WalkLemmas.{first_value-rows}
 use Rattle.warc_arguments.specs.declared.words.CommandFault.{CommandFault}
 use Rattle.warc_arguments.specs.declared.words.CommandFault.TheVariants.{Usage, Memory}
 use Rattle.warc_arguments.specs.Command.{Asked}
-use Rattle.warc_arguments.specs.CommandLine.{IsToldBy, asked_in, asked_of, flags_in, is_flagged, is_request, named, text_of, warc_app}
+use Rattle.warc_arguments.specs.CommandLine.{IsReportedBy, asked_in, asked_of, flags_in, is_flagged, is_request, named, text_of, warc_app}
 
 -- what a reading of the matches names, the words name
 pub words_name : (a : App) (words : List Text) (m : ArgMatches) (asked : Option Asked) → a ≡ warc_app → HasMatchesOf a words m
@@ -63,11 +63,11 @@ pub no_globals : (c : Command) (b : App) → app_of c ≡ b → b.top.is_plain �
 no_globals c b same plain = (plain_fields c (ap (λ (x : App). x.top.is_plain) same ∙ plain)).globals
 
 -- a refusal of one kind is one of the kinds that the words have
-pub told_by : (kinds : Kinds) (k : ErrorKind) (f : CommandFault) → IsToldBy (k ∷ []) f → (k ≡ OutOfMemory → f ≡ Memory)
-    → (k ≡ OutOfMemory) ⊎ IsAmong k kinds → IsToldBy kinds f
-told_by kinds k Memory said memory has = tt
-told_by kinds k (Usage text asked) said memory (inl full) = cc (memory full)
-told_by kinds k (Usage text asked) said memory (inr among) =
+pub reported_by : (kinds : Kinds) (k : ErrorKind) (f : CommandFault) → IsReportedBy (k ∷ []) f → (k ≡ OutOfMemory → f ≡ Memory)
+    → (k ≡ OutOfMemory) ⊎ IsAmong k kinds → IsReportedBy kinds f
+reported_by kinds k Memory said memory has = tt
+reported_by kinds k (Usage text asked) said memory (inl full) = cc (memory full)
+reported_by kinds k (Usage text asked) said memory (inr among) =
     (k, among, elim said.1 [ inl same ↦ said.2 ∙ ap is_request same | inr none ↦ absurd none ])
 
 -- what a command and its flags say is what clap read

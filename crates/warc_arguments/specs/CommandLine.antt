@@ -9,9 +9,9 @@ use Rattle.clap.specs.declared.error.kind.ErrorKind.TheVariants.{DisplayHelp, Di
 use Rattle.clap.specs.declared.builder.action.ArgAction.TheVariants.{SetTrue}
 use Rattle.warc_arguments.specs.Command.{Asked}
 use Rattle.warc_arguments.specs.declared.words.CommandFault.{CommandFault}
-use Rattle.warc_arguments.specs.declared.words.Entry.{Entry}
-use Rattle.warc_arguments.specs.declared.words.Form.{Form}
-use Rattle.warc_arguments.specs.declared.words.Form.TheVariants.{Required, Optional, Flag}
+use Rattle.warc_arguments.specs.declared.words.CommandEntry.{CommandEntry}
+use Rattle.warc_arguments.specs.declared.words.WordForm.{WordForm}
+use Rattle.warc_arguments.specs.declared.words.WordForm.TheVariants.{Required, Optional, Flag}
 use Rattle.warc_arguments.specs.declared.words.CommandFault.TheVariants.{Usage, Memory}
 
 -- a command's name, the names of the words that it requires, in order, of those after them that may be left out, and
@@ -114,7 +114,7 @@ abbrev pub layouts : List Layout
 layouts = first_layouts ++ other_layouts
 
 -- what the program's table says of a command
-abbrev pub layout_seen : Entry → Layout
+abbrev pub layout_seen : CommandEntry → Layout
 layout_seen e = record {
   name = e.name.now;
   words = map (λ w. w.name.now) e.words.now;
@@ -123,13 +123,13 @@ layout_seen e = record {
 }
 
 -- what clap knows of a word: that it is required, that it may be left out, or that it is a flag `--NAME`
-abbrev pub rule_as : Form → Text → Rule
+abbrev pub rule_as : WordForm → Text → Rule
 rule_as Required name = record (new_rule name) { required = true }
 rule_as Optional name = new_rule name
 rule_as Flag name = record (new_rule name) { long = Some name; action = Some SetTrue }
 
 -- a command with more words of a form
-abbrev pub with_rules : Form → App → List Text → App
+abbrev pub with_rules : WordForm → App → List Text → App
 with_rules form app words = fold (λ a word. with_rule a (rule_as form word)) app words
 
 -- a command by itself; the last flags of each are `--quiet` and `--hints`
@@ -198,9 +198,9 @@ is_request DisplayVersion = true
 is_request _ = false
 
 -- a refusal for want of memory, or for one of these kinds, that says whether it was a request
-abbrev pub IsToldBy : Kinds → CommandFault → Type 0
-IsToldBy kinds (Usage text asked) = (kind : ErrorKind) × IsAmong kind kinds × (asked ≡ is_request kind)
-IsToldBy kinds Memory = Unit {0}
+abbrev pub IsReportedBy : Kinds → CommandFault → Type 0
+IsReportedBy kinds (Usage text asked) = (kind : ErrorKind) × IsAmong kind kinds × (asked ≡ is_request kind)
+IsReportedBy kinds Memory = Unit {0}
 
 -- what such a refusal says: clap's text as it is
 abbrev pub command_fault_text : CommandFault → List ℕ

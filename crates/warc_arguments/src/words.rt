@@ -8,7 +8,7 @@ ghost use Rattle.clap.specs.Values.{kind_of};
 ghost use Rattle.clap.specs.Walk.{first_of, rows_of, rule_of};
 ghost use Rattle.clap.specs.declared.builder.command.Command.TheViews.{out-Command};
 ghost use Rattle.warc_arguments.specs.Command.{asked_by, draft_texts, flags_of, gives_bytes, list_word, opens_nothing, path_word, reads_once, view_of};
-ghost use Rattle.warc_arguments.specs.CommandLine.{IsToldBy, asked_in, bare_app, first_app, asked_of, command_fault_text, draft_words, flags_in, is_flagged};
+ghost use Rattle.warc_arguments.specs.CommandLine.{IsReportedBy, asked_in, bare_app, first_app, asked_of, command_fault_text, draft_words, flags_in, is_flagged};
 ghost use Rattle.warc_arguments.specs.CommandLine.{layout_seen, named, rule_as, text_of, warc_app, with_layout, with_rules};
 
 use clap::error::ErrorKind;
@@ -294,7 +294,7 @@ struct Word {
 
 /// How a command takes a word.
 #[derive(Clone, Copy)]
-enum Form {
+enum WordForm {
     /// The word is required.
     Required,
     /// The word may be left out.
@@ -306,7 +306,7 @@ enum Form {
 /// A command as help shows it: its name, what it does, what it writes and how it ends, the words that it requires, in
 /// order, the words that may be left out, which come after those, and its flags.
 #[derive(Clone, Copy)]
-struct Entry {
+struct CommandEntry {
     name: &'static str,
     about: &'static str,
     notes: &'static str,
@@ -698,8 +698,8 @@ const HINTS: Word = Word {
 };
 
 /// The first commands, in the order in which help lists them.
-const FIRST_COMMANDS: [Entry; 6] = [
-    Entry {
+const FIRST_COMMANDS: [CommandEntry; 6] = [
+    CommandEntry {
         name: "list",
         about: "Prints a line for each record",
         notes: LIST_NOTES,
@@ -707,7 +707,7 @@ const FIRST_COMMANDS: [Entry; 6] = [
         optional: &[],
         flags: &[],
     },
-    Entry {
+    CommandEntry {
         name: "check",
         about: "Prints what is wrong with records that can be read",
         notes: CHECK_NOTES,
@@ -715,7 +715,7 @@ const FIRST_COMMANDS: [Entry; 6] = [
         optional: &[],
         flags: &[],
     },
-    Entry {
+    CommandEntry {
         name: "extract",
         about: "Writes the block of the first record with an id",
         notes: EXTRACT_NOTES,
@@ -723,7 +723,7 @@ const FIRST_COMMANDS: [Entry; 6] = [
         optional: &[],
         flags: &[],
     },
-    Entry {
+    CommandEntry {
         name: "replay",
         about: "Writes the body that was captured of a URI, as of a date",
         notes: REPLAY_NOTES,
@@ -731,7 +731,7 @@ const FIRST_COMMANDS: [Entry; 6] = [
         optional: &[],
         flags: &[URI_HEX, STORED],
     },
-    Entry {
+    CommandEntry {
         name: "body",
         about: "Writes the body that the capture at a position gives",
         notes: BODY_NOTES,
@@ -739,7 +739,7 @@ const FIRST_COMMANDS: [Entry; 6] = [
         optional: &[],
         flags: &[STORED],
     },
-    Entry {
+    CommandEntry {
         name: "captures",
         about: "Prints a line for each capture, of all or of a URI",
         notes: CAPTURES_NOTES,
@@ -750,8 +750,8 @@ const FIRST_COMMANDS: [Entry; 6] = [
 ];
 
 /// The other commands, in that order. Two tables are cheaper to prove than one.
-const OTHER_COMMANDS: [Entry; 13] = [
-    Entry {
+const OTHER_COMMANDS: [CommandEntry; 13] = [
+    CommandEntry {
         name: "rewrite",
         about: "Writes the archive in canonical form",
         notes: REWRITE_NOTES,
@@ -759,7 +759,7 @@ const OTHER_COMMANDS: [Entry; 13] = [
         optional: &[],
         flags: &[],
     },
-    Entry {
+    CommandEntry {
         name: "convert",
         about: "Writes the archive as one of WARC/1.1",
         notes: CONVERT_NOTES,
@@ -767,7 +767,7 @@ const OTHER_COMMANDS: [Entry; 13] = [
         optional: &[],
         flags: &[],
     },
-    Entry {
+    CommandEntry {
         name: "split",
         about: "Writes the archive with its records split into segments",
         notes: SPLIT_NOTES,
@@ -775,7 +775,7 @@ const OTHER_COMMANDS: [Entry; 13] = [
         optional: &[],
         flags: &[],
     },
-    Entry {
+    CommandEntry {
         name: "select",
         about: "Writes the records at positions, or all others",
         notes: SELECT_NOTES,
@@ -783,7 +783,7 @@ const OTHER_COMMANDS: [Entry; 13] = [
         optional: &[],
         flags: &[EXCEPT, CLOSED],
     },
-    Entry {
+    CommandEntry {
         name: "write",
         about: "Writes one record, made of a file",
         notes: WRITE_NOTES,
@@ -791,7 +791,7 @@ const OTHER_COMMANDS: [Entry; 13] = [
         optional: &[],
         flags: &[],
     },
-    Entry {
+    CommandEntry {
         name: "head",
         about: "Writes the head of the record at a position",
         notes: HEAD_NOTES,
@@ -799,7 +799,7 @@ const OTHER_COMMANDS: [Entry; 13] = [
         optional: &[],
         flags: &[],
     },
-    Entry {
+    CommandEntry {
         name: "block",
         about: "Writes the block of the record at a position",
         notes: BLOCK_NOTES,
@@ -807,7 +807,7 @@ const OTHER_COMMANDS: [Entry; 13] = [
         optional: &[],
         flags: &[],
     },
-    Entry {
+    CommandEntry {
         name: "fixity",
         about: "Prints each block that its digest doesn't fit",
         notes: FIXITY_NOTES,
@@ -815,7 +815,7 @@ const OTHER_COMMANDS: [Entry; 13] = [
         optional: &[],
         flags: &[PAYLOAD],
     },
-    Entry {
+    CommandEntry {
         name: "pieces",
         about: "Prints which parts of a damaged archive are whole",
         notes: PIECES_NOTES,
@@ -823,7 +823,7 @@ const OTHER_COMMANDS: [Entry; 13] = [
         optional: &[],
         flags: &[],
     },
-    Entry {
+    CommandEntry {
         name: "salvage",
         about: "Writes the records before the first fault, or all good ones",
         notes: SALVAGE_NOTES,
@@ -831,7 +831,7 @@ const OTHER_COMMANDS: [Entry; 13] = [
         optional: &[],
         flags: &[ALL],
     },
-    Entry {
+    CommandEntry {
         name: "summary",
         about: "Prints how many records there are, of which types, and dates",
         notes: SUMMARY_NOTES,
@@ -839,7 +839,7 @@ const OTHER_COMMANDS: [Entry; 13] = [
         optional: &[],
         flags: &[],
     },
-    Entry {
+    CommandEntry {
         name: "survey",
         about: "Prints what list, fixity, check, summary and captures print",
         notes: SURVEY_NOTES,
@@ -847,7 +847,7 @@ const OTHER_COMMANDS: [Entry; 13] = [
         optional: &[],
         flags: &[],
     },
-    Entry {
+    CommandEntry {
         name: "explain",
         about: "Prints what a number means, as F10 or P4, and what to do",
         notes: EXPLAIN_NOTES,
@@ -888,7 +888,7 @@ fn warc_parser<'a>(alloc: Global) -> Result<clap::Command<'a>, AllocError>
 fn with_commands<'a>(
     parser: clap::Command<'a>,
     alloc: Global,
-    entries: &[Entry],
+    entries: &[CommandEntry],
 ) -> Result<clap::Command<'a>, AllocError>
     ensures { (app : App) → app_of parser.entry ≡ app →
         IfOk result (λ c. app_of c ≡ fold with_layout app (map layout_seen entries.now)) }
@@ -904,7 +904,7 @@ fn with_commands<'a>(
 fn with_command<'a>(
     parser: clap::Command<'a>,
     alloc: Global,
-    entry: &Entry,
+    entry: &CommandEntry,
 ) -> Result<clap::Command<'a>, AllocError>
     ensures { (app : App) → app_of parser.entry ≡ app →
         IfOk result (λ c. app_of c ≡ with_layout app (layout_seen entry.now)) }
@@ -912,11 +912,11 @@ fn with_command<'a>(
     let plain = clap::Command::new(alloc, entry.name)
         .about(entry.about)
         .after_help(entry.notes);
-    let required = with_words(plain, alloc, Form::Required, entry.words)?;
-    let optional = with_words(required, alloc, Form::Optional, entry.optional)?;
-    let flagged = with_words(optional, alloc, Form::Flag, entry.flags)?;
-    let quiet = with_word(flagged, alloc, Form::Flag, QUIET.name, QUIET.help)?;
-    let command = with_word(quiet, alloc, Form::Flag, HINTS.name, HINTS.help)?;
+    let required = with_words(plain, alloc, WordForm::Required, entry.words)?;
+    let optional = with_words(required, alloc, WordForm::Optional, entry.optional)?;
+    let flagged = with_words(optional, alloc, WordForm::Flag, entry.flags)?;
+    let quiet = with_word(flagged, alloc, WordForm::Flag, QUIET.name, QUIET.help)?;
+    let command = with_word(quiet, alloc, WordForm::Flag, HINTS.name, HINTS.help)?;
     parser.subcommand(command)
 }
 
@@ -924,7 +924,7 @@ fn with_command<'a>(
 fn with_words<'a>(
     command: clap::Command<'a>,
     alloc: Global,
-    form: Form,
+    form: WordForm,
     words: &[Word],
 ) -> Result<clap::Command<'a>, AllocError>
     ensures app { (app : App) → app_of command.entry ≡ app
@@ -943,7 +943,7 @@ fn with_words<'a>(
 fn with_word<'a>(
     command: clap::Command<'a>,
     alloc: Global,
-    form: Form,
+    form: WordForm,
     name: &'static str,
     help: &'static str,
 ) -> Result<clap::Command<'a>, AllocError>
@@ -955,15 +955,15 @@ fn with_word<'a>(
     command.arg(argument(alloc, form, name, help))
 }
 
-fn argument<'a>(alloc: Global, form: Form, name: &'static str, help: &'static str) -> Arg<'a>
+fn argument<'a>(alloc: Global, form: WordForm, name: &'static str, help: &'static str) -> Arg<'a>
     ensures rule { rule_of result ≡ rule_as form name.entry.now }
     ensures local { result.global ≡ false }
 {
     let word = Arg::new(alloc, name).help(help);
     match form {
-        Form::Required => word.required(true),
-        Form::Optional => word,
-        Form::Flag => word.long(name).action(ArgAction::SetTrue),
+        WordForm::Required => word.required(true),
+        WordForm::Optional => word,
+        WordForm::Flag => word.long(name).action(ArgAction::SetTrue),
     }
 }
 
@@ -1095,7 +1095,7 @@ fn read<'a>(matches: &ArgMatches<'a>) -> Option<Request<'a>>
 /// What `clap` refused, or was asked to show.
 fn refusal(alloc: Global, error: &clap::Error) -> CommandFault
     ensures memory { kind_of error.now ≡ ErrorKind.OutOfMemory → result ≡ CommandFault.Memory }
-    ensures told { IsToldBy (kind_of error.now ∷ []) result }
+    ensures reported { IsReportedBy (kind_of error.now ∷ []) result }
 {
     if let ErrorKind::OutOfMemory = error.kind() {
         return CommandFault::Memory;
@@ -1117,7 +1117,7 @@ pub fn parse<'a, S: AsStr>(alloc: Global, words: &'a [S]) -> Result<Request<'a>,
     ensures accepted { IfOk result (λ _. fault_of warc_app (map S.text words.entry.now) ≡ []) }
     ensures taken { IfErr result (λ e. takes warc_app (map S.text words.entry.now) ≡ true
         → e ≡ CommandFault.Memory) }
-    ensures told { IfErr result (IsToldBy (fault_of warc_app (map S.text words.entry.now))) }
+    ensures reported { IfErr result (IsReportedBy (fault_of warc_app (map S.text words.entry.now))) }
 {
     let Ok(parser) = warc_parser(alloc) else {
         return Err(CommandFault::Memory);

@@ -55,7 +55,7 @@ impl<'a> Window<'a> {
 }
 
 impl Sink for Window<'_> {
-    ghost seen = { λ s. record { tells = None; faults = s.faults } };
+    ghost seen = { λ s. record { reports = None; faults = s.faults } };
 
     fn write(&mut self, piece: &[u8]) -> Result<usize, WriteFault> {
         let answer = self.take(piece);

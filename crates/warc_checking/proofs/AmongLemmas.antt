@@ -11,17 +11,17 @@ use Rattle.warc_record.specs.Findings.{SeenFinding, Digest, SegmentNumber, IdUse
 use Rattle.warc_quick.specs.PlainFindings.{AreFindings}
 use Rattle.warc_checking.specs.OwnFindings.{IsWithoutDigest, all_of, is_higher, is_lower, shown_by, shown_plain, with_digest, with_used}
 
-all_told : {X : Type 0} (test : SeenFinding → Bool) (f : X → SeenFinding) (xs : List X) → ((x : X) → test (f x) ≡ true) → filter test (map f xs) ≡ map f xs
-all_told test f [] is = refl
-all_told test f (x ∷ xs) is = rw (is x) (ap (λ l. f x ∷ l) (all_told test f xs is))
+all_reported : {X : Type 0} (test : SeenFinding → Bool) (f : X → SeenFinding) (xs : List X) → ((x : X) → test (f x) ≡ true) → filter test (map f xs) ≡ map f xs
+all_reported test f [] is = refl
+all_reported test f (x ∷ xs) is = rw (is x) (ap (λ l. f x ∷ l) (all_reported test f xs is))
 
-none_told : {X : Type 0} (test : SeenFinding → Bool) (f : X → SeenFinding) (xs : List X) → ((x : X) → test (f x) ≡ false) → filter test (map f xs) ≡ []
-none_told test f [] is = refl
-none_told test f (x ∷ xs) is = rw (is x) (none_told test f xs is)
+none_reported : {X : Type 0} (test : SeenFinding → Bool) (f : X → SeenFinding) (xs : List X) → ((x : X) → test (f x) ≡ false) → filter test (map f xs) ≡ []
+none_reported test f [] is = refl
+none_reported test f (x ∷ xs) is = rw (is x) (none_reported test f xs is)
 
-once_told : (test : SeenFinding → Bool) (n : SeenFinding) (b : Bool) → test n ≡ true → filter test (once n b) ≡ once n b
-once_told test n true is = rw is refl
-once_told test n false is = refl
+once_reported : (test : SeenFinding → Bool) (n : SeenFinding) (b : Bool) → test n ≡ true → filter test (once n b) ≡ once n b
+once_reported test n true is = rw is refl
+once_reported test n false is = refl
 
 once_not : (test : SeenFinding → Bool) (n : SeenFinding) (b : Bool) → test n ≡ false → filter test (once n b) ≡ []
 once_not test n true is = rw is refl
@@ -81,13 +81,13 @@ module _ (ls fs rs : List Rule) (b4 b5 b7 b8 b10 b11 : Bool) (names : List Pair)
       let r = map repeated rs in
       let u = map about_field names in
       let front = five_first E l f r (once Digest b4) (once SegmentNumber b5) [] (once NoContentType b7) (once Profile b8) u (once BareId b10) (once NoOrigin b11)
-      (all_told E absent ls (λ x. refl)) (all_told E forbidden fs (λ x. refl)) (all_told E repeated rs (λ x. refl))
-      (once_told E Digest b4 refl) (once_told E SegmentNumber b5 refl) refl (once_not E NoContentType b7 refl) (once_not E Profile b8 refl) (none_told E about_field names (λ x. refl))
+      (all_reported E absent ls (λ x. refl)) (all_reported E forbidden fs (λ x. refl)) (all_reported E repeated rs (λ x. refl))
+      (once_reported E Digest b4 refl) (once_reported E SegmentNumber b5 refl) refl (once_not E NoContentType b7 refl) (once_not E Profile b8 refl) (none_reported E about_field names (λ x. refl))
       (once_not E BareId b10 refl) (once_not E NoOrigin b11 refl) in
       let back = five_last L l f r (once Digest b4) (once SegmentNumber b5) [] (once NoContentType b7) (once Profile b8) u (once BareId b10) (once NoOrigin b11)
-      (none_told L absent ls (λ x. refl)) (none_told L forbidden fs (λ x. refl)) (none_told L repeated rs (λ x. refl))
-      (once_not L Digest b4 refl) (once_not L SegmentNumber b5 refl) refl (once_told L NoContentType b7 refl) (once_told L Profile b8 refl) (all_told L about_field names (λ x. refl))
-      (once_told L BareId b10 refl) (once_told L NoOrigin b11 refl) in
+      (none_reported L absent ls (λ x. refl)) (none_reported L forbidden fs (λ x. refl)) (none_reported L repeated rs (λ x. refl))
+      (once_not L Digest b4 refl) (once_not L SegmentNumber b5 refl) refl (once_reported L NoContentType b7 refl) (once_reported L Profile b8 refl) (all_reported L about_field names (λ x. refl))
+      (once_reported L BareId b10 refl) (once_reported L NoOrigin b11 refl) in
       ap (λ x. x ++ once IdUsed used ++ filter L (all_by [])) front
       ∙ ap (λ x. (l ++ f ++ r ++ once Digest b4 ++ once SegmentNumber b5) ++ once IdUsed used ++ x) back
       ∙ parted l f r (once Digest b4) (once SegmentNumber b5) (once IdUsed used) (once NoContentType b7) (once Profile b8) u (once BareId b10) (once NoOrigin b11)
@@ -102,13 +102,13 @@ module _ (ls fs rs : List Rule) (b4 b5 b7 b8 b10 b11 : Bool) (names : List Pair)
       let r = map repeated rs in
       let u = map about_field names in
       let front = three_first E l f r (once Digest b4) (once SegmentNumber b5) [] (once NoContentType b7) (once Profile b8) u (once BareId b10) (once NoOrigin b11)
-      (all_told E absent ls (λ x. refl)) (all_told E forbidden fs (λ x. refl)) (all_told E repeated rs (λ x. refl))
-      (once_not E Digest b4 refl) (once_not E SegmentNumber b5 refl) refl (once_not E NoContentType b7 refl) (once_not E Profile b8 refl) (none_told E about_field names (λ x. refl))
+      (all_reported E absent ls (λ x. refl)) (all_reported E forbidden fs (λ x. refl)) (all_reported E repeated rs (λ x. refl))
+      (once_not E Digest b4 refl) (once_not E SegmentNumber b5 refl) refl (once_not E NoContentType b7 refl) (once_not E Profile b8 refl) (none_reported E about_field names (λ x. refl))
       (once_not E BareId b10 refl) (once_not E NoOrigin b11 refl) in
       let back = seven_last L l f r (once Digest b4) (once SegmentNumber b5) [] (once NoContentType b7) (once Profile b8) u (once BareId b10) (once NoOrigin b11)
-      (none_told L absent ls (λ x. refl)) (none_told L forbidden fs (λ x. refl)) (none_told L repeated rs (λ x. refl))
-      (once_not L Digest b4 refl) (once_told L SegmentNumber b5 refl) refl (once_told L NoContentType b7 refl) (once_told L Profile b8 refl) (all_told L about_field names (λ x. refl))
-      (once_told L BareId b10 refl) (once_told L NoOrigin b11 refl) in
+      (none_reported L absent ls (λ x. refl)) (none_reported L forbidden fs (λ x. refl)) (none_reported L repeated rs (λ x. refl))
+      (once_not L Digest b4 refl) (once_reported L SegmentNumber b5 refl) refl (once_reported L NoContentType b7 refl) (once_reported L Profile b8 refl) (all_reported L about_field names (λ x. refl))
+      (once_reported L BareId b10 refl) (once_reported L NoOrigin b11 refl) in
       ap (λ x. x ++ once Digest bad ++ filter L (all_by [])) front
       ∙ ap (λ x. (l ++ f ++ r) ++ once Digest bad ++ x) back
       ∙ parted_three l f r (once Digest bad) (once SegmentNumber b5) [] (once NoContentType b7) (once Profile b8) u (once BareId b10) (once NoOrigin b11)

@@ -6,7 +6,7 @@ use Rattle.sha1.specs.Sha1.{sha1}
 use Rattle.warc_value.specs.declared.hash.Verdict.{Verdict}
 use Rattle.warc_checking.specs.Batch.{AreKeptIn, IsKeptIn, verdict_in, verdict_with, verdicts_in}
 use Rattle.warc_checking.specs.declared.batch.Waiting.{Waiting}
-use Rattle.warc_checking.proofs.OwnFindingLemmas.{all_more, slice_behind, slice_front}
+use Rattle.warc_checking.proofs.OwnFindingLemmas.{all_more, slice_after, slice_front}
 
 -- bytes that are written after the first ones
 pub bytes_more : (used len : ℕ) (all buf rest : List ℕ) → used ≤ length all → length buf ≡ len
@@ -51,7 +51,7 @@ module _ (old new more : List ℕ) (ws : List Waiting) (is : new ≡ old ++ more
 
     last : verdict_in new w ≡ verdict_with w.check (sha1 (drop (length old) new))
     last =
-        let here = ap (λ l. slice_range l w.start w.end) is ∙ slice_behind w.start w.end old more start (end ∙ ap length is) in
+        let here = ap (λ l. slice_range l w.start w.end) is ∙ slice_after w.start w.end old more start (end ∙ ap length is) in
         let there = ap (drop (length old)) is ∙ drop-append_seam old more in
         ap (λ l. verdict_with w.check (sha1 l)) (here ∙ sym there)
 

@@ -9,7 +9,7 @@ use Rattle.warc_record.specs.Good.{IsGood}
 use Rattle.warc_record.proofs.CountLemmas.{findings_are_few}
 use Rattle.warc_reading.specs.Archive.{AreGood, IsArchiveOf, contents}
 use Rattle.warc_record.specs.Blocks.{has_bad_digest}
-use Rattle.warc_checking.specs.Checking.{about_record, findings_at, findings_behind, findings_of_archive, findings_of_records, is_used, record_key}
+use Rattle.warc_checking.specs.Checking.{about_record, findings_at, findings_after, findings_of_archive, findings_of_records, is_used, record_key}
 use Rattle.warc_checking.specs.Checks.{FindingsAreCounted}
 use Rattle.warc_reading.specs.Row.{Row}
 use Rattle.warc_checking.proofs.SizeLemmas.{area_short, fields_few, records_len}
@@ -20,7 +20,7 @@ record_few : (before : List Record) (i : ℕ) (r : Record) → IsGood r → leng
 record_few before i r good =
     omega (
       arith,
-      length-map (findings_behind (take i before) r) (about_record i),
+      length-map (findings_after (take i before) r) (about_record i),
       area_short r good.framed,
       fields_few r.fields,
       findings_are_few r.fields (length r.block) (has_bad_digest r) (is_used (take i before) (record_key r)),

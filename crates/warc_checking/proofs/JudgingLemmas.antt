@@ -67,11 +67,11 @@ each_left (f ∷ fs) (v ∷ vs) zero d lt is =
     sym (ap (λ c. found_by f c ∷ each_found_by fs []) is ∙ ap (λ l. f ∷ l) (found_by_none fs))
 each_left (f ∷ fs) (v ∷ vs) (suc i) d lt is = ap (λ l. found_by f (is_bad v) ∷ l) (each_left fs vs i d (omega (arith, lt)) is)
 
-mark_behind : (before after : List Found) (i place : ℕ) → place ≡ length before + i
+mark_after : (before after : List Found) (i place : ℕ) → place ≡ length before + i
     → mark_at (before ++ after) place ≡ before ++ mark_at after i
-mark_behind [] after i place is = let same : place ≡ i = omega (arith, is) in ap (mark_at after) same
-mark_behind (x ∷ xs) after i zero is = absurd (omega (arith, is))
-mark_behind (x ∷ xs) after i (suc place) is = ap (λ l. x ∷ l) (mark_behind xs after i place (omega (arith, is)))
+mark_after [] after i place is = let same : place ≡ i = omega (arith, is) in ap (mark_at after) same
+mark_after (x ∷ xs) after i zero is = absurd (omega (arith, is))
+mark_after (x ∷ xs) after i (suc place) is = ap (λ l. x ∷ l) (mark_after xs after i place (omega (arith, is)))
 
 -- the records before a place, and those after it, of which the first ones are marked
 abbrev pub marked_from : List Found → ℕ → List Verdict → List Found
@@ -83,7 +83,7 @@ marked_first found place = ap (λ l. take place found ++ l) (found_by_none (drop
 pub marked_more : (found : List Found) (place i : ℕ) (vs : List Verdict) (d : Verdict) → place ≤ length found → i < length vs
     → is_bad (get_or vs i d) ≡ true → mark_at (marked_from found place (take i vs)) (place + i) ≡ marked_from found place (take (i + 1) vs)
 marked_more found place i vs d le lt is =
-    mark_behind (take place found) (each_found_by (drop place found) (take i vs)) i (place + i) (omega (arith, length-take-le place found le))
+    mark_after (take place found) (each_found_by (drop place found) (take i vs)) i (place + i) (omega (arith, length-take-le place found le))
     ∙ ap (λ l. take place found ++ l) (each_marked (drop place found) vs i d lt is)
     ∙ ap (λ n. marked_from found place (take n vs)) (sym (add-one i))
 

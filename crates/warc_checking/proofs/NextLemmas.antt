@@ -10,7 +10,7 @@ use Rattle.warc_record.specs.Blocks.{has_bad_digest}
 use Rattle.warc_record.specs.Findings.{SeenFinding, findings_of}
 use Rattle.warc_record.specs.Good.{GoodHeadsRead}
 use Rattle.warc_record.specs.Ids.{id_key}
-use Rattle.warc_checking.specs.Checking.{findings_behind, is_used, record_key}
+use Rattle.warc_checking.specs.Checking.{findings_after, is_used, record_key}
 use Rattle.warc_checking.specs.Judged.{IsJudgedOf, Judged, own_findings}
 use Rattle.warc_checking.specs.OwnFindings.{AreJudged, IsDue, found_at, with_used}
 use Rattle.warc_checking.specs.UsedIds.{HoldsIdsOf, Ids, IsTally}
@@ -47,13 +47,13 @@ module _ (law : GoodHeadsRead) (before : List Record) (p : Placed) (row : Row) (
   used_is : used ≡ is_used before (record_key p.content)
   used_is = is ∙ ap (is_used before) (sym (key_by_row p row next.row_is (law p.content.fields next.good)))
 
-  pub next_found : with_used found used ≡ findings_behind before p.content
+  pub next_found : with_used found used ≡ findings_after before p.content
   next_found =
       let r = p.content in
       ap (λ f. with_used f used) next.found_is ∙ used_among r.fields (length r.block) (has_bad_digest r) used
       ∙ ap (λ b. findings_of r.fields (length r.block) (has_bad_digest r) b) used_is
 
-  pub next_count : length found + (if used then 1 else 0) ≡ length (findings_behind before p.content)
+  pub next_count : length found + (if used then 1 else 0) ≡ length (findings_after before p.content)
   next_count =
       let r = p.content in
       ap (λ f. length f + (if used then 1 else 0)) next.found_is ∙ used_count r.fields (length r.block) (has_bad_digest r) used

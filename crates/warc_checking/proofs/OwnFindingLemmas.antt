@@ -16,7 +16,7 @@ use Rattle.warc_checking.specs.OwnFindings.{AreEnds, AreEndsFrom, AreNamed, IsNa
 use Rattle.warc_checking.specs.declared.own_findings.DigestState.{DigestState}
 use Rattle.warc_checking.specs.declared.own_findings.DigestState.TheVariants.{Outside, Unmarked, Marked}
 use Rattle.warc_checking.specs.declared.own_findings.PackedFinding.{PackedFinding}
-use Rattle.warc_checking.specs.declared.own_findings.Part.{Part}
+use Rattle.warc_checking.specs.declared.own_findings.FindingSpan.{FindingSpan}
 use Rattle.warc_checking.proofs.CheckLemmas.{text_append}
 
 -- a part of a list stays when more follow
@@ -26,8 +26,8 @@ slice_front a b xs more order le =
     ∙ take-append-le (b - a) (drop a xs) more (omega (arith, length-drop a xs, order, le))
 
 -- what stands behind a list
-pub slice_behind : {X : Type 0} (a b : ℕ) (xs ys : List X) → a ≡ length xs → b ≡ length (xs ++ ys) → slice_range (xs ++ ys) a b ≡ ys
-slice_behind a b xs ys start end =
+pub slice_after : {X : Type 0} (a b : ℕ) (xs ys : List X) → a ≡ length xs → b ≡ length (xs ++ ys) → slice_range (xs ++ ys) a b ≡ ys
+slice_after a b xs ys start end =
     ap (λ n. take (b - n) (drop n (xs ++ ys))) start ∙ ap (take (b - length xs)) (drop-append_seam xs ys)
     ∙ take_all (b - length xs) ys (omega (arith, end, length-append xs ys))
 
@@ -106,7 +106,7 @@ module _ (names new name : List ℕ) (ns : List PackedFinding) (n : PackedFindin
       (record { order = omega (arith, start, end, longer); end = omega (arith, end) })
 
   pub packed_name : slice_range new n.start n.end ≡ name
-  packed_name = ap (λ l. slice_range l n.start n.end) names_is ∙ slice_behind n.start n.end names name start (end ∙ ap length names_is)
+  packed_name = ap (λ l. slice_range l n.start n.end) names_is ∙ slice_after n.start n.end names name start (end ∙ ap length names_is)
 
   pub packed_more : (f : SeenFinding) → finding_in new n ≡ f → all_found new (ns ++ n ∷ []) ≡ all_found names ns ++ f ∷ []
   packed_more f is =
@@ -176,7 +176,7 @@ part_more findings new more ends end is start end_is all =
     let (within, same) = parts_kept findings new more ends is all in
     let size : length new ≡ length findings + length more = ap length is ∙ length-append findings more in
     let here : slice_range new (last_end 0 ends) end ≡ more =
-    ap (λ l. slice_range l (last_end 0 ends) end) is ∙ slice_behind (last_end 0 ends) end findings more (sym start) (end_is ∙ ap length is) in (
+    ap (λ l. slice_range l (last_end 0 ends) end) is ∙ slice_after (last_end 0 ends) end findings more (sym start) (end_is ∙ ap length is) in (
       ends_more (length new) 0 ends end (omega (arith, start, end_is, size)) (omega (arith, end_is)) within,
       found_more_from new 0 ends end ∙ ap (λ l. l ++ slice_range new (last_end 0 ends) end ∷ []) same
           ∙ ap (λ f. found_by_part findings ends ++ f ∷ []) here,
@@ -220,7 +220,7 @@ part_from findings start [] i d lt = absurd (omega (arith, lt))
 part_from findings start (e ∷ es) zero d lt = refl
 part_from findings start (e ∷ es) (suc i) d lt = part_from findings e es i d (omega (arith, lt))
 
-pub part_found_at : (findings : List SeenFinding) (ends : List ℕ) (i d : ℕ) (p : Part) → i < length ends
+pub part_found_at : (findings : List SeenFinding) (ends : List ℕ) (i d : ℕ) (p : FindingSpan) → i < length ends
     → p.start ≡ last_end 0 (take i ends) → p.end ≡ get_or ends i d → findings_of_part findings p ≡ found_at (found_by_part findings ends) i
 part_found_at findings ends i d p lt start end =
     ap (λ n. slice_range findings n p.end) start ∙ ap (slice_range findings (last_end 0 (take i ends))) end
@@ -233,7 +233,7 @@ part_within_from count start (e ∷ es) zero d lt (here, all) =
     let (order, end) = ends_within count e es all in (here, omega (arith, order, end))
 part_within_from count start (e ∷ es) (suc i) d lt (here, all) = part_within_from count e es i d (omega (arith, lt)) all
 
-pub part_within : (count : ℕ) (ends : List ℕ) (i d : ℕ) (p : Part) → i < length ends
+pub part_within : (count : ℕ) (ends : List ℕ) (i d : ℕ) (p : FindingSpan) → i < length ends
     → p.start ≡ last_end 0 (take i ends) → p.end ≡ get_or ends i d → AreEnds count ends → IsPart count p
 part_within count ends i d p lt start end all =
     let (order, within) = part_within_from count 0 ends i d lt all in
@@ -278,10 +278,10 @@ unjudged_first n records = take-map unjudged n (contents records) ∙ ap (map un
 
 module _ {X : Type 0} (seen : X → SeenFinding) (test : SeenFinding → Bool) where
   -- the lines of one more finding, if it passes
-  pub told_more : (position : ℕ) (xs : List X) (i : ℕ) (d : X) (output : List ℕ) → i < length xs
+  pub reported_more : (position : ℕ) (xs : List X) (i : ℕ) (d : X) (output : List ℕ) → i < length xs
       → (output ++ record_lines position (filter test (map seen (take i xs)))) ++ record_lines position (filter test (seen (get_or xs i d) ∷ []))
       ≡ output ++ record_lines position (filter test (map seen (take (i + 1) xs)))
-  told_more position xs i d output lt =
+  reported_more position xs i d output lt =
       let so_far = filter test (map seen (take i xs)) in
       let one = filter test (seen (get_or xs i d) ∷ []) in
       let more : filter test (map seen (take (i + 1) xs)) ≡ so_far ++ one = ap (filter test) (map_more seen xs i d lt) ∙ filter-append test (map seen (take i xs)) (seen (get_or xs i d) ∷ []) in
@@ -289,9 +289,9 @@ module _ {X : Type 0} (seen : X → SeenFinding) (test : SeenFinding → Bool) w
       ∙ ap (λ l. output ++ l) (sym (text_append position so_far one) ∙ ap (record_lines position) (sym more))
 
   -- the lines so far, and the others
-  pub told_rest : (position : ℕ) (xs : List X) (i : ℕ) (output : List ℕ)
+  pub reported_rest : (position : ℕ) (xs : List X) (i : ℕ) (output : List ℕ)
       → (output ++ record_lines position (filter test (map seen (take i xs)))) ++ record_lines position (filter test (map seen (drop i xs))) ≡ output ++ record_lines position (filter test (map seen xs))
-  told_rest position xs i output =
+  reported_rest position xs i output =
       let so_far = filter test (map seen (take i xs)) in
       let rest = filter test (map seen (drop i xs)) in
       append_assoc output (record_lines position so_far) (record_lines position rest)
@@ -309,11 +309,11 @@ pub last_texts : (position : ℕ) (a b c : List SeenFinding) (output : List ℕ)
 last_texts position a b c output = two_texts position a (b ++ c) output ∙ ap (λ l. output ++ record_lines position l) (sym (append_assoc a b c))
 
 -- the findings of a part of the packed ones
-pub part_found : (names : List ℕ) (findings : List PackedFinding) (p : Part) → all_found names (slice_range findings p.start p.end) ≡ findings_of_part (all_found names findings) p
+pub part_found : (names : List ℕ) (findings : List PackedFinding) (p : FindingSpan) → all_found names (slice_range findings p.start p.end) ≡ findings_of_part (all_found names findings) p
 part_found names findings p =
     sym (ap (take (p.end - p.start)) (drop-map (finding_in names) p.start findings) ∙ take-map (finding_in names) (p.end - p.start) (drop p.start findings))
 
-pub part_len : (findings : List SeenFinding) (p : Part) → IsPart (length findings) p → p.end - p.start ≡ length (findings_of_part findings p)
+pub part_len : (findings : List SeenFinding) (p : FindingSpan) → IsPart (length findings) p → p.end - p.start ≡ length (findings_of_part findings p)
 part_len findings p is = sym (length-take-le (p.end - p.start) (drop p.start findings) (omega (arith, length-drop p.start findings, is.order, is.end)))
 
 -- the line of a finding, if it holds
@@ -322,7 +322,7 @@ once_line position f true is = sym (append-nil (line_text (about_record position
 once_line position f false is = absurd (cc is)
 
 -- a part that lies within, whatever the ends are called
-pub part_is : (count : ℕ) (ends slice : List ℕ) (p : Part) → slice ≡ ends → ((n : ℕ) → AreEnds n slice → IsPart n p) → AreEnds count ends → IsPart count p
+pub part_is : (count : ℕ) (ends slice : List ℕ) (p : FindingSpan) → slice ≡ ends → ((n : ℕ) → AreEnds n slice → IsPart n p) → AreEnds count ends → IsPart count p
 part_is count ends slice p same within all = let P : List ℕ → Type 0 = λ l. AreEnds count l in within count (subst P (sym same) all)
 
 -- N4 and N6 are put among the others by three ranges of numbers

@@ -20,7 +20,7 @@ use Rattle.warc_reading.specs.Row.{Placed, Row, row_of}
 use Rattle.warc_reading.specs.declared.reread.RereadFault.{RereadFault}
 use Rattle.warc_reading.specs.declared.reread.RereadFault.TheVariants.{Read, Memory}
 use Rattle.warc_reading.proofs.PlacedLemmas.{below, content_at, take_one}
-use Rattle.warc_checking.specs.Checking.{Line, about_record, findings_at, findings_behind, findings_of_records, line_text}
+use Rattle.warc_checking.specs.Checking.{Line, about_record, findings_at, findings_after, findings_of_records, line_text}
 use Rattle.warc_checking.specs.Lines.{findings_of_first, first_text, record_lines, records_text}
 use Rattle.warc_checking.specs.UsedIds.{HoldsIdsOf, Ids}
 
@@ -43,21 +43,21 @@ first_more rs i r is =
 
 -- the lines of one more record, and their number
 pub text_more : (records : List Placed) (i : ℕ) (p : Placed) (output : List ℕ) → slice_get records i ≡ Some p
-    → (output ++ first_text i (contents records)) ++ record_lines i (findings_behind (take i (contents records)) p.content) ≡ output ++ first_text (i + 1) (contents records)
+    → (output ++ first_text i (contents records)) ++ record_lines i (findings_after (take i (contents records)) p.content) ≡ output ++ first_text (i + 1) (contents records)
 text_more records i p output at =
     let rs = contents records in
     let more = ap (flat_map line_text) (first_more rs i p.content (content_at records i p at)) ∙ flat_map-append line_text (findings_of_first i rs) (findings_at rs i p.content) in
-    append_assoc output (first_text i rs) (record_lines i (findings_behind (take i rs) p.content)) ∙ ap (λ l. output ++ l) (sym more)
+    append_assoc output (first_text i rs) (record_lines i (findings_after (take i rs) p.content)) ∙ ap (λ l. output ++ l) (sym more)
 
 saturated : (a b m : ℕ) → min (min a m + min b m) m ≡ min (a + b) m
 saturated a b m = omega arith
 
 pub number_more : (records : List Placed) (i : ℕ) (p : Placed) → slice_get records i ≡ Some p
-    → capped (capped (length (findings_of_first i (contents records))) + capped (length (findings_behind (take i (contents records)) p.content))) ≡ capped (length (findings_of_first (i + 1) (contents records)))
+    → capped (capped (length (findings_of_first i (contents records))) + capped (length (findings_after (take i (contents records)) p.content))) ≡ capped (length (findings_of_first (i + 1) (contents records)))
 number_more records i p at =
     let rs = contents records in
-    let found = findings_behind (take i rs) p.content in
-    let size : length (findings_at rs i p.content) ≡ length found = length-map (findings_behind (take i rs) p.content) (about_record i) in
+    let found = findings_after (take i rs) p.content in
+    let size : length (findings_at rs i p.content) ≡ length found = length-map (findings_after (take i rs) p.content) (about_record i) in
     let more : length (findings_of_first (i + 1) rs) ≡ length (findings_of_first i rs) + length found =
     ap length (first_more rs i p.content (content_at records i p at)) ∙ length-append (findings_of_first i rs) (findings_at rs i p.content) ∙ ap (λ n. length (findings_of_first i rs) + n) size in
     saturated (length (findings_of_first i rs)) (length found) (2 ^ 64 - 1) ∙ ap capped (sym more)
@@ -119,7 +119,7 @@ module _ (fault : RereadFault) (e : OutFault) (is : e ≡ ended_by fault 0) wher
   none_sent = ap sent_of is ∙ unsent fault
 
   pub none_out : (start : Option (List ℕ)) (output : List ℕ) → WentOut start output start (sent_of e)
-  none_out start output = record { count = 0; within = omega arith; told = sym (append_none start); number = none_sent }
+  none_out start output = record { count = 0; within = omega arith; reported = sym (append_none start); number = none_sent }
 
   pub none_failed : (n : ℕ) → n ≡ failed_with e n
   none_failed n = sym (ap (λ f. failed_with f n) is ∙ silent fault n)

@@ -13,10 +13,10 @@ use Rattle.warc_frame.specs.VersionLine.{version_line}
 use Rattle.warc_frame.specs.declared.version.Version.{Version}
 use Rattle.warc_frame.specs.declared.version.Version.TheVariants.{V1_0, V1_1}
 use Rattle.warc_record.specs.Blocks.{has_bad_digest}
-use Rattle.warc_record.specs.FindingLaws.{FindingsAreFew, FindingsAreShort, told_len}
+use Rattle.warc_record.specs.FindingLaws.{FindingsAreFew, FindingsAreShort, reported_len}
 use Rattle.warc_record.specs.Findings.{SeenFinding, finding_field, finding_number}
 use Rattle.warc_reading.specs.Archive.{AreGood}
-use Rattle.warc_checking.specs.Checking.{about_record, field_text, findings_at, findings_behind, check_text, is_used, record_key, line_text}
+use Rattle.warc_checking.specs.Checking.{about_record, field_text, findings_at, findings_after, check_text, is_used, record_key, line_text}
 
 -- a number of 64 bits has at most 20 digits
 pub digits : (n : ℕ) → n < 2 ^ 64 → length (decimal n) ≤ 20
@@ -58,34 +58,34 @@ field_len : (name : Option (List ℕ)) → length (field_text name) ≤ length (
 field_len None = omega arith
 field_len (Some name) = omega arith
 
-line_short : (position : ℕ) (found : SeenFinding) → position < 2 ^ 64 → length (line_text (about_record position found)) ≤ told_len found + 24
+line_short : (position : ℕ) (found : SeenFinding) → position < 2 ^ 64 → length (line_text (about_record position found)) ≤ reported_len found + 24
 unfolding line_text
 line_short position found low =
     let size : (a b c : List ℕ) → length (a ++ codes " N" ++ b ++ c ++ codes "\n") ≡ length a + length b + length c + 3 = λ a b c. simp length-append (omega arith) in
     omega (arith, digits position low, field_len (finding_field found), size (decimal position) (decimal (finding_number found)) (field_text (finding_field found)))
 
 lines_short : (position : ℕ) (founds : List SeenFinding) → position < 2 ^ 64
-    → length (flat_map line_text (map (about_record position) founds)) ≤ sum_by told_len founds + 24 * length founds
+    → length (flat_map line_text (map (about_record position) founds)) ≤ sum_by reported_len founds + 24 * length founds
 lines_short position [] low = omega arith
 lines_short position (f ∷ fs) low =
     omega (
       arith,
       line_short position f low,
       lines_short position fs low,
-      sum_by-cons told_len f fs,
+      sum_by-cons reported_len f fs,
       length-append (line_text (about_record position f)) (flat_map line_text (map (about_record position) fs)),
     )
 
 -- the lines of a record
 checked_short : FindingsAreFew → FindingsAreShort → (before : List Record) (position : ℕ) (r : Record) → IsFramed r → position < 2 ^ 64
-    → length (flat_map line_text (map (about_record position) (findings_behind before r))) ≤ 461200
+    → length (flat_map line_text (map (about_record position) (findings_after before r))) ≤ 461200
 checked_short few short before position r framed low =
     let used = is_used before (record_key r) in
     omega (
       arith,
       area_short r framed,
       fields_few r.fields,
-      lines_short position (findings_behind before r) low,
+      lines_short position (findings_after before r) low,
       few r.fields (length r.block) (has_bad_digest r) used,
       short r.fields (length r.block) (has_bad_digest r) used,
     )

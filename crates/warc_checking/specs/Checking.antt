@@ -22,15 +22,15 @@ abbrev pub is_used : List Record → Option (List ℕ) → Bool
 is_used records key = list_any (λ r. is_same_text (record_key r) key) records
 
 -- the findings of a record, by those before it
-abbrev pub findings_behind : List Record → Record → List SeenFinding
-findings_behind before r = findings_of r.fields (length r.block) (has_bad_digest r) (is_used before (record_key r))
+abbrev pub findings_after : List Record → Record → List SeenFinding
+findings_after before r = findings_of r.fields (length r.block) (has_bad_digest r) (is_used before (record_key r))
 
 abbrev pub about_record : ℕ → SeenFinding → Line
 about_record position found = record { position = Some position; finding = found }
 
 -- the findings of the record at a position
 abbrev pub findings_at : List Record → ℕ → Record → List Line
-findings_at records position r = map (about_record position) (findings_behind (take position records) r)
+findings_at records position r = map (about_record position) (findings_after (take position records) r)
 
 -- the findings of all records
 abbrev pub findings_of_records : List Record → List Line

@@ -13,23 +13,23 @@ use Rattle.warc_reading.specs.Row.{Row}
 use Rattle.warc_frame.specs.Seen.{IfHeld, Seen, SeenSource}
 
 -- a line was written for each finding of the records, or a front of the lines; and how many lines there are
-abbrev pub AreTold : List Record → Result ℕ OutFault → Seen → Seen → Type 0
-AreTold records answer before after = OnOk answer (after.tells ≡ append_known before.tells (check_text records))
+abbrev pub AreReported : List Record → Result ℕ OutFault → Seen → Seen → Type 0
+AreReported records answer before after = OnOk answer (after.reports ≡ append_known before.reports (check_text records))
 
 abbrev pub AreCounted : List Record → Result ℕ OutFault → Type 0
 AreCounted records answer = IfOk answer (λ n. n ≡ length (findings_of_archive records))
 
 abbrev pub AreCutOff : List Record → Result ℕ OutFault → Seen → Seen → Type 0
 AreCutOff records answer before after =
-    IfErr answer (λ e. WentOut before.tells (check_text records) after.tells (sent_of e))
+    IfErr answer (λ e. WentOut before.reports (check_text records) after.reports (sent_of e))
 
 -- Checking an archive of these rows. If its source holds the archive's bytes, a line is written for each finding of
 -- the records that they spell, and counted, or a front of the lines is. Of any source only heads and blocks are read,
 -- at most once for each byte of theirs
 pub record Checks (rows : List Row) (old new : SeenSource) (before after : Seen) (answer : Result ℕ OutFault)
     : Type 0 where
-  pub told : IfHeld old.holds (λ bytes. (is : IsArchiveOf bytes rows)
-      → AreTold (contents is.are.records) answer before after)
+  pub reported : IfHeld old.holds (λ bytes. (is : IsArchiveOf bytes rows)
+      → AreReported (contents is.are.records) answer before after)
   pub number : IfHeld old.holds (λ bytes. (is : IsArchiveOf bytes rows)
       → AreCounted (contents is.are.records) answer)
   pub cut : IfHeld old.holds (λ bytes. (is : IsArchiveOf bytes rows)
@@ -43,7 +43,7 @@ pub record Checks (rows : List Row) (old new : SeenSource) (before after : Seen)
 -- writing what was found of records as they were read: a line is written for each finding, and counted, or a front of
 -- the lines is
 pub record WritesFindings (records : List Record) (before after : Seen) (answer : Result ℕ OutFault) : Type 0 where
-  pub told : AreTold records answer before after
+  pub reported : AreReported records answer before after
   pub number : AreCounted records answer
   pub cut : AreCutOff records answer before after
 

@@ -30,10 +30,10 @@ first_text n records = flat_map line_text (findings_of_first n records)
 -- front of it all went out
 pub record PutsLines (text : List ℕ) (count : ℕ) (old new : Seen) (waits waiting : Staged) (answer : Result ℕ OutFault)
     : Type 0 where
-  pub out : (start : Option (List ℕ)) (output : List ℕ) → IsStaged start output old.tells waits
-      → OnOk answer (IsStaged start (output ++ text) new.tells waiting)
-  pub cut : (start : Option (List ℕ)) (output : List ℕ) → IsStaged start output old.tells waits
-      → IfErr answer (λ e. WentOut start (output ++ text) new.tells (sent_of e))
+  pub out : (start : Option (List ℕ)) (output : List ℕ) → IsStaged start output old.reports waits
+      → OnOk answer (IsStaged start (output ++ text) new.reports waiting)
+  pub cut : (start : Option (List ℕ)) (output : List ℕ) → IsStaged start output old.reports waits
+      → IfErr answer (λ e. WentOut start (output ++ text) new.reports (sent_of e))
   pub number : IfOk answer (λ n. n ≡ capped count)
 
 -- the lines of the findings of records, and how many lines there are

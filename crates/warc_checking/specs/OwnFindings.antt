@@ -18,7 +18,7 @@ use Rattle.warc_checking.specs.UsedIds.{HoldsIdsOf, Ids, IsAlone}
 use Rattle.warc_checking.specs.declared.own_findings.DigestState.{DigestState}
 use Rattle.warc_checking.specs.declared.own_findings.DigestState.TheVariants.{Outside, Unmarked, Marked}
 use Rattle.warc_checking.specs.declared.own_findings.PackedFinding.{PackedFinding}
-use Rattle.warc_checking.specs.declared.own_findings.Part.{Part}
+use Rattle.warc_checking.specs.declared.own_findings.FindingSpan.{FindingSpan}
 
 -- the finding of a number, with the name of a field if it is about one
 abbrev pub finding_by_number : ℕ → List ℕ → SeenFinding
@@ -52,12 +52,12 @@ abbrev pub AreNamed : ℕ → List PackedFinding → Type 0
 AreNamed count findings = AllByRecursion (IsNamed count) findings
 
 -- a part of n findings
-pub record IsPart (count : ℕ) (p : Part) : Type 0 where
+pub record IsPart (count : ℕ) (p : FindingSpan) : Type 0 where
   pub order : p.start ≤ p.end
   pub end : p.end ≤ count
 
 -- the findings of a part
-abbrev pub findings_of_part : List SeenFinding → Part → List SeenFinding
+abbrev pub findings_of_part : List SeenFinding → FindingSpan → List SeenFinding
 findings_of_part findings p = slice_range findings p.start p.end
 
 -- the findings of each part, by where the parts end: each starts at the end of the one before it, and the first at a

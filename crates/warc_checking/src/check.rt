@@ -85,7 +85,7 @@ fn judge_each<S: Source, A: Allocator + Copy>(
 }
 
 /// The findings that each record alone shows. Each head is read again, and each block whose digest can be checked.
-fn judge_rows<S: Source, A: Allocator + Copy>(
+fn row_findings<S: Source, A: Allocator + Copy>(
     alloc: A,
     source: &mut S,
     rows: &Rows<A>,
@@ -120,7 +120,7 @@ pub fn check_rows<S: Source, A: Allocator + Copy, W: Sink>(
     ensures { Checks rows.now (S.seen source.old) (S.seen source.new) (W.seen out.old) (W.seen out.new) result }
 {
     head_of_spelled();
-    let findings = match judge_rows(alloc, source, rows) {
+    let findings = match row_findings(alloc, source, rows) {
         Ok(findings) => findings,
         Err(fault) => return Err(fault.after(0)),
     };

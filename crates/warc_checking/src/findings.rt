@@ -21,7 +21,7 @@ use std::alloc::{AllocError, Allocator};
 use std::marker::Model;
 use warc_field::Fields;
 use warc_frame::Source;
-use warc_quick::{QuickHead, QuickRecord, judged_text};
+use warc_quick::{QuickHead, QuickRecord, text_findings};
 use warc_reading::{BlockDigest, Keep, RereadFault, Row, good_head_in, reread_text};
 use warc_record::GoodHead;
 use warc_value::{Verdict, Wanted};
@@ -93,7 +93,7 @@ fn add_head<A: Allocator + Copy>(
     ensures more { OnOk result ((found : Found) × (findings.new ≡ findings.old ++ found ∷ [])) }
     ensures err { OnErr result (findings.new ≡ findings.old) }
 {
-    let Some((wanted, found)) = judged_text(text, block_len) else {
+    let Some((wanted, found)) = text_findings(text, block_len) else {
         return add_good_head(alloc, text, block_len, findings);
     };
     match findings.add_plain(&found) {

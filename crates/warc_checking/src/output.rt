@@ -7,8 +7,8 @@ ghost use Rattle.warc_frame.specs.Send.{IsStaged, WentOut, sent_of};
 ghost use Rattle.warc_record.specs.Ids.{id_key};
 ghost use Rattle.warc_reading.specs.Archive.{contents};
 ghost use Rattle.warc_reading.specs.Row.{Placed};
-ghost use Rattle.warc_checking.specs.Checking.{findings_behind, findings_of_archive};
-ghost use Rattle.warc_checking.specs.Checks.{AreCutOff, AreTold};
+ghost use Rattle.warc_checking.specs.Checking.{findings_after, findings_of_archive};
+ghost use Rattle.warc_checking.specs.Checks.{AreCutOff, AreReported};
 ghost use Rattle.warc_checking.specs.Lines.{PutsCheck, PutsFindingsOf, record_lines};
 ghost use Rattle.warc_checking.specs.OwnFindings.{AreJudged, IsDue, all_of, found_at};
 ghost use Rattle.warc_checking.specs.UsedIds.{HoldsIdsOf, IsBucketAt, IsTally};
@@ -36,17 +36,17 @@ fn put_next<A: Allocator + Copy, W: Sink>(
     requires bucket { (key : List ℕ) → id_key row.now.id ≡ Some key → IsBucketAt ids.old position key }
     ensures out { (before : List Record) (p : Placed) (start : Option (List ℕ)) (output : List ℕ) →
         IsDue before p row.now (found_at (map all_of findings.now) position) ids.old →
-        IsStaged start output (W.seen out.old).tells buffer.old →
-        OnOk result (IsStaged start (output ++ record_lines position (findings_behind before p.content))
-        (W.seen out.new).tells buffer.new) }
+        IsStaged start output (W.seen out.old).reports buffer.old →
+        OnOk result (IsStaged start (output ++ record_lines position (findings_after before p.content))
+        (W.seen out.new).reports buffer.new) }
     ensures cut { (before : List Record) (p : Placed) (start : Option (List ℕ)) (output : List ℕ) →
         IsDue before p row.now (found_at (map all_of findings.now) position) ids.old →
-        IsStaged start output (W.seen out.old).tells buffer.old →
-        IfErr result (λ e. WentOut start (output ++ record_lines position (findings_behind before p.content))
-        (W.seen out.new).tells (sent_of e)) }
+        IsStaged start output (W.seen out.old).reports buffer.old →
+        IfErr result (λ e. WentOut start (output ++ record_lines position (findings_after before p.content))
+        (W.seen out.new).reports (sent_of e)) }
     ensures number { (before : List Record) (p : Placed) →
         IsDue before p row.now (found_at (map all_of findings.now) position) ids.old →
-        IfOk result (λ n. n ≡ capped (length (findings_behind before p.content))) }
+        IfOk result (λ n. n ≡ capped (length (findings_after before p.content))) }
     ensures ids { (before : List Record) (p : Placed) →
         IsDue before p row.now (found_at (map all_of findings.now) position) ids.old →
         OnOk result (HoldsIdsOf (before ++ p.content ∷ []) ids.new) }
@@ -84,7 +84,7 @@ fn put_each<A: Allocator + Copy, W: Sink>(
     went_out_of_longer();
     good_heads_read();
     let mut count = 0usize;
-    'telling: for position in 0..rows.len() {
+    'reporting: for position in 0..rows.len() {
         let Some(row) = rows.get(position) else {
             unreachable!()
         };
@@ -128,9 +128,9 @@ pub fn write_findings<A: Allocator + Copy, W: Sink>(
     findings: &OwnFindings<A>,
     out: &mut W,
 ) -> Result<usize, OutFault>
-    ensures told { (bytes : List ℕ) (records : List Placed) →
+    ensures reported { (bytes : List ℕ) (records : List Placed) →
         AreJudged bytes records rows.now (map all_of findings.now) →
-        AreTold (contents records) result (W.seen out.old) (W.seen out.new) }
+        AreReported (contents records) result (W.seen out.old) (W.seen out.new) }
     ensures number { (bytes : List ℕ) (records : List Placed) →
         AreJudged bytes records rows.now (map all_of findings.now) →
         IfOk result (λ n. n ≡ capped (length (findings_of_archive (contents records)))) }

@@ -321,7 +321,7 @@ impl<A: Allocator> FindingList<A> {
     /// Adds the lines of a part to the output, and of N4 and N6 among them, if they hold.
     fn put<W: Sink>(
         &self,
-        part: Part,
+        part: FindingSpan,
         position: u64,
         facts: ArchiveFacts,
         buffer: &mut OutBuffer,
@@ -347,7 +347,7 @@ impl<A: Allocator> FindingList<A> {
 fn put_part<W: Sink>(
     names: &[u8],
     findings: &[PackedFinding],
-    part: Part,
+    part: FindingSpan,
     position: u64,
     facts: ArchiveFacts,
     buffer: &mut OutBuffer,
@@ -413,7 +413,7 @@ fn add_others<A: Allocator + Copy>(
 
 /// The place of a record's findings among all findings.
 #[derive(Clone, Copy)]
-struct Part {
+struct FindingSpan {
     start: usize,
     end: usize,
 }
@@ -430,15 +430,15 @@ fn end_before(ends: &[usize], position: usize) -> usize
 }
 
 /// The part at a place, an empty one past the end.
-fn part_at(ends: &[usize], position: usize) -> Part
+fn part_at(ends: &[usize], position: usize) -> FindingSpan
     ensures is { (findings : List SeenFinding) → findings_of_part findings result
         ≡ found_at (found_by_part findings ends.now) position }
     ensures within { (count : ℕ) → AreEnds count ends.now → IsPart count result }
 {
     if position >= ends.len() {
-        return Part { start: 0, end: 0 };
+        return FindingSpan { start: 0, end: 0 };
     }
-    Part {
+    FindingSpan {
         start: end_before(ends, position),
         end: ends[position],
     }

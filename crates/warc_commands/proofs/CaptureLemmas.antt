@@ -25,7 +25,7 @@ use Rattle.warc.specs.Outcomes.{CaptureSeen}
 use Rattle.warc_arguments.specs.Digits.{uri_named}
 use Rattle.warc_commands.specs.Captures.{AnswerEnds, AreFrontIn, AreListed, CapturesEnds, CountEnds, WritesListed}
 use Rattle.warc_commands.specs.Devices.{Devices, devices}
-use Rattle.warc_commands.specs.Program.{Tells, told_line}
+use Rattle.warc_commands.specs.Program.{Reports, reported_line}
 use Rattle.warc_commands.specs.Uris.{IsStarved, UriEnds, uri_fault_text, uri_listed}
 use Rattle.warc_arguments.specs.declared.digits.UriFault.{UriFault}
 use Rattle.warc_arguments.specs.declared.digits.UriFault.TheVariants.{Digits, Memory}
@@ -34,14 +34,14 @@ use Rattle.warc.proofs.SurveyLemmas.{captures_inside}
 
 -- ---- how the lines end
 
-nothing_more : (told : Option (List ℕ)) → append_known told [] ≡ told
+nothing_more : (reported : Option (List ℕ)) → append_known reported [] ≡ reported
 nothing_more None = refl
 nothing_more (Some bytes) = ap Some (append-nil bytes)
 
 -- nothing went out
-none_out : (told : Option (List ℕ)) (rows : List Row) → WentOut told (captures_text rows []) told 0
+none_out : (reported : Option (List ℕ)) (rows : List Row) → WentOut reported (captures_text rows []) reported 0
 unfolding captures_text
-none_out told rows = record { count = 0; within = omega arith; told = sym (nothing_more told); number = refl }
+none_out reported rows = record { count = 0; within = omega arith; reported = sym (nothing_more reported); number = refl }
 
 count_by : (n : ℕ) (captures : List CaptureSeen) (old new : Seen) (status : ℕ) → n ≡ length captures → AnswerEnds (Ok n) old new status → CountEnds captures old new status
 count_by n [] old new status count (inl none) = (none.1, none.2)
@@ -57,7 +57,7 @@ captures_end uri archive rows (Ok count) old mid last new out out' err err' stat
   rows = rows;
   captures = writes.captures;
   are = λ bytes held. writes.all bytes (opened.reads.kept ∙ held) (opened.accepted bytes held);
-  told = writes.told;
+  reported = writes.reported;
   unfailed = writes.cause;
   sound = same ∙ writes.fails.may ∙ opened.reads.cause;
   ends = count_by count writes.captures err err' status writes.count ends;
@@ -73,7 +73,7 @@ captures_end uri archive rows (Err fault) old mid last new out out' err err' sta
     may = may_have_failed fault _ _ _ _ opened.reads.cause (sym same) writes.fails.may;
     failed = λ bytes held is. has_failed fault _ _ _ _ opened.reads.cause (sym same) (writes.fails.failed bytes (opened.reads.kept ∙ held) (opened.accepted bytes held));
   };
-  told = ends.0;
+  reported = ends.0;
   status_is = ends.1;
 }))
 
@@ -84,8 +84,8 @@ writes_none {Is} {uri} {rows} {s} {to} = record {
   first = λ bytes held is. inl refl;
   all = λ bytes held is. tt;
   count = tt;
-  told = tt;
-  cut = none_out to.tells rows;
+  reported = tt;
+  cut = none_out to.reports rows;
   inside = λ bytes is off. refl;
   keeps = record { kept = refl; watched = refl };
   fails = record { may = refl; failed = λ bytes held is. refl };
@@ -126,7 +126,7 @@ module _ {Is : List ℕ → Type 0} {Right : List Placed → Type 0} {uri : Opti
         inr (record { is = of; positions = positions; listed = listed; outcomes = outcomes_in (contents of.are.records) positions given sends.captures same (sends.are bytes held of kept right) });
     all = λ bytes held is. tt;
     count = tt;
-    told = tt;
+    reported = tt;
     cut = sends.cut;
     inside = λ bytes is. let (of, kept, right, listed) = are bytes is in sends.inside bytes (of, kept);
     keeps = sends.keeps;
@@ -151,7 +151,7 @@ module _ {Is : List ℕ → Type 0} {Right : List Placed → Type 0} {uri : Opti
               outcomes = all_outcomes (contents of.are.records) positions sends.captures size (outcomes_in (contents of.are.records) positions given sends.captures same (sends.are bytes held of kept right));
             };
         count = count ∙ sym size;
-        told = sends.told;
+        reported = sends.reported;
         cut = tt;
         inside = λ bytes is. let (of, kept, right, listed) = are bytes is in sends.inside bytes (of, kept);
         keeps = sends.keeps;
@@ -194,20 +194,20 @@ starved ends (Some x) old new status is = inr is
 
 -- nothing was read, since the digits name nothing or memory is wanting
 pub uri_refused : {X : Type 0} (ends : X → Devices → Devices → ℕ → Type 0) (o : Option X) (fault : UriFault) (source : SeenSource) (out err err' : Seen) (status : ℕ)
-    → (fault ≡ Digits → o ≡ None) → Tells (told_line (uri_fault_text fault)) err err' → status ≡ 3
+    → (fault ≡ Digits → o ≡ None) → Reports (reported_line (uri_fault_text fault)) err err' → status ≡ 3
     → UriEnds ends true o (devices source out err) (devices source out err') status
-uri_refused ends o Digits source out err err' status none tells is =
-    subst (λ o. UriEnds ends true o (devices source out err) (devices source out err') status) (sym (none refl)) (inl (record { unread = refl; untouched = refl; told = tells; status_is = is }))
-uri_refused ends o Memory source out err err' status none tells is =
-    starved ends o (devices source out err) (devices source out err') status (record { unread = refl; untouched = refl; told = tells; status_is = is })
+uri_refused ends o Digits source out err err' status none reports is =
+    subst (λ o. UriEnds ends true o (devices source out err) (devices source out err') status) (sym (none refl)) (inl (record { unread = refl; untouched = refl; reported = reports; status_is = is }))
+uri_refused ends o Memory source out err err' status none reports is =
+    starved ends o (devices source out err) (devices source out err') status (record { unread = refl; untouched = refl; reported = reports; status_is = is })
 
 -- ---- a line in pieces
 
 -- what went out of a line is a front of it
-pub told_front : (line : List ℕ) (old new : Seen) (sent : ℕ) → WentOut old.tells line new.tells sent → new.faults ≡ raised old.faults → Tells line old new
-told_front line old new sent went failed = record {
+pub reported_front : (line : List ℕ) (old new : Seen) (sent : ℕ) → WentOut old.reports line new.reports sent → new.faults ≡ raised old.faults → Reports line old new
+reported_front line old new sent went failed = record {
   count = went.count;
-  front = went.told;
+  front = went.reported;
   whole = λ same small. absurd (never old.faults (sym failed ∙ same) small);
 }
   where
@@ -218,10 +218,10 @@ told_front line old new sent went failed = record {
         by_test true e f = omega (arith, f)
         by_test false e f = absurd (cc e)
 
-pub told_whole : (line : List ℕ) (old new : Seen) → new.tells ≡ append_known old.tells line → Tells line old new
-told_whole line old new told = record {
+pub reported_whole : (line : List ℕ) (old new : Seen) → new.reports ≡ append_known old.reports line → Reports line old new
+reported_whole line old new reported = record {
   count = length line;
-  front = told ∙ ap (append_known old.tells) (sym (take_all (length line) line (omega arith)));
+  front = reported ∙ ap (append_known old.reports) (sym (take_all (length line) line (omega arith)));
   whole = λ same small. refl;
 }
 

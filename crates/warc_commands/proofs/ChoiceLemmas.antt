@@ -15,7 +15,7 @@ use Rattle.warc_frame.proofs.EffectLemmas.{fails_as, fails_more}
 use Rattle.warc.specs.Selecting.{AreOthers, ArePositions, IsSelection, selected_text}
 use Rattle.warc_commands.specs.Devices.{Devices, devices}
 use Rattle.warc_commands.specs.Selected.{AreTheNamed, AreWanted, ChosenEnds, SelectEnds, SendEnds, selected_line}
-use Rattle.warc_commands.specs.Program.{told_line}
+use Rattle.warc_commands.specs.Program.{reported_line}
 use Rattle.warc_commands.specs.Salvage.{amount_line}
 use Rattle.warc_commands.proofs.ProgramLemmas.{has_failed, may_have_failed}
 
@@ -69,7 +69,7 @@ there_by ps seen count n found seen_is count_is found_is none =
 
 -- a line after which there is no more
 pub nothing_after : (n size : ℕ) → amount_line (codes "selected") n size ≡ selected_line n size []
-nothing_after n size = ap (λ l. told_line l) (sym (append-nil (codes "selected " ++ decimal n ++ codes " records, " ++ decimal size ++ codes " bytes")))
+nothing_after n size = ap (λ l. reported_line l) (sym (append-nil (codes "selected " ++ decimal n ++ codes " records, " ++ decimal size ++ codes " bytes")))
 
 pub fails_over : (rows : List Row) (ps : List ℕ) {e : OutFault} {old new : SeenSource} → FailsBy {X = Unit {0}} (λ bytes. (text : List ℕ) × IsSelection rows ps bytes text) (Err e) old new
     → FailsBy {X = ℕ} (λ bytes. IsArchiveOf bytes rows) (Err e) old new
@@ -80,11 +80,11 @@ module _ {rows : List Row} {old mid : SeenSource} (kept : mid.holds ≡ old.hold
   pub sent_before : (more ps : List ℕ) → SendEnds more rows ps (devices mid out err) new status → SendEnds more rows ps (devices old out err) new status
   sent_before more ps (inl sent) = inl (record {
     size = sent.size;
-    told = λ bytes held is. sent.told bytes (kept ∙ held) is;
+    reported = λ bytes held is. sent.reported bytes (kept ∙ held) is;
     size_is = λ bytes held is. sent.size_is bytes (kept ∙ held) is;
     unfailed = sent.unfailed;
     sound = sent.sound ∙ cause;
-    reported = sent.reported;
+    printed = sent.printed;
     status_is = sent.status_is;
   })
   sent_before more ps (inr cut) = inr (record {
@@ -96,15 +96,15 @@ module _ {rows : List Row} {old mid : SeenSource} (kept : mid.holds ≡ old.hold
       failed = λ bytes held is. has_failed cut.fault _ _ _ _ cause refl (cut.fails.failed bytes (kept ∙ held) is);
     };
     failed = cut.failed;
-    told = cut.told;
+    reported = cut.reported;
     status_is = cut.status_is;
   })
 
 module _ {rows : List Row} {old mid : SeenSource} (opens : Opens IsArchiveOf old mid (Ok rows)) (out err : Seen) (new : Devices) (status : ℕ) where
   chosen_before : (except : Bool) (named : List ℕ) → ChosenEnds except named rows (devices mid out err) new status → ChosenEnds except named rows (devices old out err) new status
   chosen_before except named (inl is) = inl (record { there = is.there; chosen = is.chosen; are = is.are; ends = sent_before opens.reads.kept opens.reads.cause out err new status [] is.chosen is.ends })
-  chosen_before except named (inr (inl is)) = inr (inl (record { absent = is.absent; first = is.first; sound = is.sound ∙ opens.reads.cause; untouched = is.untouched; told = is.told; status_is = is.status_is }))
-  chosen_before except named (inr (inr is)) = inr (inr (record { sound = is.sound ∙ opens.reads.cause; untouched = is.untouched; told = is.told; status_is = is.status_is }))
+  chosen_before except named (inr (inl is)) = inr (inl (record { absent = is.absent; first = is.first; sound = is.sound ∙ opens.reads.cause; untouched = is.untouched; reported = is.reported; status_is = is.status_is }))
+  chosen_before except named (inr (inr is)) = inr (inr (record { sound = is.sound ∙ opens.reads.cause; untouched = is.untouched; reported = is.reported; status_is = is.status_is }))
 
   pub selected_by : (except : Bool) (bad : Option ℕ) (named wanted : List ℕ) → (bad ≡ None) × (named ≡ wanted) → ChosenEnds except named rows (devices mid out err) new status
       → SelectEnds except bad wanted (devices old out err) new status

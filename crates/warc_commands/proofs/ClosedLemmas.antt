@@ -14,7 +14,7 @@ use Rattle.warc.specs.Closure.{GivesNeeded, GivesOthers}
 use Rattle.warc.specs.Selecting.{ReadsRecords, at_positions}
 use Rattle.warc_commands.specs.Closed.{ClosedEnds, ClosureEnds, GivesClosed, NamedEnds, ReadsClosed, beside, beside_text}
 use Rattle.warc_commands.specs.Devices.{Devices, devices}
-use Rattle.warc_commands.specs.Program.{Tells, told_line}
+use Rattle.warc_commands.specs.Program.{Reports, reported_line}
 use Rattle.warc_commands.specs.Selected.{ReadsSome, SendEnds}
 use Rattle.warc_commands.proofs.ChoiceLemmas.{sent_before}
 use Rattle.warc_commands.proofs.ProgramLemmas.{has_failed, may_have_failed}
@@ -80,13 +80,13 @@ module _ {A : Type 0} {S : Type 0} (archive : Archived S) (except : Bool) (once 
         inl (record {
           chosen = v.items;
           positions = given.are;
-          are = λ bytes held. let it = indexed bytes held in record { is = it.listed; are = given.told bytes held it.listed it.kept };
+          are = λ bytes held. let it = indexed bytes held in record { is = it.listed; are = given.reported bytes held it.listed it.kept };
           ends = sent_before given.reads.kept given.fails.may out err new status _ v.items (subst T same (subst Q rows_are (subst R seen_is ends)));
         })
 
-  pub unclosed : (indexed : IfHeld old.holds (λ bytes. IsIndexed bytes archive)) {e : OutFault} (out : Seen) {err err' : Seen} {status : ℕ} → answer ≡ Err e → Tells (told_line (out_fault_text e)) err err' → status ≡ 3
+  pub unclosed : (indexed : IfHeld old.holds (λ bytes. IsIndexed bytes archive)) {e : OutFault} (out : Seen) {err err' : Seen} {status : ℕ} → answer ≡ Err e → Reports (reported_line (out_fault_text e)) err err' → status ≡ 3
       → ClosureEnds except once archive.listing.rows (devices old out err) (devices mid out err') status
-  unclosed indexed {e} out is told three =
+  unclosed indexed {e} out is reported three =
       let P : Result (Vec ℕ A) OutFault → Type 0 = λ r. GivesClosed except archive.listing.rows archive.index archive.parts once old mid r in
       let given = subst P is gives in
       inr (record {
@@ -94,7 +94,7 @@ module _ {A : Type 0} {S : Type 0} (archive : Archived S) (except : Bool) (once 
         early = given.early;
         fails = fails_as (Vec ℕ A) ℕ (fails_more (λ bytes held is. let it = indexed bytes held in (it.listed, it.kept)) given.fails);
         untouched = refl;
-        told = told;
+        reported = reported;
         status_is = three;
       })
 
@@ -115,13 +115,13 @@ module _ {rows : List Row} {old mid : SeenSource} (kept : mid.holds ≡ old.hold
       failed = λ bytes held archive. has_failed is.fault _ _ _ _ cause refl (is.fails.failed bytes (kept ∙ held) archive);
     };
     untouched = is.untouched;
-    told = is.told;
+    reported = is.reported;
     status_is = is.status_is;
   })
 
   named_before : (except : Bool) (named : List ℕ) → NamedEnds except named rows (devices mid out err) new status → NamedEnds except named rows (devices old out err) new status
   named_before except named (inl is) = inl (record { there = is.there; once = is.once; once_are = is.once_are; ends = closure_before except is.once is.ends })
-  named_before except named (inr is) = inr (record { absent = is.absent; first = is.first; sound = is.sound ∙ cause; untouched = is.untouched; told = is.told; status_is = is.status_is })
+  named_before except named (inr is) = inr (record { absent = is.absent; first = is.first; sound = is.sound ∙ cause; untouched = is.untouched; reported = is.reported; status_is = is.status_is })
 
 pub holds_indexed : {S : Type 0} {archive : Archived S} {old mid : SeenSource} → Opens IsIndexed old mid (Ok archive) → IfHeld mid.holds (λ bytes. IsIndexed bytes archive)
 holds_indexed opens bytes held = opens.accepted bytes (sym opens.reads.kept ∙ held)

@@ -26,8 +26,8 @@ payloads_end archive listed (Ok judged) old mid last new out out' err err' statu
         judged = judged;
         are = λ bytes held.
             let is = opened.accepted bytes held in
-            record { is = is.listed; each = judges.told bytes (opened.reads.kept ∙ held) is.listed is.kept };
-        told = all.0;
+            record { is = is.listed; each = judges.reported bytes (opened.reads.kept ∙ held) is.listed is.kept };
+        reported = all.0;
         unfailed = all.1;
         sound = same ∙ judges.fails.may ∙ opened.reads.cause;
         silent = all.2;
@@ -39,12 +39,12 @@ payloads_end archive listed (Ok judged) old mid last new out out' err err' statu
         judged = judged;
         are = λ bytes held.
             let is = opened.accepted bytes held in
-            record { is = is.listed; each = judges.told bytes (opened.reads.kept ∙ held) is.listed is.kept };
+            record { is = is.listed; each = judges.reported bytes (opened.reads.kept ∙ held) is.listed is.kept };
         sent = cut.0;
         front = cut.1;
         failed = cut.2;
         sound = same ∙ judges.fails.may ∙ opened.reads.cause;
-        told = cut.3;
+        reported = cut.3;
         status_is = cut.4;
       })))
     ]
@@ -60,6 +60,6 @@ payloads_end archive listed (Err fault) old mid last new out out' err err' statu
             has_failed fault _ _ _ _ opened.reads.cause (sym same) (fails.failed bytes (opened.reads.kept ∙ held) (has.listed, has.kept));
       };
       untouched = ends.0;
-      told = ends.1;
+      reported = ends.1;
       status_is = ends.2;
     })))

@@ -15,8 +15,8 @@ use Rattle.warc_frame.specs.declared.send.SendFault.{SendFault}
 use Rattle.warc_frame.proofs.LawLemmas.{same_out, same_staged}
 use Rattle.warc_pieces.specs.declared.piece.Piece.{Piece}
 use Rattle.warc_commands.specs.Devices.{devices}
-use Rattle.warc_commands.specs.Pieces.{ArePrinted, ArePrintedInPart, TellsEach, has_damage, piece_line, pieces_status, pieces_text, stop_lines}
-use Rattle.warc_commands.specs.Program.{Tells, told_line}
+use Rattle.warc_commands.specs.Pieces.{ArePrinted, ArePrintedInPart, ReportsEach, has_damage, piece_line, pieces_status, pieces_text, stop_lines}
+use Rattle.warc_commands.specs.Program.{Reports, reported_line}
 use Rattle.warc_commands.specs.Walking.{HasEnded, HasPut, HasWalked, PutsPieces, SendsPieces}
 use Rattle.warc_commands.specs.declared.walk.Found.{Found}
 use Rattle.warc_commands.specs.declared.walk.Tally.{Tally}
@@ -95,7 +95,7 @@ module _ (begun was now : SeenSource) (place at : ℕ) (failure stop : Option Fa
 
 -- ---- what went out
 
-module _ (begun now : SeenSource) (before mid after : Seen) (waits waited waiting : Staged) (begins : IsStaged before.tells [] before.tells waits) where
+module _ (begun now : SeenSource) (before mid after : Seen) (waits waited waiting : Staged) (begins : IsStaged before.reports [] before.reports waits) where
   pub sent_all : {X : Type 0} (x : X) (found : Found) → PutsPieces begun now before mid waits waited (Ok found) → Flushes mid after waited waiting (Ok x) → SendsPieces begun now before after (Ok found)
   sent_all {X} x found puts flush = record {
     pieces = puts.pieces;
@@ -103,7 +103,7 @@ module _ (begun now : SeenSource) (before mid after : Seen) (waits waited waitin
     at = puts.at;
     tally = puts.tally;
     walked = puts.walked;
-    told = flush.told before.tells (pieces_text puts.pieces) (puts.puts.out before.tells [] begins);
+    reported = flush.reported before.reports (pieces_text puts.pieces) (puts.puts.out before.reports [] begins);
     cut = tt;
     cause = flush.cause ∙ puts.puts.cause;
     ended = puts.ended;
@@ -116,8 +116,8 @@ module _ (begun now : SeenSource) (before mid after : Seen) (waits waited waitin
     at = puts.at;
     tally = puts.tally;
     walked = puts.walked;
-    told = tt;
-    cut = flush.cut before.tells (pieces_text puts.pieces) (puts.puts.out before.tells [] begins);
+    reported = tt;
+    cut = flush.cut before.reports (pieces_text puts.pieces) (puts.puts.out before.reports [] begins);
     cause = flush.cause ∙ ap raised puts.puts.cause;
     ended = tt;
   }
@@ -129,36 +129,36 @@ module _ (begun now : SeenSource) (before mid after : Seen) (waits waited waitin
     at = puts.at;
     tally = puts.tally;
     walked = puts.walked;
-    told = tt;
-    cut = puts.puts.cut before.tells [] begins;
+    reported = tt;
+    cut = puts.puts.cut before.reports [] begins;
     cause = puts.puts.cause;
     ended = tt;
   }
 
 -- ---- the end
 
-pub tells_as : (lines others : List (List ℕ)) (old new : Seen) → lines ≡ others → TellsEach lines old new → TellsEach others old new
-tells_as lines others old new same told = let P : List (List ℕ) → Type 0 = λ ls. TellsEach ls old new in subst P same told
+pub reports_as : (lines others : List (List ℕ)) (old new : Seen) → lines ≡ others → ReportsEach lines old new → ReportsEach others old new
+reports_as lines others old new same reported = let P : List (List ℕ) → Type 0 = λ ls. ReportsEach ls old new in subst P same reported
 
-module _ (begun now : SeenSource) (before after err told : Seen) (status : ℕ) where
-  pub printed : (found : Found) → SendsPieces begun now before after (Ok found) → TellsEach (stop_lines found.stop) err told
-      → ((pieces : List Piece) → found.tally.is_damaged ≡ has_damage pieces → status ≡ pieces_status found.stop pieces) → ArePrinted (devices begun before err) (devices now after told) status
-  printed found sends tells is =
+module _ (begun now : SeenSource) (before after err reported : Seen) (status : ℕ) where
+  pub printed : (found : Found) → SendsPieces begun now before after (Ok found) → ReportsEach (stop_lines found.stop) err reported
+      → ((pieces : List Piece) → found.tally.is_damaged ≡ has_damage pieces → status ≡ pieces_status found.stop pieces) → ArePrinted (devices begun before err) (devices now after reported) status
+  printed found sends reports is =
       let (stop, tally, are) = sends.ended in
       record {
         pieces = sends.pieces;
         stop = sends.stop;
         are = are;
-        told = sends.told;
+        reported = sends.reported;
         unfailed = sends.cause;
         source = sends.walked.cause;
-        err = tells_as (stop_lines found.stop) (stop_lines sends.stop) err told (ap stop_lines stop) tells;
+        err = reports_as (stop_lines found.stop) (stop_lines sends.stop) err reported (ap stop_lines stop) reports;
         status_is = is sends.pieces (ap (λ (t : Tally). t.is_damaged) tally ∙ sends.walked.counted.damage_is) ∙ ap (λ x. pieces_status x sends.pieces) stop;
       }
 
-  pub printed_in_part : (e : SendFault) → SendsPieces begun now before after (Err e) → Tells (told_line (out_fault_text (Write e.sent))) err told → status ≡ 3
-      → ArePrintedInPart (devices begun before err) (devices now after told) status
-  printed_in_part e sends tells is = record {
+  pub printed_in_part : (e : SendFault) → SendsPieces begun now before after (Err e) → Reports (reported_line (out_fault_text (Write e.sent))) err reported → status ≡ 3
+      → ArePrintedInPart (devices begun before err) (devices now after reported) status
+  printed_in_part e sends reports is = record {
     pieces = sends.pieces;
     stop = sends.stop;
     at = sends.at;
@@ -167,6 +167,6 @@ module _ (begun now : SeenSource) (before after err told : Seen) (status : ℕ) 
     front = sends.cut;
     failed = sends.cause;
     source = sends.walked.cause;
-    told = tells;
+    reported = reports;
     status_is = is;
   }

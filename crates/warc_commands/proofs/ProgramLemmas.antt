@@ -12,7 +12,7 @@ use Rattle.warc_checking.specs.Checking.{Line}
 use Rattle.warc_frame.specs.Failing.{HasFailedBy, MayHaveFailedBy}
 use Rattle.warc_commands.specs.Devices.{devices}
 use Rattle.warc_reading.specs.Opening.{Opens}
-use Rattle.warc_commands.specs.Program.{AreGoodRecordsOf, IsCutOff, IsNotOpened, IsWritten, Tells, fault_line, status_of_findings, status_of_kind, told_line}
+use Rattle.warc_commands.specs.Program.{AreGoodRecordsOf, IsCutOff, IsNotOpened, IsWritten, Reports, fault_line, status_of_findings, status_of_kind, reported_line}
 use Rattle.warc_reading.specs.Row.{Row}
 use Rattle.warc_frame.specs.Seen.{Seen, SeenSource}
 use Rattle.warc_reading.proofs.StreamLemmas.{spells_all}
@@ -22,15 +22,15 @@ pub good_records_of : {bytes : List ℕ} {rows : List Row} (is : IsArchiveOf byt
 good_records_of {bytes} is = record { short = is.short; spelled = spells_all 0 is.are.records bytes is.are.spelled; good = is.are.good }
 
 -- an archive that isn't opened
-pub not_opened : {X : Type 0} (Is : List ℕ → X → Type 0) (old new : SeenSource) (out err told : Seen) (fault : Fault) (status : ℕ) → Opens Is old new (Err fault) → Tells (fault_line fault) err told
-    → status ≡ status_of_kind fault.kind → IsNotOpened (devices old out err) (devices new out told) status
-not_opened Is old new out err told fault status opens tells is = record {
+pub not_opened : {X : Type 0} (Is : List ℕ → X → Type 0) (old new : SeenSource) (out err reported : Seen) (fault : Fault) (status : ℕ) → Opens Is old new (Err fault) → Reports (fault_line fault) err reported
+    → status ≡ status_of_kind fault.kind → IsNotOpened (devices old out err) (devices new out reported) status
+not_opened Is old new out err reported fault status opens reports is = record {
   fault = fault;
   is = opens.refused;
   failed = opens.reads.cause;
   asked = opens.reads.asked;
   untouched = refl;
-  told = tells;
+  reported = reports;
   status_is = is;
 }
 
@@ -70,7 +70,7 @@ all_written opened writes same = record {
       record {
         records = contents archive.are.records;
         are = good_records_of archive;
-        told = writes.sends.out bytes _ (opened.reads.kept ∙ held) (record { is = archive; text_is = refl });
+        reported = writes.sends.out bytes _ (opened.reads.kept ∙ held) (record { is = archive; text_is = refl });
       };
   unfailed = writes.sends.cause;
   sound = same ∙ writes.sends.fails.may ∙ opened.reads.cause;
@@ -79,10 +79,10 @@ all_written opened writes same = record {
 }
 
 -- an archive of which a front of a text was written
-pub part_written : {text_of : Record → List ℕ} {len_of : Row → ℕ} {rows : List Row} {old mid last new : SeenSource} {before after err told : Seen} {status : ℕ} (e : OutFault)
+pub part_written : {text_of : Record → List ℕ} {len_of : Row → ℕ} {rows : List Row} {old mid last new : SeenSource} {before after err reported : Seen} {status : ℕ} (e : OutFault)
     → Opens IsArchiveOf old mid (Ok rows) → WritesEach text_of len_of rows mid last before after (Err e) → new.faults ≡ last.faults
-    → Tells (told_line (out_fault_text e)) err told → status ≡ 3 → IsCutOff (flat_map text_of) (devices old before err) (devices new after told) status
-part_written e opened writes same tells is = record {
+    → Reports (reported_line (out_fault_text e)) err reported → status ≡ 3 → IsCutOff (flat_map text_of) (devices old before err) (devices new after reported) status
+part_written e opened writes same reports is = record {
   fault = e;
   is = λ bytes held.
       let archive = opened.accepted bytes held in
@@ -94,13 +94,13 @@ part_written e opened writes same tells is = record {
       };
   source = may_have_failed e _ _ _ _ opened.reads.cause (sym same) writes.sends.fails.may;
   failed = writes.sends.cause;
-  told = tells;
+  reported = reports;
   status_is = is;
 }
 
 -- the same line
-pub told_as : {line other : List ℕ} {old new : Seen} → line ≡ other → Tells line old new → Tells other old new
-told_as {line} {other} {old} {new} same told = let P : List ℕ → Type 0 = λ l. Tells l old new in subst P same told
+pub reported_as : {line other : List ℕ} {old new : Seen} → line ≡ other → Reports line old new → Reports other old new
+reported_as {line} {other} {old} {new} same reported = let P : List ℕ → Type 0 = λ l. Reports l old new in subst P same reported
 
 -- the status by the number of findings
 pub status_by : (ls : List Line) → min (length ls) 1 ≡ status_of_findings ls

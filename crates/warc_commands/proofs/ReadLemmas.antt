@@ -33,7 +33,7 @@ use Rattle.warc.specs.declared.record.part.Part.{Part}
 use Rattle.warc.specs.declared.record.part.Part.TheVariants.{Head, Block}
 use Rattle.warc.proofs.FrontLemmas.{front_begins}
 use Rattle.warc.proofs.JoinedLemmas.{path_short}
-use Rattle.warc_reading.proofs.StandLemmas.{written}
+use Rattle.warc_reading.proofs.RemainLemmas.{written}
 use Rattle.warc_reading.specs.Rereading.{IsInHead, heads_len}
 use Rattle.warc_commands.specs.Closed.{ReadsClosed}
 use Rattle.warc_commands.specs.Asking.{AsksFar, HasAsked, HasReadFront, ReadsFront}
@@ -184,18 +184,18 @@ part_short Block bytes rows is place (Some row) at = let lies = row_lies bytes r
 -- the heads and blocks of an archive's records are no longer than it
 rows_short : (form : Form) (q : ℕ) (ps : List Placed) (text : List ℕ) → SpellsFrom q ps text → sum_by (read_len form) (map row_of ps) ≤ length text
 rows_short form q [] text is = omega arith
-rows_short form q (p ∷ ps) text (front, rest, one, at, behind, whole, more) =
-    omega (arith, rows_short form (q + length front) ps rest more, sum_by-cons (read_len form) (row_of p) (map row_of ps), front_size q q p front one at behind, at, behind, ap length whole, length-append front rest)
+rows_short form q (p ∷ ps) text (front, rest, one, at, following, whole, more) =
+    omega (arith, rows_short form (q + length front) ps rest more, sum_by-cons (read_len form) (row_of p) (map row_of ps), front_size q q p front one at following, at, following, ap length whole, length-append front rest)
 
 heads_short : (q : ℕ) (ps : List Placed) (text : List ℕ) → SpellsFrom q ps text → heads_len (map row_of ps) ≤ length text
 heads_short q [] text is = omega arith
-heads_short q (p ∷ ps) text (front, rest, one, at, behind, whole, more) =
-    omega (arith, heads_short (q + length front) ps rest more, sum_by-cons (λ (r : Row). r.block_start - r.offset) (row_of p) (map row_of ps), front_size q q p front one at behind, at, behind, ap length whole, length-append front rest)
+heads_short q (p ∷ ps) text (front, rest, one, at, following, whole, more) =
+    omega (arith, heads_short (q + length front) ps rest more, sum_by-cons (λ (r : Row). r.block_start - r.offset) (row_of p) (map row_of ps), front_size q q p front one at following, at, following, ap length whole, length-append front rest)
 
 split_short : (q : ℕ) (ps : List Placed) (text : List ℕ) → SpellsFrom q ps text → sum_by split_len (map row_of ps) ≤ 3 * length text
 split_short q [] text is = omega arith
-split_short q (p ∷ ps) text (front, rest, one, at, behind, whole, more) =
-    omega (arith, split_short (q + length front) ps rest more, sum_by-cons split_len (row_of p) (map row_of ps), front_size q q p front one at behind, at, behind, ap length whole, length-append front rest)
+split_short q (p ∷ ps) text (front, rest, one, at, following, whole, more) =
+    omega (arith, split_short (q + length front) ps rest more, sum_by-cons split_len (row_of p) (map row_of ps), front_size q q p front one at following, at, following, ap length whole, length-append front rest)
 
 -- what holds of each holds of one of them
 all_by : {X : Type 0} (P : X → Type 0) (xs : List X) → AllByRecursion P xs → All P xs

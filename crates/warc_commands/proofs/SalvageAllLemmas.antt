@@ -21,45 +21,45 @@ use Rattle.warc_pieces.specs.Pieces.{piece_len}
 use Rattle.warc_pieces.specs.declared.piece.Piece.{Piece}
 use Rattle.warc_pieces.specs.declared.piece.Piece.TheVariants.{Records, Damage}
 use Rattle.warc_commands.specs.Devices.{devices}
-use Rattle.warc_commands.specs.Pieces.{AreSalvaged, AreSalvagedInPart, TellsEach, damage_line, damage_lines, pieces_status, salvaged_line, stop_lines}
-use Rattle.warc_commands.specs.Program.{Tells, told_line}
+use Rattle.warc_commands.specs.Pieces.{AreSalvaged, AreSalvagedInPart, ReportsEach, damage_line, damage_lines, pieces_status, salvaged_line, stop_lines}
+use Rattle.warc_commands.specs.Program.{Reports, reported_line}
 use Rattle.warc_commands.specs.Reads.{AsksNear}
 use Rattle.warc_commands.specs.Walking.{CopiesPieces, CopiesRuns, HasCopied, HasEnded, HasWalked, IsGoodOf, IsTallyOf, ReadsGood, SendsRuns}
 use Rattle.warc_commands.specs.declared.walk.Found.{Found}
 use Rattle.warc_commands.specs.declared.walk.Tally.{Tally}
-use Rattle.warc_commands.proofs.PiecesLemmas.{tells_as}
+use Rattle.warc_commands.proofs.PiecesLemmas.{reports_as}
 use Rattle.warc_commands.proofs.ProgramLemmas.{has_failed, may_have_failed}
 use Rattle.warc_commands.proofs.WalkLemmas.{asks_both, last_within, walk_on}
 
 -- ---- lines on damage
 
-pub tells_both : (lines more : List (List ℕ)) (old mid new : Seen) → TellsEach lines old mid → TellsEach more mid new → TellsEach (lines ++ more) old new
-tells_both [] more old mid new none second =
-    let P : Seen → Type 0 = λ s. TellsEach more s new in
+pub reports_both : (lines more : List (List ℕ)) (old mid new : Seen) → ReportsEach lines old mid → ReportsEach more mid new → ReportsEach (lines ++ more) old new
+reports_both [] more old mid new none second =
+    let P : Seen → Type 0 = λ s. ReportsEach more s new in
     subst P none second
-tells_both (line ∷ lines) more old mid new (next, one, rest) second = (next, one, tells_both lines more next mid new rest second)
+reports_both (line ∷ lines) more old mid new (next, one, rest) second = (next, one, reports_both lines more next mid new rest second)
 
-tells_in_turn : (lines more : List (List ℕ)) (last : List ℕ) (old mid new : Seen) → TellsEach lines old mid → TellsEach (more ++ last ∷ []) mid new → TellsEach (lines ++ more ++ last ∷ []) old new
-tells_in_turn lines more last old mid new first second =
-    tells_as (lines ++ (more ++ last ∷ [])) (lines ++ more ++ last ∷ []) old new (sym (append_assoc lines more (last ∷ []))) (tells_both lines (more ++ last ∷ []) old mid new first second)
+reports_in_turn : (lines more : List (List ℕ)) (last : List ℕ) (old mid new : Seen) → ReportsEach lines old mid → ReportsEach (more ++ last ∷ []) mid new → ReportsEach (lines ++ more ++ last ∷ []) old new
+reports_in_turn lines more last old mid new first second =
+    reports_as (lines ++ (more ++ last ∷ [])) (lines ++ more ++ last ∷ []) old new (sym (append_assoc lines more (last ∷ []))) (reports_both lines (more ++ last ∷ []) old mid new first second)
 
 damage_both : (pieces others : List Piece) → damage_lines (pieces ++ others) ≡ damage_lines pieces ++ damage_lines others
 damage_both [] others = refl
 damage_both (Records offset len count ∷ pieces) others = damage_both pieces others
 damage_both (Damage offset len fault ∷ pieces) others = ap (λ ls. damage_line offset len fault ∷ ls) (damage_both pieces others)
 
-pub tells_more : (pieces : List Piece) (piece : Piece) (old mid new : Seen) → TellsEach (damage_lines pieces) old mid → TellsEach (damage_lines (piece ∷ [])) mid new → TellsEach (damage_lines (pieces ++ piece ∷ [])) old new
-tells_more pieces piece old mid new first second =
-    tells_as (damage_lines pieces ++ damage_lines (piece ∷ [])) (damage_lines (pieces ++ piece ∷ [])) old new (sym (damage_both pieces (piece ∷ []))) (tells_both (damage_lines pieces) (damage_lines (piece ∷ [])) old mid new first second)
+pub reports_more : (pieces : List Piece) (piece : Piece) (old mid new : Seen) → ReportsEach (damage_lines pieces) old mid → ReportsEach (damage_lines (piece ∷ [])) mid new → ReportsEach (damage_lines (pieces ++ piece ∷ [])) old new
+reports_more pieces piece old mid new first second =
+    reports_as (damage_lines pieces ++ damage_lines (piece ∷ [])) (damage_lines (pieces ++ piece ∷ [])) old new (sym (damage_both pieces (piece ∷ []))) (reports_both (damage_lines pieces) (damage_lines (piece ∷ [])) old mid new first second)
 
 -- a run has no line
 run_line : (piece : Piece) → is_damage piece ≡ false → damage_lines (piece ∷ []) ≡ []
 run_line (Records offset len count) is = refl
 run_line (Damage offset len fault) is = absurd (cc is)
 
-pub tells_run : (pieces : List Piece) (piece : Piece) (old new : Seen) → is_damage piece ≡ false → TellsEach (damage_lines pieces) old new → TellsEach (damage_lines (pieces ++ piece ∷ [])) old new
-tells_run pieces piece old new is told =
-    tells_more pieces piece old new new told (tells_as [] (damage_lines (piece ∷ [])) new new (sym (run_line piece is)) refl)
+pub reports_run : (pieces : List Piece) (piece : Piece) (old new : Seen) → is_damage piece ≡ false → ReportsEach (damage_lines pieces) old new → ReportsEach (damage_lines (pieces ++ piece ∷ [])) old new
+reports_run pieces piece old new is reported =
+    reports_more pieces piece old new new reported (reports_as [] (damage_lines (piece ∷ [])) new new (sym (run_line piece is)) refl)
 
 -- ---- the bytes of runs
 
@@ -90,7 +90,7 @@ copies_none holds before waits = record {
 
 pub copy_none : (begun now : SeenSource) (at : ℕ) (failure : Option Fault) (tally : Tally) (before : Seen) (waits : Staged) (err : Seen) → HasWalked begun now at failure tally []
     → HasCopied begun now at failure tally before before waits waits err err
-copy_none begun now at failure tally before waits err walked = record { pieces = []; walked = walked; copies = copies_none begun.holds before waits; reports = refl }
+copy_none begun now at failure tally before waits err walked = record { pieces = []; walked = walked; copies = copies_none begun.holds before waits; damages = refl }
 
 -- the bytes of one more piece
 module _ {X Y : Type 0} (holds : Option (List ℕ)) (pieces : List Piece) (piece : Piece) (source last : SeenSource) (before mid after : Seen) (waits waited waiting : Staged) (x : X) (answer : Result Y OutFault)
@@ -122,16 +122,16 @@ reads_watched (Damage offset len fault) old new same = ap (λ (s : SeenSource). 
 
 -- ---- a step of the walk
 
-module _ (begun was mid now : SeenSource) (place after_ : ℕ) (failure stop : Option Fault) (old tally : Tally) (before between after : Seen) (waits waited waiting : Staged) (err told : Seen)
-    (has : HasCopied begun was place failure old before between waits waited err told)
+module _ (begun was mid now : SeenSource) (place after_ : ℕ) (failure stop : Option Fault) (old tally : Tally) (before between after : Seen) (waits waited waiting : Staged) (err reported : Seen)
+    (has : HasCopied begun was place failure old before between waits waited err reported)
     (piece : Piece) (walked : HasWalked begun mid after_ stop tally (has.pieces ++ piece ∷ [])) (low : offset_of piece + piece_len piece ≤ max_archive) (reads : ReadsGood piece mid now) where
   inside : IfHeld begun.holds (λ bytes. offset_of piece + piece_len piece ≤ length bytes)
   inside bytes held = last_within bytes after_ stop has.pieces piece (walked.given bytes held)
 
   -- the piece was copied, and reported if it is damage
-  pub copy_more : {X : Type 0} (x : X) (there : ℕ) (kept_ : Option Fault) (new : Seen) → Emits (IsGoodOf piece) mid now between after waited waiting (Ok x) → there ≡ after_ → kept_ ≡ stop → TellsEach (damage_lines (piece ∷ [])) told new
+  pub copy_more : {X : Type 0} (x : X) (there : ℕ) (kept_ : Option Fault) (new : Seen) → Emits (IsGoodOf piece) mid now between after waited waiting (Ok x) → there ≡ after_ → kept_ ≡ stop → ReportsEach (damage_lines (piece ∷ [])) reported new
       → HasCopied begun now there kept_ tally before after waits waiting err new
-  copy_more {X} x there kept_ new emits same_at same_stop reported =
+  copy_more {X} x there kept_ new emits same_at same_stop printed =
       let P : ℕ → Type 0 = λ n. HasCopied begun now n kept_ tally before after waits waiting err new in
       let Q : Option Fault → Type 0 = λ f. HasCopied begun now after_ f tally before after waits waiting err new in
       let copies = copies_more begun.holds has.pieces piece mid now before between after waits waited waiting tt (Ok x) has.copies emits walked.kept.kept inside in
@@ -139,12 +139,12 @@ module _ (begun was mid now : SeenSource) (place after_ : ℕ) (failure stop : O
         pieces = has.pieces ++ piece ∷ [];
         walked = walk_on begun mid now after_ stop tally (has.pieces ++ piece ∷ []) walked emits.kept (reads_watched piece mid now reads) (reads_near piece mid now low reads) emits.fails.may;
         copies = record { out = copies.out; cut = λ bytes held few start output is. tt; cause = copies.cause };
-        reports = tells_more has.pieces piece err told new has.reports reported;
+        damages = reports_more has.pieces piece err reported new has.damages printed;
       }))
 
   -- a failed read or write of a run
   pub copy_cut : {X : Type 0} (e : OutFault) → Emits {X = X} (IsGoodOf piece) mid now between after waited waiting (Err e) → is_damage piece ≡ false
-      → CopiesPieces begun now before after waits waiting err told (Err e)
+      → CopiesPieces begun now before after waits waiting err reported (Err e)
   copy_cut {X} e emits run =
       let copies = copies_more begun.holds has.pieces piece mid now before between after waits waited waiting tt (Err e) has.copies emits walked.kept.kept inside in
       record {
@@ -158,15 +158,15 @@ module _ (begun was mid now : SeenSource) (place after_ : ℕ) (failure stop : O
         fails = fails_as X Found (fails_more (λ bytes held few. (good_text bytes piece, good_of bytes piece (inside bytes (sym walked.kept.kept ∙ held)) few)) emits.fails);
         kept = emits.kept ∙ walked.kept.kept;
         near = asks_both begun mid now walked.kept.watched walked.near (reads_near piece mid now low reads);
-        reports = tells_run has.pieces piece err told run has.reports;
+        damages = reports_run has.pieces piece err reported run has.damages;
         ended = tt;
       }
 
 -- the end of the walk
-pub copy_all : (begun was now : SeenSource) (place at : ℕ) (failure stop : Option Fault) (old tally : Tally) (before after : Seen) (waits waiting : Staged) (err told : Seen)
-    (has : HasCopied begun was place failure old before after waits waiting err told) → HasEnded begun now at stop tally has.pieces
-    → CopiesPieces begun now before after waits waiting err told (Ok (record { tally = tally; stop = stop }))
-copy_all begun was now place at failure stop old tally before after waits waiting err told has ended = record {
+pub copy_all : (begun was now : SeenSource) (place at : ℕ) (failure stop : Option Fault) (old tally : Tally) (before after : Seen) (waits waiting : Staged) (err reported : Seen)
+    (has : HasCopied begun was place failure old before after waits waiting err reported) → HasEnded begun now at stop tally has.pieces
+    → CopiesPieces begun now before after waits waiting err reported (Ok (record { tally = tally; stop = stop }))
+copy_all begun was now place at failure stop old tally before after waits waiting err reported has ended = record {
   pieces = has.pieces;
   stop = stop;
   at = at;
@@ -177,14 +177,14 @@ copy_all begun was now place at failure stop old tally before after waits waitin
   fails = record { may = refl; failed = λ bytes held few. refl };
   kept = ended.walked.kept.kept;
   near = ended.walked.near;
-  reports = has.reports;
+  damages = has.damages;
   ended = (refl, refl, ended.are);
 }
 
 -- ---- what went out
 
-module _ (begun now : SeenSource) (before between after : Seen) (waits waited waiting : Staged) (err told : Seen) (begins : IsStaged before.tells [] before.tells waits) where
-  pub runs_all : {X : Type 0} (x : X) (found : Found) → CopiesPieces begun now before between waits waited err told (Ok found) → Flushes between after waited waiting (Ok x) → SendsRuns begun now before after err told (Ok found)
+module _ (begun now : SeenSource) (before between after : Seen) (waits waited waiting : Staged) (err reported : Seen) (begins : IsStaged before.reports [] before.reports waits) where
+  pub runs_all : {X : Type 0} (x : X) (found : Found) → CopiesPieces begun now before between waits waited err reported (Ok found) → Flushes between after waited waiting (Ok x) → SendsRuns begun now before after err reported (Ok found)
   runs_all {X} x found copies flush = record {
     pieces = copies.pieces;
     stop = copies.stop;
@@ -192,18 +192,18 @@ module _ (begun now : SeenSource) (before between after : Seen) (waits waited wa
     tally = copies.tally;
     mid = copies.mid;
     walked = copies.walked;
-    out = λ bytes held few. flush.told before.tells (salvaged bytes copies.pieces) (copies.copies.out bytes held few before.tells [] begins);
+    out = λ bytes held few. flush.reported before.reports (salvaged bytes copies.pieces) (copies.copies.out bytes held few before.reports [] begins);
     cut = λ bytes held few. tt;
     cause = flush.cause ∙ copies.copies.cause;
     fails = copies.fails;
     kept = copies.kept;
     near = copies.near;
-    reports = copies.reports;
+    damages = copies.damages;
     ended = copies.ended;
   }
 
-  pub runs_part : {X : Type 0} (e : SendFault) (found : Found) → CopiesPieces begun now before between waits waited err told (Ok found) → Flushes {X = X} between after waited waiting (Err e)
-      → SendsRuns begun now before after err told (Err (Write e.sent))
+  pub runs_part : {X : Type 0} (e : SendFault) (found : Found) → CopiesPieces begun now before between waits waited err reported (Ok found) → Flushes {X = X} between after waited waiting (Err e)
+      → SendsRuns begun now before after err reported (Err (Write e.sent))
   runs_part {X} e found copies flush = record {
     pieces = copies.pieces;
     stop = copies.stop;
@@ -212,18 +212,18 @@ module _ (begun now : SeenSource) (before between after : Seen) (waits waited wa
     mid = copies.mid;
     walked = copies.walked;
     out = λ bytes held few. tt;
-    cut = λ bytes held few. flush.cut before.tells (salvaged bytes copies.pieces) (copies.copies.out bytes held few before.tells [] begins);
+    cut = λ bytes held few. flush.cut before.reports (salvaged bytes copies.pieces) (copies.copies.out bytes held few before.reports [] begins);
     cause = flush.cause ∙ ap raised copies.copies.cause;
     fails = record { may = copies.fails.may; failed = λ bytes held few. copies.fails.may };
     kept = copies.kept;
     near = copies.near;
-    reports = copies.reports;
+    damages = copies.damages;
     ended = tt;
   }
 
-pub runs_cut : (begun now : SeenSource) (before between : Seen) (waits waited : Staged) (err told : Seen) (begins : IsStaged before.tells [] before.tells waits) (e : OutFault)
-    → CopiesPieces begun now before between waits waited err told (Err e) → SendsRuns begun now before between err told (Err e)
-runs_cut begun now before between waits waited err told begins e copies = record {
+pub runs_cut : (begun now : SeenSource) (before between : Seen) (waits waited : Staged) (err reported : Seen) (begins : IsStaged before.reports [] before.reports waits) (e : OutFault)
+    → CopiesPieces begun now before between waits waited err reported (Err e) → SendsRuns begun now before between err reported (Err e)
+runs_cut begun now before between waits waited err reported begins e copies = record {
   pieces = copies.pieces;
   stop = copies.stop;
   at = copies.at;
@@ -231,41 +231,41 @@ runs_cut begun now before between waits waited err told begins e copies = record
   mid = copies.mid;
   walked = copies.walked;
   out = λ bytes held few. tt;
-  cut = λ bytes held few. copies.copies.cut bytes held few before.tells [] begins;
+  cut = λ bytes held few. copies.copies.cut bytes held few before.reports [] begins;
   cause = copies.copies.cause;
   fails = copies.fails;
   kept = copies.kept;
   near = copies.near;
-  reports = copies.reports;
+  damages = copies.damages;
   ended = tt;
 }
 
 -- ---- the end
 
-module _ (begun now : SeenSource) (before after err mid told : Seen) (status : ℕ) where
+module _ (begun now : SeenSource) (before after err mid reported : Seen) (status : ℕ) where
   pub all_salvaged : (found : Found) → SendsRuns begun now before after err mid (Ok found)
-      → ((pieces : List Piece) → IsTallyOf found.tally pieces → TellsEach (stop_lines found.stop ++ salvaged_line found.stop pieces ∷ []) mid told)
-      → ((pieces : List Piece) → IsTallyOf found.tally pieces → status ≡ pieces_status found.stop pieces) → AreSalvaged (devices begun before err) (devices now after told) status
-  all_salvaged found sends tells is =
+      → ((pieces : List Piece) → IsTallyOf found.tally pieces → ReportsEach (stop_lines found.stop ++ salvaged_line found.stop pieces ∷ []) mid reported)
+      → ((pieces : List Piece) → IsTallyOf found.tally pieces → status ≡ pieces_status found.stop pieces) → AreSalvaged (devices begun before err) (devices now after reported) status
+  all_salvaged found sends reports is =
       let (stop, same, are) = sends.ended in
       let pieces = sends.pieces in
       let P : Tally → Type 0 = λ t. IsTallyOf t pieces in
       let counted : IsTallyOf found.tally pieces = subst P (sym same) sends.walked.counted in
-      let Q : Option Fault → Type 0 = λ f. TellsEach (stop_lines f ++ salvaged_line f pieces ∷ []) mid told in
+      let Q : Option Fault → Type 0 = λ f. ReportsEach (stop_lines f ++ salvaged_line f pieces ∷ []) mid reported in
       record {
         pieces = pieces;
         stop = sends.stop;
         are = are;
-        told = sends.out;
+        reported = sends.out;
         unfailed = sends.cause;
         source = sends.fails.may ∙ sends.walked.cause;
-        err = tells_in_turn (damage_lines pieces) (stop_lines sends.stop) (salvaged_line sends.stop pieces) err mid told sends.reports (subst Q stop (tells pieces counted));
+        err = reports_in_turn (damage_lines pieces) (stop_lines sends.stop) (salvaged_line sends.stop pieces) err mid reported sends.damages (subst Q stop (reports pieces counted));
         status_is = is pieces counted ∙ ap (λ x. pieces_status x pieces) stop;
       }
 
-  pub salvaged_in_part : (e : OutFault) → SendsRuns begun now before after err mid (Err e) → Tells (told_line (out_fault_text e)) mid told → status ≡ 3
-      → AreSalvagedInPart (devices begun before err) (devices now after told) status
-  salvaged_in_part e sends tells is = record {
+  pub salvaged_in_part : (e : OutFault) → SendsRuns begun now before after err mid (Err e) → Reports (reported_line (out_fault_text e)) mid reported → status ≡ 3
+      → AreSalvagedInPart (devices begun before err) (devices now after reported) status
+  salvaged_in_part e sends reports is = record {
     pieces = sends.pieces;
     stop = sends.stop;
     at = sends.at;
@@ -275,6 +275,6 @@ module _ (begun now : SeenSource) (before after err mid told : Seen) (status : �
     source = λ bytes held few. has_failed e _ _ _ _ sends.walked.cause refl ((fails_as Found ℕ sends.fails).failed bytes (sends.walked.kept.kept ∙ held) few);
     may = may_have_failed e _ _ _ _ sends.walked.cause refl ((fails_as Found ℕ sends.fails).may);
     failed = sends.cause;
-    err = tells_both (damage_lines sends.pieces) (told_line (out_fault_text e) ∷ []) err mid told sends.reports (told, tells, refl);
+    err = reports_both (damage_lines sends.pieces) (reported_line (out_fault_text e) ∷ []) err mid reported sends.damages (reported, reports, refl);
     status_is = is;
   }

@@ -8,21 +8,21 @@ use Rattle.warc_reading.specs.Row.{Row}
 use Rattle.warc.specs.Front.{CopiesFront, OpensFront}
 use Rattle.warc.proofs.FrontLemmas.{front_begins}
 use Rattle.warc_commands.specs.Devices.{devices}
-use Rattle.warc_commands.specs.Program.{Tells, told_line}
-use Rattle.warc_commands.specs.Salvage.{IsSalvageCutOff, IsSalvaged, TellsAmount, salvage_status}
+use Rattle.warc_commands.specs.Program.{Reports, reported_line}
+use Rattle.warc_commands.specs.Salvage.{IsSalvageCutOff, IsSalvaged, ReportsAmount, salvage_status}
 use Rattle.warc_commands.proofs.ProgramLemmas.{has_failed, may_have_failed}
 
 -- what was reported of the records that stay
-pub amount_as : (found : Option Fault) (n : ℕ) (rows was : List Row) (bytes : ℕ) (err told : Seen) → n ≡ length rows → rows ≡ was → TellsAmount found n bytes err told
-    → TellsAmount found (length was) bytes err told
-amount_as found n rows was bytes err told size same tells =
-    let P : ℕ → Type 0 = λ k. TellsAmount found k bytes err told in
-    subst P (size ∙ ap (λ l. length l) same) tells
+pub amount_as : (found : Option Fault) (n : ℕ) (rows was : List Row) (bytes : ℕ) (err reported : Seen) → n ≡ length rows → rows ≡ was → ReportsAmount found n bytes err reported
+    → ReportsAmount found (length was) bytes err reported
+amount_as found n rows was bytes err reported size same reports =
+    let P : ℕ → Type 0 = λ k. ReportsAmount found k bytes err reported in
+    subst P (size ∙ ap (λ l. length l) same) reports
 
-module _ (rows : List Row) (found : Option Fault) (old mid last new : SeenSource) (before after err told : Seen) (status : ℕ) (opened : OpensFront old mid rows found) where
-  pub salvaged : (n : ℕ) → CopiesFront rows mid last before after (Ok n) → new.faults ≡ last.faults → TellsAmount found (length rows) n err told
-      → status ≡ salvage_status found → IsSalvaged (devices old before err) (devices new after told) status
-  salvaged n copies same tells is = record {
+module _ (rows : List Row) (found : Option Fault) (old mid last new : SeenSource) (before after err reported : Seen) (status : ℕ) (opened : OpensFront old mid rows found) where
+  pub salvaged : (n : ℕ) → CopiesFront rows mid last before after (Ok n) → new.faults ≡ last.faults → ReportsAmount found (length rows) n err reported
+      → status ≡ salvage_status found → IsSalvaged (devices old before err) (devices new after reported) status
+  salvaged n copies same reports is = record {
     rows = rows;
     size = n;
     found = found;
@@ -31,17 +31,17 @@ module _ (rows : List Row) (found : Option Fault) (old mid last new : SeenSource
     is = λ bytes held few.
         let (text, more, whole, archive) = front_begins bytes found rows (opened.rows_are bytes held) in
         let short : length (text ++ more) < 2 ^ 64 = omega (arith, few, ap length whole) in
-        let (out, size) = copies.told text more (opened.opens.reads.kept ∙ held ∙ ap Some whole) short archive in
-        record { text = text; front = record { front = opened.rows_are bytes held; is = archive }; told = out; size_is = size };
+        let (out, size) = copies.reported text more (opened.opens.reads.kept ∙ held ∙ ap Some whole) short archive in
+        record { text = text; front = record { front = opened.rows_are bytes held; is = archive }; reported = out; size_is = size };
     unfailed = copies.cause;
     sound = same ∙ copies.may;
-    told = tells;
+    reported = reports;
     status_is = is;
   }
 
-  pub salvage_cut : (e : OutFault) → CopiesFront rows mid last before after (Err e) → new.faults ≡ last.faults → Tells (told_line (out_fault_text e)) err told
-      → status ≡ 3 → IsSalvageCutOff (devices old before err) (devices new after told) status
-  salvage_cut e copies same tells is = record {
+  pub salvage_cut : (e : OutFault) → CopiesFront rows mid last before after (Err e) → new.faults ≡ last.faults → Reports (reported_line (out_fault_text e)) err reported
+      → status ≡ 3 → IsSalvageCutOff (devices old before err) (devices new after reported) status
+  salvage_cut e copies same reports is = record {
     rows = rows;
     found = found;
     mid = mid;
@@ -59,6 +59,6 @@ module _ (rows : List Row) (found : Option Fault) (old mid last new : SeenSource
           has_failed e _ _ _ _ refl (sym same) (copies.failed text more (held ∙ ap Some whole) short archive);
     };
     failed = copies.cause;
-    told = tells;
+    reported = reports;
     status_is = is;
   }

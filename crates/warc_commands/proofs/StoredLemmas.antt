@@ -13,28 +13,28 @@ use Rattle.warc.specs.Outcomes.{GivesStoredAt, StoredAnswer, fault_result}
 use Rattle.warc.specs.declared.fault.BodyFault.{BodyFault}
 use Rattle.warc.proofs.ReplayLemmas.{same_index}
 use Rattle.warc_commands.specs.Devices.{devices}
-use Rattle.warc_commands.specs.Program.{Tells}
+use Rattle.warc_commands.specs.Program.{Reports}
 use Rattle.warc_commands.specs.Stored.{IsChosenOf, IsStoredGiven, stored_line, stored_status}
 use Rattle.warc_commands.proofs.ProgramLemmas.{failed_as, good_records_of, may_have_failed_as}
 
 -- what went out of the opened archive, by what was reported of it
-pub stored_given : {S : Type 0} {archive : Archived S} {old mid last new : SeenSource} {before after err told : Seen} {status : ℕ} (position : ℕ) (answer : Result StoredAnswer BodyFault)
+pub stored_given : {S : Type 0} {archive : Archived S} {old mid last new : SeenSource} {before after err reported : Seen} {status : ℕ} (position : ℕ) (answer : Result StoredAnswer BodyFault)
     → Opens IsIndexed old mid (Ok archive) → GivesStoredAt archive.listing.rows archive.index archive.parts position mid last before after answer → new ≡ last
-    → Tells (stored_line answer) err told → status ≡ stored_status answer → IsStoredGiven position (devices old before err) (devices new after told) status
-stored_given {S} {archive} {old} {mid} {last} {new} position answer opens gives same tells is = record {
+    → Reports (stored_line answer) err reported → status ≡ stored_status answer → IsStoredGiven position (devices old before err) (devices new after reported) status
+stored_given {S} {archive} {old} {mid} {last} {new} position answer opens gives same reports is = record {
   answer = answer;
   is = λ bytes held.
       let found = opens.accepted bytes held in
       record {
         records = contents found.listed.are.records;
         are = good_records_of found.listed;
-        told = gives.told bytes (opens.reads.kept ∙ held) found.listed found.kept;
+        reported = gives.reported bytes (opens.reads.kept ∙ held) found.listed found.kept;
         source = failed_as (fault_result answer) _ _ _ _ opens.reads.cause (ap (λ (s : SeenSource). s.faults) (sym same)) (gives.fails.failed bytes (opens.reads.kept ∙ held) (found.listed, found.kept));
       };
   silent = gives.silent;
   source = may_have_failed_as (fault_result answer) _ _ _ _ opens.reads.cause (ap (λ (s : SeenSource). s.faults) (sym same)) gives.fails.may;
   failed = gives.cause;
-  told = tells;
+  reported = reports;
   status_is = is;
 }
 

@@ -8,12 +8,12 @@ use Rattle.warc.specs.Bodies.{IsBodyAt, IsSilentAt, body_fault_text, body_result
 use Rattle.warc.specs.declared.fault.BodyFault.{BodyFault}
 use Rattle.warc.specs.declared.fault.BodyFault.TheVariants.{NoRecord, NoCapture, Replay}
 use Rattle.warc_commands.specs.Devices.{Devices}
-use Rattle.warc_commands.specs.Program.{AreGoodRecordsOf, IsBadWord, IsNotOpened, Tells, answer_text, replay_status, told_line}
+use Rattle.warc_commands.specs.Program.{AreGoodRecordsOf, IsBadWord, IsNotOpened, Reports, answer_text, replay_status, reported_line}
 
 -- the line that `body` writes by what was answered, and its status
 abbrev pub body_line : Result Answer BodyFault → List ℕ
 body_line (Ok answer) = answer_text answer ++ codes "\n"
-body_line (Err fault) = told_line (body_fault_text fault)
+body_line (Err fault) = reported_line (body_fault_text fault)
 
 abbrev pub body_status : Result Answer BodyFault → ℕ
 body_status (Ok answer) = 0
@@ -26,17 +26,17 @@ pub record IsBodyOf (position : ℕ) (answer : Result Answer BodyFault) (bytes :
   where
     pub records : List Record
     pub are : AreGoodRecordsOf bytes records
-    pub told : IsBodyAt records position answer old.out.tells new.out.tells
+    pub reported : IsBodyAt records position answer old.out.reports new.out.reports
     pub source : HasFailedBy (body_result answer) old.source.faults new.source.faults
 
 -- the archive was opened, and the body at a position was asked for
 pub record IsBodyGiven (position : ℕ) (old new : Devices) (status : ℕ) : Type 0 where
   pub answer : Result Answer BodyFault
   pub is : IfHeld old.source.holds (λ bytes. IsBodyOf position answer bytes old new)
-  pub silent : IsSilentAt answer old.out.tells new.out.tells
+  pub silent : IsSilentAt answer old.out.reports new.out.reports
   pub source : MayHaveFailedBy (body_result answer) old.source.faults new.source.faults
   pub failed : new.out.faults ≡ failed_by (body_result answer) old.out.faults
-  pub told : Tells (body_line answer) old.err new.err
+  pub reported : Reports (body_line answer) old.err new.err
   pub status_is : status ≡ body_status answer
 
 -- how `body` ends, by the position that its word says

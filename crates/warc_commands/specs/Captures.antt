@@ -15,7 +15,7 @@ use Rattle.warc.specs.Captures.{capture_positions, captures_text}
 use Rattle.warc.specs.Capturing.{AreFirstOutcomes, AreOutcomes}
 use Rattle.warc.specs.Outcomes.{CaptureSeen}
 use Rattle.warc_commands.specs.Devices.{Devices}
-use Rattle.warc_commands.specs.Program.{IsNotOpened, Tells, told_line}
+use Rattle.warc_commands.specs.Program.{IsNotOpened, Reports, reported_line}
 
 -- the positions of the captures that are listed: of all by position, of a URI by instant, then by position
 abbrev pub AreListed : Option (List ℕ) → List Placed → List ℕ → Type 0
@@ -44,15 +44,15 @@ AreFirstIn uri bytes rows captures = (captures ≡ []) ⊎ AreFrontIn uri bytes 
 
 -- where no capture is listed that is reported, and the status is 1
 abbrev pub CountEnds : List CaptureSeen → Seen → Seen → ℕ → Type 0
-CountEnds [] old new status = Tells (told_line (codes "P1 NoCapture")) old new × (status ≡ 1)
+CountEnds [] old new status = Reports (reported_line (codes "P1 NoCapture")) old new × (status ≡ 1)
 CountEnds (c ∷ cs) old new status = (new ≡ old) × (status ≡ 0)
 
 -- all lines of `captures` went out
-pub record IsCapturesTold (uri : Option (List ℕ)) (old new : Devices) (status : ℕ) : Type 0 where
+pub record IsCapturesReported (uri : Option (List ℕ)) (old new : Devices) (status : ℕ) : Type 0 where
   pub rows : List Row
   pub captures : List CaptureSeen
   pub are : IfHeld old.source.holds (λ bytes. AreCapturesIn uri bytes rows captures)
-  pub told : new.out.tells ≡ append_known old.out.tells (captures_text rows captures)
+  pub reported : new.out.reports ≡ append_known old.out.reports (captures_text rows captures)
   pub unfailed : new.out.faults ≡ old.out.faults
   pub sound : new.source.faults ≡ old.source.faults
   pub ends : CountEnds captures old.err new.err status
@@ -64,15 +64,15 @@ pub record IsCapturesCutOff (uri : Option (List ℕ)) (old new : Devices) (statu
   pub captures : List CaptureSeen
   pub are : IfHeld old.source.holds (λ bytes. AreFirstIn uri bytes rows captures)
   pub fault : OutFault
-  pub front : WentOut old.out.tells (captures_text rows captures) new.out.tells (sent_of fault)
+  pub front : WentOut old.out.reports (captures_text rows captures) new.out.reports (sent_of fault)
   pub failed : new.out.faults ≡ failed_with fault old.out.faults
   pub fails : FailsBy {X = ℕ} (λ bytes. ⊤) (Err fault) old.source new.source
-  pub told : Tells (told_line (out_fault_text fault)) old.err new.err
+  pub reported : Reports (reported_line (out_fault_text fault)) old.err new.err
   pub status_is : status ≡ 3
 
 -- how `captures` ends, of all captures or of the captures of a URI
 abbrev pub CapturesEnds : Option (List ℕ) → Devices → Devices → ℕ → Type 0
-CapturesEnds uri old new status = IsCapturesTold uri old new status
+CapturesEnds uri old new status = IsCapturesReported uri old new status
     ⊎ (IsNotOpened old new status ⊎ IsCapturesCutOff uri old new status)
 
 -- ---- on the way: what writing the lines answers
@@ -80,9 +80,9 @@ CapturesEnds uri old new status = IsCapturesTold uri old new status
 -- how an answer is reported: how many captures there are, or what ended the lines early
 abbrev pub AnswerEnds : Result ℕ OutFault → Seen → Seen → ℕ → Type 0
 AnswerEnds (Ok count) old new status =
-    ((count ≡ 0) × Tells (told_line (codes "P1 NoCapture")) old new × (status ≡ 1))
+    ((count ≡ 0) × Reports (reported_line (codes "P1 NoCapture")) old new × (status ≡ 1))
     ⊎ ((0 < count) × (new ≡ old) × (status ≡ 0))
-AnswerEnds (Err fault) old new status = Tells (told_line (out_fault_text fault)) old new × (status ≡ 3)
+AnswerEnds (Err fault) old new status = Reports (reported_line (out_fault_text fault)) old new × (status ≡ 3)
 
 -- what writing the lines of the captures that are listed does, of an archive that is so of bytes
 pub record WritesListed (Is : List ℕ → Type 0) (uri : Option (List ℕ)) (rows : List Row) (before after : SeenSource)
@@ -91,8 +91,8 @@ pub record WritesListed (Is : List ℕ → Type 0) (uri : Option (List ℕ)) (ro
   pub first : IfHeld before.holds (λ bytes. Is bytes → AreFirstIn uri bytes rows captures)
   pub all : IfHeld before.holds (λ bytes. Is bytes → OnOk answer (AreCapturesIn uri bytes rows captures))
   pub count : IfOk answer (λ n. n ≡ length captures)
-  pub told : OnOk answer (out'.tells ≡ append_known out.tells (captures_text rows captures))
-  pub cut : IfErr answer (λ e. WentOut out.tells (captures_text rows captures) out'.tells (sent_of e))
+  pub reported : OnOk answer (out'.reports ≡ append_known out.reports (captures_text rows captures))
+  pub cut : IfErr answer (λ e. WentOut out.reports (captures_text rows captures) out'.reports (sent_of e))
   pub inside : (bytes : List ℕ) → Is bytes → AsksOnly (λ at. at < length bytes) before after
   pub keeps : Preserves before after
   pub fails : FailsBy Is answer before after

@@ -17,7 +17,7 @@ use Rattle.warc.specs.Closing.{AreWithNeeded, AreWithout}
 use Rattle.warc.specs.Closure.{GivesPositions, records_read}
 use Rattle.warc.specs.Selecting.{ArePositions}
 use Rattle.warc_commands.specs.Devices.{Devices}
-use Rattle.warc_commands.specs.Program.{IsBadWord, IsNotOpened, Tells, told_line}
+use Rattle.warc_commands.specs.Program.{IsBadWord, IsNotOpened, Reports, reported_line}
 use Rattle.warc_commands.specs.Selected.{AreTheNamed, IsAbsent, ReadsSome, SendEnds}
 use Rattle.warc_commands.specs.Uris.{IsStarved}
 
@@ -64,7 +64,7 @@ pub record IsUnclosed (rows : List Row) (old new : Devices) (status : ℕ) : Typ
   pub early : IsEarly (Out fault)
   pub fails : FailsBy {X = ℕ} (λ bytes. IsArchiveOf bytes rows) (Err fault) old.source new.source
   pub untouched : new.out ≡ old.out
-  pub told : Tells (told_line (out_fault_text fault)) old.err new.err
+  pub reported : Reports (reported_line (out_fault_text fault)) old.err new.err
   pub status_is : status ≡ 3
 
 -- how it ends by the named positions in their order, each once

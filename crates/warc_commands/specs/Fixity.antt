@@ -10,18 +10,18 @@ use Rattle.warc_reading.specs.Row.{Row}
 use Rattle.warc.specs.Fixity.{AreDigested, Judgements, counts_of, fixity_text}
 use Rattle.warc.specs.declared.opened.fixity.Counts.{Counts}
 use Rattle.warc_commands.specs.Devices.{Devices}
-use Rattle.warc_commands.specs.Program.{IsNotOpened, Tells, told_line}
+use Rattle.warc_commands.specs.Program.{IsNotOpened, Reports, reported_line}
 
 -- the status where all was written: 1 where a block is bad, else 4 where one can't be checked, else 0
 abbrev pub fixity_status : Counts → ℕ
 fixity_status counts = if nat_lt 0 counts.bad then 1 else if nat_lt 0 counts.unchecked then 4 else 0
 
 -- all lines of `fixity` went out
-pub record IsFixityTold (old new : Devices) (status : ℕ) : Type 0 where
+pub record IsFixityReported (old new : Devices) (status : ℕ) : Type 0 where
   pub rows : List Row
   pub judged : Judgements
   pub are : IfHeld old.source.holds (λ bytes. AreDigested bytes rows judged)
-  pub told : new.out.tells ≡ append_known old.out.tells (fixity_text rows judged)
+  pub reported : new.out.reports ≡ append_known old.out.reports (fixity_text rows judged)
   pub unfailed : new.out.faults ≡ old.out.faults
   pub sound : new.source.faults ≡ old.source.faults
   pub silent : new.err ≡ old.err
@@ -34,11 +34,12 @@ pub record IsFixityCutOff (old new : Devices) (status : ℕ) : Type 0 where
   pub judged : Judgements
   pub are : IfHeld old.source.holds (λ bytes. AreDigested bytes rows judged)
   pub sent : ℕ
-  pub front : WentOut old.out.tells (fixity_text rows judged) new.out.tells sent
+  pub front : WentOut old.out.reports (fixity_text rows judged) new.out.reports sent
   pub failed : new.out.faults ≡ raised old.out.faults
   pub sound : new.source.faults ≡ old.source.faults
-  pub told : Tells (told_line (out_fault_text (Write sent))) old.err new.err
+  pub reported : Reports (reported_line (out_fault_text (Write sent))) old.err new.err
   pub status_is : status ≡ 3
 
 abbrev pub FixityEnds : Devices → Devices → ℕ → Type 0
-FixityEnds old new status = IsFixityTold old new status ⊎ (IsNotOpened old new status ⊎ IsFixityCutOff old new status)
+FixityEnds old new status =
+    IsFixityReported old new status ⊎ (IsNotOpened old new status ⊎ IsFixityCutOff old new status)

@@ -11,7 +11,7 @@ use Rattle.warc.specs.declared.fault.ExtractFault.{ExtractFault}
 use Rattle.warc.specs.declared.fault.ExtractFault.TheVariants.{NoRecord}
 use Rattle.warc.specs.declared.record.part.Part.{Part}
 use Rattle.warc_commands.specs.Devices.{Devices}
-use Rattle.warc_commands.specs.Program.{IsBadWord, IsNotOpened, TellsIf, extract_line, extract_status}
+use Rattle.warc_commands.specs.Program.{IsBadWord, IsNotOpened, ReportsIf, extract_line, extract_status}
 
 -- the position that a word names: decimal digits, a number up to the length of the longest archive
 abbrev pub position_of : List ℕ → Option ℕ
@@ -22,18 +22,18 @@ pub record IsPartOf (part : Part) (position : ℕ) (answer : Result ℕ ExtractF
     (old new : Devices) : Type 0 where
   pub rows : List Row
   pub is : IsArchiveOf bytes rows
-  pub told : IsGiven (option_map (λ p. part_text part bytes p) (slice_get is.are.records position)) answer
-      old.out.tells new.out.tells
+  pub reported : IsGiven (option_map (λ p. part_text part bytes p) (slice_get is.are.records position)) answer
+      old.out.reports new.out.reports
   pub source : HasFailedBy (extract_result answer) old.source.faults new.source.faults
 
 -- the archive was opened, and a part of a record was asked for
 pub record IsPartGiven (part : Part) (position : ℕ) (old new : Devices) (status : ℕ) : Type 0 where
   pub answer : Result ℕ ExtractFault
   pub is : IfHeld old.source.holds (λ bytes. IsPartOf part position answer bytes old new)
-  pub silent : answer ≡ Err NoRecord → new.out.tells ≡ old.out.tells
+  pub silent : answer ≡ Err NoRecord → new.out.reports ≡ old.out.reports
   pub source : MayHaveFailedBy (extract_result answer) old.source.faults new.source.faults
   pub failed : new.out.faults ≡ failed_by (extract_result answer) old.out.faults
-  pub told : TellsIf (extract_line answer) old.err new.err
+  pub reported : ReportsIf (extract_line answer) old.err new.err
   pub status_is : status ≡ extract_status answer
 
 -- how giving a part of the record at a position ends

@@ -15,7 +15,7 @@ use Rattle.warc_reading.specs.Row.{Row}
 use Rattle.warc.specs.PayloadText.{are_verified, payload_counts, payloads_text}
 use Rattle.warc.specs.PayloadVerdicts.{AreJudgedPayloads, PayloadJudgements}
 use Rattle.warc_commands.specs.Devices.{Devices}
-use Rattle.warc_commands.specs.Program.{IsNotOpened, Tells, told_line}
+use Rattle.warc_commands.specs.Program.{IsNotOpened, Reports, reported_line}
 
 -- the status where all was written: 1 where a payload is bad, else 0 where all of them are verified, else 4
 abbrev pub payload_status : PayloadJudgements → ℕ
@@ -30,23 +30,23 @@ pub record ArePayloadsIn (bytes : List ℕ) (rows : List Row) (judged : PayloadJ
 -- how writing the lines of verdicts ends: all of them went out, or a write failed and a front of them did
 abbrev pub PayloadLinesEnd : List Row → PayloadJudgements → Seen → Seen → Seen → Seen → ℕ → Type 0
 PayloadLinesEnd rows judged out out' err err' status =
-    ((out'.tells ≡ append_known out.tells (payloads_text rows judged)) × (out'.faults ≡ out.faults) × (err' ≡ err)
+    ((out'.reports ≡ append_known out.reports (payloads_text rows judged)) × (out'.faults ≡ out.faults) × (err' ≡ err)
     × (status ≡ payload_status judged) × ((status ≡ 0) ⊎ ((status ≡ 1) ⊎ (status ≡ 4))))
-    ⊎ ((sent : ℕ) × WentOut out.tells (payloads_text rows judged) out'.tells sent × (out'.faults ≡ raised out.faults)
-    × Tells (told_line (out_fault_text (Write sent))) err err' × (status ≡ 3))
+    ⊎ ((sent : ℕ) × WentOut out.reports (payloads_text rows judged) out'.reports sent
+    × (out'.faults ≡ raised out.faults) × Reports (reported_line (out_fault_text (Write sent))) err err' × (status ≡ 3))
 
 -- the same, or nothing was written since the payloads couldn't be judged
 abbrev pub PayloadsListed : List Row → Result PayloadJudgements OutFault → Seen → Seen → Seen → Seen → ℕ → Type 0
 PayloadsListed rows (Ok judged) out out' err err' status = PayloadLinesEnd rows judged out out' err err' status
 PayloadsListed rows (Err fault) out out' err err' status =
-    (out' ≡ out) × Tells (told_line (out_fault_text fault)) err err' × (status ≡ 3)
+    (out' ≡ out) × Reports (reported_line (out_fault_text fault)) err err' × (status ≡ 3)
 
 -- all lines of `fixity --payload` went out
-pub record IsPayloadsTold (old new : Devices) (status : ℕ) : Type 0 where
+pub record IsPayloadsReported (old new : Devices) (status : ℕ) : Type 0 where
   pub rows : List Row
   pub judged : PayloadJudgements
   pub are : IfHeld old.source.holds (λ bytes. ArePayloadsIn bytes rows judged)
-  pub told : new.out.tells ≡ append_known old.out.tells (payloads_text rows judged)
+  pub reported : new.out.reports ≡ append_known old.out.reports (payloads_text rows judged)
   pub unfailed : new.out.faults ≡ old.out.faults
   pub sound : new.source.faults ≡ old.source.faults
   pub silent : new.err ≡ old.err
@@ -59,10 +59,10 @@ pub record IsPayloadsCutOff (old new : Devices) (status : ℕ) : Type 0 where
   pub judged : PayloadJudgements
   pub are : IfHeld old.source.holds (λ bytes. ArePayloadsIn bytes rows judged)
   pub sent : ℕ
-  pub front : WentOut old.out.tells (payloads_text rows judged) new.out.tells sent
+  pub front : WentOut old.out.reports (payloads_text rows judged) new.out.reports sent
   pub failed : new.out.faults ≡ raised old.out.faults
   pub sound : new.source.faults ≡ old.source.faults
-  pub told : Tells (told_line (out_fault_text (Write sent))) old.err new.err
+  pub reported : Reports (reported_line (out_fault_text (Write sent))) old.err new.err
   pub status_is : status ≡ 3
 
 -- a read or a growth of the memory failed before anything was written
@@ -71,10 +71,10 @@ pub record IsUnjudged (old new : Devices) (status : ℕ) : Type 0 where
   pub early : IsEarly (Out fault)
   pub fails : FailsBy {X = ℕ} (λ bytes. ⊤) (Err fault) old.source new.source
   pub untouched : new.out ≡ old.out
-  pub told : Tells (told_line (out_fault_text fault)) old.err new.err
+  pub reported : Reports (reported_line (out_fault_text fault)) old.err new.err
   pub status_is : status ≡ 3
 
 -- how `fixity --payload` ends
 abbrev pub PayloadsEnd : Devices → Devices → ℕ → Type 0
-PayloadsEnd old new status = IsPayloadsTold old new status
+PayloadsEnd old new status = IsPayloadsReported old new status
     ⊎ (IsNotOpened old new status ⊎ (IsPayloadsCutOff old new status ⊎ IsUnjudged old new status))

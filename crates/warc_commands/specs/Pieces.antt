@@ -18,7 +18,7 @@ use Rattle.warc_pieces.specs.Reader.{AreBefore, AreGiven, faults_after_stop}
 use Rattle.warc_pieces.specs.declared.piece.Piece.{Piece}
 use Rattle.warc_pieces.specs.declared.piece.Piece.TheVariants.{Records, Damage}
 use Rattle.warc_commands.specs.Devices.{Devices}
-use Rattle.warc_commands.specs.Program.{Tells, fault_line, status_of_kind, told_line}
+use Rattle.warc_commands.specs.Program.{Reports, fault_line, status_of_kind, reported_line}
 use Rattle.warc_commands.specs.Salvage.{amount_line}
 
 -- the line of a piece
@@ -48,9 +48,9 @@ pieces_status None pieces = if has_damage pieces then 2 else 0
 pieces_status (Some f) pieces = status_of_kind f.kind
 
 -- lines were written, one after another
-abbrev pub TellsEach : List (List ℕ) → Seen → Seen → Type 0
-TellsEach [] old new = new ≡ old
-TellsEach (line ∷ lines) old new = (mid : Seen) × Tells line old mid × TellsEach lines mid new
+abbrev pub ReportsEach : List (List ℕ) → Seen → Seen → Type 0
+ReportsEach [] old new = new ≡ old
+ReportsEach (line ∷ lines) old new = (mid : Seen) × Reports line old mid × ReportsEach lines mid new
 
 -- the line of what stopped reading, if anything did
 abbrev pub stop_lines : Option Fault → List (List ℕ)
@@ -61,10 +61,10 @@ pub record ArePrinted (old new : Devices) (status : ℕ) : Type 0 where
   pub pieces : List Piece
   pub stop : Option Fault
   pub are : IfHeld old.source.holds (λ bytes. AreRead bytes stop pieces)
-  pub told : new.out.tells ≡ append_known old.out.tells (pieces_text pieces)
+  pub reported : new.out.reports ≡ append_known old.out.reports (pieces_text pieces)
   pub unfailed : new.out.faults ≡ old.out.faults
   pub source : new.source.faults ≡ faults_after_stop stop old.source.faults
-  pub err : TellsEach (stop_lines stop) old.err new.err
+  pub err : ReportsEach (stop_lines stop) old.err new.err
   pub status_is : status ≡ pieces_status stop pieces
 
 -- a write failed: a front of the lines of the pieces that were found so far went out
@@ -74,17 +74,17 @@ pub record ArePrintedInPart (old new : Devices) (status : ℕ) : Type 0 where
   pub at : ℕ
   pub are : IfHeld old.source.holds (λ bytes. AreGiven bytes at stop pieces)
   pub sent : ℕ
-  pub front : WentOut old.out.tells (pieces_text pieces) new.out.tells sent
+  pub front : WentOut old.out.reports (pieces_text pieces) new.out.reports sent
   pub failed : new.out.faults ≡ raised old.out.faults
   pub source : new.source.faults ≡ faults_after_stop stop old.source.faults
-  pub told : Tells (told_line (out_fault_text (Write sent))) old.err new.err
+  pub reported : Reports (reported_line (out_fault_text (Write sent))) old.err new.err
   pub status_is : status ≡ 3
 
 -- there is no memory to begin with
 pub record IsUnbegun (old new : Devices) (status : ℕ) : Type 0 where
   pub same : new.source ≡ old.source
   pub untouched : new.out ≡ old.out
-  pub told : Tells (fault_line (record { kind = Memory; offset = 0 })) old.err new.err
+  pub reported : Reports (fault_line (record { kind = Memory; offset = 0 })) old.err new.err
   pub status_is : status ≡ 3
 
 -- how `pieces` ends
@@ -94,7 +94,7 @@ PiecesEnd old new status = ArePrinted old new status ⊎ (ArePrintedInPart old n
 -- the line of a damage
 abbrev pub damage_line : ℕ → ℕ → Fault → List ℕ
 damage_line offset len fault =
-    told_line (codes "damage " ++ decimal offset ++ codes " " ++ decimal len ++ codes " " ++ fault_text fault)
+    reported_line (codes "damage " ++ decimal offset ++ codes " " ++ decimal len ++ codes " " ++ fault_text fault)
 
 -- the lines of the damages among pieces, in order
 abbrev pub damage_lines : List Piece → List (List ℕ)
@@ -125,11 +125,11 @@ pub record AreSalvaged (old new : Devices) (status : ℕ) : Type 0 where
   pub pieces : List Piece
   pub stop : Option Fault
   pub are : IfHeld old.source.holds (λ bytes. AreRead bytes stop pieces)
-  pub told : IfHeld old.source.holds (λ bytes. length bytes < 2 ^ 64
-      → new.out.tells ≡ append_known old.out.tells (salvaged bytes pieces))
+  pub reported : IfHeld old.source.holds (λ bytes. length bytes < 2 ^ 64
+      → new.out.reports ≡ append_known old.out.reports (salvaged bytes pieces))
   pub unfailed : new.out.faults ≡ old.out.faults
   pub source : new.source.faults ≡ faults_after_stop stop old.source.faults
-  pub err : TellsEach (damage_lines pieces ++ stop_lines stop ++ salvaged_line stop pieces ∷ []) old.err new.err
+  pub err : ReportsEach (damage_lines pieces ++ stop_lines stop ++ salvaged_line stop pieces ∷ []) old.err new.err
   pub status_is : status ≡ pieces_status stop pieces
 
 -- a read or a write failed while they were written
@@ -140,12 +140,12 @@ pub record AreSalvagedInPart (old new : Devices) (status : ℕ) : Type 0 where
   pub are : IfHeld old.source.holds (λ bytes. AreGiven bytes at stop pieces)
   pub fault : OutFault
   pub front : IfHeld old.source.holds (λ bytes. length bytes < 2 ^ 64
-      → WentOut old.out.tells (salvaged bytes pieces) new.out.tells (sent_of fault))
+      → WentOut old.out.reports (salvaged bytes pieces) new.out.reports (sent_of fault))
   pub source : IfHeld old.source.holds (λ bytes. length bytes < 2 ^ 64
       → HasFailedBy {X = ℕ} (Err fault) (faults_after_stop stop old.source.faults) new.source.faults)
   pub may : MayHaveFailedBy {X = ℕ} (Err fault) (faults_after_stop stop old.source.faults) new.source.faults
   pub failed : new.out.faults ≡ failed_with fault old.out.faults
-  pub err : TellsEach (damage_lines pieces ++ told_line (out_fault_text fault) ∷ []) old.err new.err
+  pub err : ReportsEach (damage_lines pieces ++ reported_line (out_fault_text fault) ∷ []) old.err new.err
   pub status_is : status ≡ 3
 
 -- how `salvage --all` ends

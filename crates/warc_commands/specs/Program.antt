@@ -40,11 +40,11 @@ use Rattle.warc_commands.specs.Devices.{Devices}
 use Rattle.warc_frame.specs.Seen.{IfHeld, Seen}
 
 -- a text as a line of the program
-abbrev pub told_line : List ℕ → List ℕ
-told_line text = codes "warc: " ++ text ++ codes "\n"
+abbrev pub reported_line : List ℕ → List ℕ
+reported_line text = codes "warc: " ++ text ++ codes "\n"
 
 abbrev pub fault_line : Fault → List ℕ
-fault_line f = told_line (fault_text f)
+fault_line f = reported_line (fault_text f)
 
 -- the status where an archive isn't opened: 3 where a read or a growth of the memory failed, else 2
 abbrev pub status_of_kind : FaultKind → ℕ
@@ -53,9 +53,9 @@ status_of_kind Memory = 3
 status_of_kind kind = 2
 
 -- a line was written: all of it, unless a write failed, and then a front of it
-pub record Tells (line : List ℕ) (old new : Seen) : Type 0 where
+pub record Reports (line : List ℕ) (old new : Seen) : Type 0 where
   pub count : ℕ
-  pub front : new.tells ≡ append_known old.tells (take count line)
+  pub front : new.reports ≡ append_known old.reports (take count line)
   pub whole : new.faults ≡ old.faults → old.faults + 1 < 2 ^ 64 → count ≡ length line
 
 -- a command ends early, before it writes: the bytes were refused for their first fault (status 2), or a read or
@@ -67,14 +67,14 @@ pub record IsNotOpened (old new : Devices) (status : ℕ) : Type 0 where
   pub failed : new.source.faults ≡ faults_after fault.kind old.source.faults
   pub asked : fault.kind ≡ Read → fault.offset ≡ new.source.asked
   pub untouched : new.out ≡ old.out
-  pub told : Tells (fault_line fault) old.err new.err
+  pub reported : Reports (fault_line fault) old.err new.err
   pub status_is : status ≡ status_of_kind fault.kind
 
 -- all lines of `list` went out
 pub record IsListed (old new : Devices) (status : ℕ) : Type 0 where
   pub rows : List Row
   pub are : IfHeld old.source.holds (λ bytes. IsArchiveOf bytes rows)
-  pub told : new.out.tells ≡ append_known old.out.tells (listing rows)
+  pub reported : new.out.reports ≡ append_known old.out.reports (listing rows)
   pub unfailed : new.out.faults ≡ old.out.faults
   pub sound : new.source.faults ≡ old.source.faults
   pub silent : new.err ≡ old.err
@@ -85,10 +85,10 @@ pub record IsListCutOff (old new : Devices) (status : ℕ) : Type 0 where
   pub rows : List Row
   pub are : IfHeld old.source.holds (λ bytes. IsArchiveOf bytes rows)
   pub sent : ℕ
-  pub front : WentOut old.out.tells (listing rows) new.out.tells sent
+  pub front : WentOut old.out.reports (listing rows) new.out.reports sent
   pub failed : new.out.faults ≡ raised old.out.faults
   pub sound : new.source.faults ≡ old.source.faults
-  pub told : Tells (told_line (out_fault_text (Write sent))) old.err new.err
+  pub reported : Reports (reported_line (out_fault_text (Write sent))) old.err new.err
   pub status_is : status ≡ 3
 
 -- how `list` ends
@@ -110,7 +110,7 @@ pub record AreGoodRecordsOf (bytes : List ℕ) (records : List Record) : Type 0 
 pub record IsCheckOf (bytes : List ℕ) (old new : Seen) (status : ℕ) : Type 0 where
   pub records : List Record
   pub are : AreGoodRecordsOf bytes records
-  pub told : new.tells ≡ append_known old.tells (check_text records)
+  pub reported : new.reports ≡ append_known old.reports (check_text records)
   pub status_is : status ≡ status_of_findings (findings_of_archive records)
 
 -- all lines of `check` went out
@@ -127,7 +127,7 @@ pub record IsFrontOf (text : List Record → List ℕ) (bytes : List ℕ) (fault
     : Type 0 where
   pub records : List Record
   pub are : AreGoodRecordsOf bytes records
-  pub front : WentOut old.out.tells (text records) new.out.tells (sent_of fault)
+  pub front : WentOut old.out.reports (text records) new.out.reports (sent_of fault)
   pub source : HasFailedBy {X = ℕ} (Err fault) old.source.faults new.source.faults
 
 -- a read, a write or a growth of the memory failed while a text of the records was written
@@ -136,7 +136,7 @@ pub record IsCutOff (text : List Record → List ℕ) (old new : Devices) (statu
   pub is : IfHeld old.source.holds (λ bytes. IsFrontOf text bytes fault old new)
   pub source : MayHaveFailedBy {X = ℕ} (Err fault) old.source.faults new.source.faults
   pub failed : new.out.faults ≡ failed_with fault old.out.faults
-  pub told : Tells (told_line (out_fault_text fault)) old.err new.err
+  pub reported : Reports (reported_line (out_fault_text fault)) old.err new.err
   pub status_is : status ≡ 3
 
 -- a write or a growth of the memory failed after an archive was opened for `check`. All was read before that, so no
@@ -152,14 +152,14 @@ CheckEnds old new status =
     IsChecked old new status ⊎ (IsNotOpened old new status ⊎ IsCheckCutOff old new status)
 
 -- a line was written, or none
-abbrev pub TellsIf : Option (List ℕ) → Seen → Seen → Type 0
-TellsIf None old new = new ≡ old
-TellsIf (Some line) old new = Tells line old new
+abbrev pub ReportsIf : Option (List ℕ) → Seen → Seen → Type 0
+ReportsIf None old new = new ≡ old
+ReportsIf (Some line) old new = Reports line old new
 
 -- the line that `extract` writes by what was answered, none where the whole block was written; and its status
 abbrev pub extract_line : Result ℕ ExtractFault → Option (List ℕ)
 extract_line (Ok n) = None
-extract_line (Err fault) = Some (told_line (extract_fault_text fault))
+extract_line (Err fault) = Some (reported_line (extract_fault_text fault))
 
 abbrev pub extract_status : Result ℕ ExtractFault → ℕ
 extract_status (Ok n) = 0
@@ -171,17 +171,17 @@ pub record IsExtractOf (id : List ℕ) (answer : Result ℕ ExtractFault) (bytes
     : Type 0 where
   pub rows : List Row
   pub is : IsArchiveOf bytes rows
-  pub told : IsExtract (extracted is.are.records id) answer old.out.tells new.out.tells
+  pub reported : IsExtract (extracted is.are.records id) answer old.out.reports new.out.reports
   pub source : HasFailedBy (extract_result answer) old.source.faults new.source.faults
 
 -- the archive was opened, and a block was asked for
 pub record IsExtracted (id : List ℕ) (old new : Devices) (status : ℕ) : Type 0 where
   pub answer : Result ℕ ExtractFault
   pub is : IfHeld old.source.holds (λ bytes. IsExtractOf id answer bytes old new)
-  pub silent : answer ≡ Err NoRecord → new.out.tells ≡ old.out.tells
+  pub silent : answer ≡ Err NoRecord → new.out.reports ≡ old.out.reports
   pub source : MayHaveFailedBy (extract_result answer) old.source.faults new.source.faults
   pub failed : new.out.faults ≡ failed_by (extract_result answer) old.out.faults
-  pub told : TellsIf (extract_line answer) old.err new.err
+  pub reported : ReportsIf (extract_line answer) old.err new.err
   pub status_is : status ≡ extract_status answer
 
 -- how `extract` ends
@@ -207,7 +207,7 @@ answer_text answer =
 -- the line that `replay` writes by what was answered, and its status
 abbrev pub replay_line : Result Answer ReplayFault → List ℕ
 replay_line (Ok answer) = answer_text answer ++ codes "\n"
-replay_line (Err fault) = told_line (replay_fault_text fault)
+replay_line (Err fault) = reported_line (replay_fault_text fault)
 
 abbrev pub replay_status : Result Answer ReplayFault → ℕ
 replay_status (Ok answer) = 0
@@ -219,24 +219,24 @@ pub record IsReplayOf (uri : List ℕ) (moment : Instant) (answer : Result Answe
     (old new : Devices) : Type 0 where
   pub records : List Record
   pub are : AreGoodRecordsOf bytes records
-  pub told : IsReplay records uri moment answer old.out.tells new.out.tells
+  pub reported : IsReplay records uri moment answer old.out.reports new.out.reports
   pub source : HasFailedBy (out_result answer) old.source.faults new.source.faults
 
 -- the archive was opened, and a body was asked for
 pub record IsReplayed (uri : List ℕ) (moment : Instant) (old new : Devices) (status : ℕ) : Type 0 where
   pub answer : Result Answer ReplayFault
   pub is : IfHeld old.source.holds (λ bytes. IsReplayOf uri moment answer bytes old new)
-  pub silent : IsSilent answer old.out.tells new.out.tells
+  pub silent : IsSilent answer old.out.reports new.out.reports
   pub source : MayHaveFailedBy (out_result answer) old.source.faults new.source.faults
   pub failed : new.out.faults ≡ failed_by (out_result answer) old.out.faults
-  pub told : Tells (replay_line answer) old.err new.err
+  pub reported : Reports (replay_line answer) old.err new.err
   pub status_is : status ≡ replay_status answer
 
 -- a word isn't what it should be, as is reported: nothing was read or written
 pub record IsBadWord (why : List ℕ) (old new : Devices) (status : ℕ) : Type 0 where
   pub unread : new.source ≡ old.source
   pub untouched : new.out ≡ old.out
-  pub told : Tells (told_line why) old.err new.err
+  pub reported : Reports (reported_line why) old.err new.err
   pub status_is : status ≡ 3
 
 -- how `replay` ends, as of the first instant of a date
@@ -248,7 +248,7 @@ ReplayEnds uri (Some moment) old new status = IsReplayed uri moment old new stat
 pub record IsWrittenOf (text : List Record → List ℕ) (bytes : List ℕ) (old new : Seen) : Type 0 where
   pub records : List Record
   pub are : AreGoodRecordsOf bytes records
-  pub told : new.tells ≡ append_known old.tells (text records)
+  pub reported : new.reports ≡ append_known old.reports (text records)
 
 -- all of it was written
 pub record IsWritten (text : List Record → List ℕ) (old new : Devices) (status : ℕ) : Type 0 where
@@ -288,7 +288,7 @@ plan_of d bytes = record {
 pub record IsMadeOf (d : Draft) (bytes : List ℕ) (old new : Seen) : Type 0 where
   pub content : Record
   pub is : made (plan_of d bytes) ≡ Ok content
-  pub told : new.tells ≡ append_known old.tells (canonical content)
+  pub reported : new.reports ≡ append_known old.reports (canonical content)
 
 pub record IsMade (d : Draft) (old new : Devices) (status : ℕ) : Type 0 where
   pub is : IfHeld old.source.holds (λ bytes. IsMadeOf d bytes old.out new.out)
@@ -303,7 +303,7 @@ pub record IsNotMade (d : Draft) (old new : Devices) (status : ℕ) : Type 0 whe
   pub is : IfHeld old.source.holds (λ bytes. Makes (Err fault) (made (plan_of d bytes)))
   pub sound : new.source.faults ≡ old.source.faults
   pub untouched : new.out ≡ old.out
-  pub told : Tells (told_line (make_fault_text fault)) old.err new.err
+  pub reported : Reports (reported_line (make_fault_text fault)) old.err new.err
   pub status_is : status ≡ 3
 
 -- a read or a growth of the memory failed, and no write: nothing went out
@@ -318,21 +318,21 @@ pub record IsNotRead (old new : Devices) (status : ℕ) : Type 0 where
   pub source : HasFailedBy {X = ℕ} (Err fault) old.source.faults new.source.faults
   pub unsent : IsUnsent fault
   pub untouched : new.out ≡ old.out
-  pub told : Tells (told_line (out_fault_text fault)) old.err new.err
+  pub reported : Reports (reported_line (out_fault_text fault)) old.err new.err
   pub status_is : status ≡ 3
 
 -- a write failed: a front of the record went out
 pub record IsMadeFront (d : Draft) (bytes : List ℕ) (sent : ℕ) (old new : Seen) : Type 0 where
   pub content : Record
   pub is : made (plan_of d bytes) ≡ Ok content
-  pub front : WentOut old.tells (canonical content) new.tells sent
+  pub front : WentOut old.reports (canonical content) new.reports sent
 
 pub record IsMadeCutOff (d : Draft) (old new : Devices) (status : ℕ) : Type 0 where
   pub sent : ℕ
   pub is : IfHeld old.source.holds (λ bytes. IsMadeFront d bytes sent old.out new.out)
   pub failed : new.out.faults ≡ raised old.out.faults
   pub sound : new.source.faults ≡ old.source.faults
-  pub told : Tells (told_line (out_fault_text (Write sent))) old.err new.err
+  pub reported : Reports (reported_line (out_fault_text (Write sent))) old.err new.err
   pub status_is : status ≡ 3
 
 -- how `write` ends
@@ -344,14 +344,15 @@ MakeEnds d old new status =
 -- a text that was asked for went out, or a write failed and a front of it did
 abbrev pub IsShown : List ℕ → Seen → Seen → Seen → Seen → ℕ → Type 0
 IsShown text out out' err err' status =
-    ((status ≡ 0) × (out'.tells ≡ append_known out.tells text) × (out'.faults ≡ out.faults) × (err' ≡ err))
-    ⊎ ((status ≡ 3) × (sent : ℕ) × (out'.tells ≡ append_known out.tells (take sent text))
+    ((status ≡ 0) × (out'.reports ≡ append_known out.reports text) × (out'.faults ≡ out.faults) × (err' ≡ err))
+    ⊎ ((status ≡ 3) × (sent : ℕ) × (out'.reports ≡ append_known out.reports (take sent text))
     × (out'.faults ≡ raised out.faults)
-    × Tells (told_line (out_fault_text (Write sent))) err err')
+    × Reports (reported_line (out_fault_text (Write sent))) err err')
 
 -- how a run ends where the words name no command
 abbrev pub FaultEnds : CommandFault → Seen → Seen → Seen → Seen → ℕ → Type 0
 FaultEnds (Usage text true) out out' err err' status = IsShown (string_bytes text) out out' err err' status
-FaultEnds (Usage text false) out out' err err' status = (out' ≡ out) × Tells (string_bytes text) err err' × (status ≡ 3)
+FaultEnds (Usage text false) out out' err err' status =
+    (out' ≡ out) × Reports (string_bytes text) err err' × (status ≡ 3)
 FaultEnds OutOfMemory out out' err err' status =
-    (out' ≡ out) × Tells (told_line (out_fault_text (NoMemory 0))) err err' × (status ≡ 3)
+    (out' ≡ out) × Reports (reported_line (out_fault_text (NoMemory 0))) err err' × (status ≡ 3)

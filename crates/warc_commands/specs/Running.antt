@@ -12,10 +12,10 @@ use Rattle.warc_arguments.specs.Command.{list_word, opens_nothing, path_word, re
 use Rattle.warc_arguments.specs.Parsed.{IsParsed, ReadLine}
 use Rattle.warc_commands.specs.Devices.{devices}
 use Rattle.warc_commands.specs.Ends.{Ends, IsStatusOf, writes_front}
-use Rattle.warc_commands.specs.Program.{FaultEnds, IsNotRead, Tells, told_line}
+use Rattle.warc_commands.specs.Program.{FaultEnds, IsNotRead, Reports, reported_line}
 use Rattle.warc_commands.specs.Reads.{CommandReads}
-use Rattle.warc_commands.specs.declared.runs.Place.{Place}
-use Rattle.warc_commands.specs.declared.runs.Place.TheVariants.{File, Memory as InMemory, Input, Nowhere}
+use Rattle.warc_commands.specs.declared.runs.Location.{Location}
+use Rattle.warc_commands.specs.declared.runs.Location.TheVariants.{File, Memory as InMemory, Input, Nowhere}
 use Rattle.warc_commands.specs.declared.runs.RunSource.{RunSource}
 use Rattle.warc_commands.specs.declared.runs.RunSource.TheVariants as sources
 use Rattle.warc_arguments.specs.declared.words.Command.{Command}
@@ -38,12 +38,12 @@ abbrev pub outputs : Seen → Seen → Outputs
 outputs out err = record { out = out; err = err }
 
 -- where the bytes of a command are, by its path
-abbrev pub place_at : List ℕ → Place
+abbrev pub place_at : List ℕ → Location
 place_at path =
     if bytes_eq path (codes "-") then Input else (if bytes_eq path (codes "/dev/stdin") then InMemory else File)
 
 -- where the bytes of a command are: nowhere, if it reads nothing
-abbrev pub command_place : Command → Place
+abbrev pub command_place : Command → Location
 command_place command = if opens_nothing command then Nowhere else place_at (path_word command)
 
 -- why a run can't begin, by the kind of an error
@@ -54,7 +54,7 @@ stop_text why kind = why
 -- a run couldn't begin: a line says why, nothing went to standard output, and the status is 3
 pub record IsStopped (why : List ℕ) (old new : Outputs) (status : ℕ) : Type 0 where
   pub untouched : new.out ≡ old.out
-  pub told : Tells (told_line why) old.err new.err
+  pub reported : Reports (reported_line why) old.err new.err
   pub status_is : status ≡ 3
 
 -- a command was done over a list and a source, which it left in a last state
@@ -64,7 +64,7 @@ pub record IsRunOver (command : Command) (list : List ℕ) (source last : SeenSo
   pub ends : Ends command list (devices source old.out old.err) (devices last new.out new.err) status
   pub reads : CommandReads command source last
   pub silent : writes_front command ≡ false → status ≡ 2
-      → (new.out.tells ≡ old.out.tells) × (new.out.faults ≡ old.out.faults)
+      → (new.out.reports ≡ old.out.reports) × (new.out.faults ≡ old.out.faults)
   pub answers : IsStatusOf command status
 
 -- what is seen of what a run gives back, if it read something of the system's
@@ -238,7 +238,7 @@ pub record ReadsInput (gives : Offer → Type 0) (left : Option SeenSource) (com
       (λ source. RunsOver gives left command source old new status)
 
 -- how a command ends, by where its bytes are
-abbrev pub PlaceEnds : Place → (Offer → Type 0) → Option SeenSource → Command → Outputs → Outputs → ℕ → Type 0
+abbrev pub PlaceEnds : Location → (Offer → Type 0) → Option SeenSource → Command → Outputs → Outputs → ℕ → Type 0
 PlaceEnds File gives left command old new status = ReadsFile gives left command old new status
 PlaceEnds InMemory gives left command old new status =
     ReadsMemory gives left (codes "read failed after 0") command old new status

@@ -13,18 +13,18 @@ use Rattle.warc_reading.specs.Opening.{Opens}
 use Rattle.warc_reading.specs.Row.{Row}
 use Rattle.warc.specs.Front.{AreRowsOfFront, refused_by}
 use Rattle.warc_commands.specs.Devices.{Devices}
-use Rattle.warc_commands.specs.Program.{Tells, fault_line, status_of_kind, told_line}
+use Rattle.warc_commands.specs.Program.{Reports, fault_line, status_of_kind, reported_line}
 
 -- a line of how many records and bytes went out
 abbrev pub amount_line : List ℕ → ℕ → ℕ → List ℕ
 amount_line word records bytes =
-    told_line (word ++ codes " " ++ decimal records ++ codes " records, " ++ decimal bytes ++ codes " bytes")
+    reported_line (word ++ codes " " ++ decimal records ++ codes " records, " ++ decimal bytes ++ codes " bytes")
 
 -- what is reported: of a good archive one line, and else the fault's line and then one
-abbrev pub TellsAmount : Option Fault → ℕ → ℕ → Seen → Seen → Type 0
-TellsAmount None records bytes old new = Tells (amount_line (codes "good") records bytes) old new
-TellsAmount (Some f) records bytes old new =
-    (mid : Seen) × Tells (fault_line f) old mid × Tells (amount_line (codes "salvaged") records bytes) mid new
+abbrev pub ReportsAmount : Option Fault → ℕ → ℕ → Seen → Seen → Type 0
+ReportsAmount None records bytes old new = Reports (amount_line (codes "good") records bytes) old new
+ReportsAmount (Some f) records bytes old new =
+    (mid : Seen) × Reports (fault_line f) old mid × Reports (amount_line (codes "salvaged") records bytes) mid new
 
 -- the status: 0 where the archive is good, else the status of its fault
 abbrev pub salvage_status : Option Fault → ℕ
@@ -41,7 +41,7 @@ pub record IsSalvageOf (bytes : List ℕ) (found : Option Fault) (rows : List Ro
     : Type 0 where
   pub text : List ℕ
   pub front : IsFrontText bytes found rows text
-  pub told : new.tells ≡ append_known old.tells text
+  pub reported : new.reports ≡ append_known old.reports text
   pub size_is : size ≡ length text
 
 -- a front of them did
@@ -49,7 +49,7 @@ pub record IsSalvageFront (bytes : List ℕ) (found : Option Fault) (rows : List
     : Type 0 where
   pub text : List ℕ
   pub front : IsFrontText bytes found rows text
-  pub out : WentOut old.tells text new.tells sent
+  pub out : WentOut old.reports text new.reports sent
 
 -- the records before the first fault were written, of a source of fewer than 2^64 bytes; opening the whole is refused
 -- by that fault, if by any
@@ -62,7 +62,7 @@ pub record IsSalvaged (old new : Devices) (status : ℕ) : Type 0 where
   pub is : IfHeld old.source.holds (λ bytes. length bytes < 2 ^ 64 → IsSalvageOf bytes found rows size old.out new.out)
   pub unfailed : new.out.faults ≡ old.out.faults
   pub sound : new.source.faults ≡ mid.faults
-  pub told : TellsAmount found (length rows) size old.err new.err
+  pub reported : ReportsAmount found (length rows) size old.err new.err
   pub status_is : status ≡ salvage_status found
 
 -- a read or a write failed while they were written
@@ -76,7 +76,7 @@ pub record IsSalvageCutOff (old new : Devices) (status : ℕ) : Type 0 where
       → IsSalvageFront bytes found rows (sent_of fault) old.out new.out)
   pub fails : FailsBy {X = ℕ} (λ bytes. length bytes < 2 ^ 64) (Err fault) mid new.source
   pub failed : new.out.faults ≡ failed_with fault old.out.faults
-  pub told : Tells (told_line (out_fault_text fault)) old.err new.err
+  pub reported : Reports (reported_line (out_fault_text fault)) old.err new.err
   pub status_is : status ≡ 3
 
 abbrev pub SalvageEnds : Devices → Devices → ℕ → Type 0

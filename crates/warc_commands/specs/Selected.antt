@@ -13,7 +13,7 @@ use Rattle.warc_reading.specs.Archive.{IsArchiveOf}
 use Rattle.warc_reading.specs.Row.{Row}
 use Rattle.warc.specs.Selecting.{AreOthers, ArePositions, ReadsRecords, at_positions, selected_text}
 use Rattle.warc_commands.specs.Devices.{Devices}
-use Rattle.warc_commands.specs.Program.{IsBadWord, IsNotOpened, Tells, told_line}
+use Rattle.warc_commands.specs.Program.{IsBadWord, IsNotOpened, Reports, reported_line}
 use Rattle.warc_commands.specs.Uris.{IsStarved}
 use Rattle.warc_commands.specs.declared.lists.ListFault.{ListFault}
 use Rattle.warc_commands.specs.declared.lists.ListFault.TheVariants.{Line, Memory as NoMemory}
@@ -31,19 +31,20 @@ AreWanted true count named chosen = AreOthers count named chosen
 -- the line of how many records and bytes went out, with a text after these
 abbrev pub selected_line : ℕ → ℕ → List ℕ → List ℕ
 selected_line records bytes more =
-    told_line (codes "selected " ++ decimal records ++ codes " records, " ++ decimal bytes ++ codes " bytes" ++ more)
+    reported_line
+    (codes "selected " ++ decimal records ++ codes " records, " ++ decimal bytes ++ codes " bytes" ++ more)
 
 -- the records at these positions of an archive of these rows went out, and how much is reported, with a text after it
 pub record IsSelectionSent (more : List ℕ) (rows : List Row) (positions : List ℕ) (old new : Devices) (status : ℕ)
     : Type 0 where
   pub size : ℕ
-  pub told : IfHeld old.source.holds (λ bytes. IsArchiveOf bytes rows
-      → new.out.tells ≡ append_known old.out.tells (selected_text rows positions bytes))
+  pub reported : IfHeld old.source.holds (λ bytes. IsArchiveOf bytes rows
+      → new.out.reports ≡ append_known old.out.reports (selected_text rows positions bytes))
   pub size_is : IfHeld old.source.holds (λ bytes. IsArchiveOf bytes rows
       → size ≡ length (selected_text rows positions bytes))
   pub unfailed : new.out.faults ≡ old.out.faults
   pub sound : new.source.faults ≡ old.source.faults
-  pub reported : Tells (selected_line (length positions) size more) old.err new.err
+  pub printed : Reports (selected_line (length positions) size more) old.err new.err
   pub status_is : status ≡ 0
 
 -- a read or a write failed, and a front of them went out
@@ -51,10 +52,10 @@ pub record IsSelectionCut (rows : List Row) (positions : List ℕ) (old new : De
   pub fault : OutFault
   pub device : IsOfDevice fault
   pub front : IfHeld old.source.holds (λ bytes. IsArchiveOf bytes rows
-      → WentOut old.out.tells (selected_text rows positions bytes) new.out.tells (sent_of fault))
+      → WentOut old.out.reports (selected_text rows positions bytes) new.out.reports (sent_of fault))
   pub fails : FailsBy {X = ℕ} (λ bytes. IsArchiveOf bytes rows) (Err fault) old.source new.source
   pub failed : new.out.faults ≡ failed_with fault old.out.faults
-  pub told : Tells (told_line (out_fault_text fault)) old.err new.err
+  pub reported : Reports (reported_line (out_fault_text fault)) old.err new.err
   pub status_is : status ≡ 3
 
 abbrev pub SendEnds : List ℕ → List Row → List ℕ → Devices → Devices → ℕ → Type 0
@@ -74,14 +75,14 @@ pub record IsAbsent (named : List ℕ) (rows : List Row) (old new : Devices) (st
   pub first : find (λ p. nat_le (length rows) p) named ≡ Some absent
   pub sound : new.source.faults ≡ old.source.faults
   pub untouched : new.out ≡ old.out
-  pub told : Tells (told_line (codes "E1 NoRecord " ++ decimal absent)) old.err new.err
+  pub reported : Reports (reported_line (codes "E1 NoRecord " ++ decimal absent)) old.err new.err
   pub status_is : status ≡ 1
 
 -- a growth of the memory was refused before anything was written
 pub record IsUnchosen (old new : Devices) (status : ℕ) : Type 0 where
   pub sound : new.source.faults ≡ old.source.faults
   pub untouched : new.out ≡ old.out
-  pub told : Tells (told_line (out_fault_text (Memory 0))) old.err new.err
+  pub reported : Reports (reported_line (out_fault_text (Memory 0))) old.err new.err
   pub status_is : status ≡ 3
 
 -- how it ends after an archive of these rows was opened

@@ -17,7 +17,7 @@ use Rattle.warc.specs.Outcomes.{IsStoredOut, StoredAnswer, fault_result}
 use Rattle.warc.specs.declared.fault.BodyFault.{BodyFault}
 use Rattle.warc.specs.declared.fault.BodyFault.TheVariants.{NoRecord, NoCapture, Replay}
 use Rattle.warc_commands.specs.Devices.{Devices}
-use Rattle.warc_commands.specs.Program.{AreGoodRecordsOf, IsBadWord, IsNotOpened, ReplayEnds, Tells, answer_text, told_line}
+use Rattle.warc_commands.specs.Program.{AreGoodRecordsOf, IsBadWord, IsNotOpened, ReplayEnds, Reports, answer_text, reported_line}
 
 -- what is said of a coded body: the fields that say that it is coded
 abbrev pub coded_text : Bool → List ℕ → List ℕ
@@ -28,7 +28,7 @@ coded_text false codings = []
 abbrev pub stored_line : Result StoredAnswer BodyFault → List ℕ
 stored_line (Ok r) =
     answer_text (answer_with r.path r.stored) ++ coded_text r.stored.coded r.stored.codings ++ codes "\n"
-stored_line (Err fault) = told_line (body_fault_text fault)
+stored_line (Err fault) = reported_line (body_fault_text fault)
 
 abbrev pub stored_status : Result StoredAnswer BodyFault → ℕ
 stored_status (Ok r) = 0
@@ -43,17 +43,17 @@ pub record IsStoredGivenOf (position : ℕ) (answer : Result StoredAnswer BodyFa
     (old new : Devices) : Type 0 where
   pub records : List Record
   pub are : AreGoodRecordsOf bytes records
-  pub told : IsStoredOut records position answer old.out.tells new.out.tells
+  pub reported : IsStoredOut records position answer old.out.reports new.out.reports
   pub source : HasFailedBy (fault_result answer) old.source.faults new.source.faults
 
 -- the archive was opened, and what is stored was asked for
 pub record IsStoredGiven (position : ℕ) (old new : Devices) (status : ℕ) : Type 0 where
   pub answer : Result StoredAnswer BodyFault
   pub is : IfHeld old.source.holds (λ bytes. IsStoredGivenOf position answer bytes old new)
-  pub silent : IsSilentAt answer old.out.tells new.out.tells
+  pub silent : IsSilentAt answer old.out.reports new.out.reports
   pub source : MayHaveFailedBy (fault_result answer) old.source.faults new.source.faults
   pub failed : new.out.faults ≡ failed_by (fault_result answer) old.out.faults
-  pub told : Tells (stored_line answer) old.err new.err
+  pub reported : Reports (stored_line answer) old.err new.err
   pub status_is : status ≡ stored_status answer
 
 -- how `body --stored` ends, by the position that its word says
@@ -71,7 +71,7 @@ pub record IsChosenOf (uri : List ℕ) (moment : Instant) (found : Result ℕ Un
 pub record IsUnfound (unfound : Unfound) (old new : Devices) (status : ℕ) : Type 0 where
   pub sound : new.source.faults ≡ old.source.faults
   pub untouched : new.out ≡ old.out
-  pub told : Tells (told_line (reason_text (NotFound unfound))) old.err new.err
+  pub reported : Reports (reported_line (reason_text (NotFound unfound))) old.err new.err
   pub status_is : status ≡ 1
 
 -- the archive was opened, and what is stored was asked for, of the capture that is chosen

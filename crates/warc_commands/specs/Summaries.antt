@@ -10,16 +10,16 @@ use Rattle.warc_reading.specs.Row.{Row}
 use Rattle.warc.specs.Summary.{AreFlagged, Flags, IsSummaryOf, summary_text}
 use Rattle.warc.specs.declared.opened.summary.Summary.{Summary}
 use Rattle.warc_commands.specs.Devices.{Devices}
-use Rattle.warc_commands.specs.Program.{IsNotOpened, Tells, told_line}
+use Rattle.warc_commands.specs.Program.{IsNotOpened, Reports, reported_line}
 
 -- all lines of `summary` went out, and no write failed
-pub record IsSummaryTold (old new : Devices) (status : ℕ) : Type 0 where
+pub record IsSummaryReported (old new : Devices) (status : ℕ) : Type 0 where
   pub rows : List Row
   pub flags : Flags
   pub are : IfHeld old.source.holds (λ bytes. AreFlagged bytes rows flags)
   pub summary : Summary
   pub is : IsSummaryOf rows flags summary
-  pub told : new.out.tells ≡ append_known old.out.tells (summary_text summary)
+  pub reported : new.out.reports ≡ append_known old.out.reports (summary_text summary)
   pub unfailed : new.out.faults ≡ old.out.faults
   pub sound : new.source.faults ≡ old.source.faults
   pub silent : new.err ≡ old.err
@@ -33,12 +33,12 @@ pub record IsSummaryCutOff (old new : Devices) (status : ℕ) : Type 0 where
   pub summary : Summary
   pub is : IsSummaryOf rows flags summary
   pub sent : ℕ
-  pub front : WentOut old.out.tells (summary_text summary) new.out.tells sent
+  pub front : WentOut old.out.reports (summary_text summary) new.out.reports sent
   pub failed : new.out.faults ≡ raised old.out.faults
   pub sound : new.source.faults ≡ old.source.faults
-  pub told : Tells (told_line (out_fault_text (Write sent))) old.err new.err
+  pub reported : Reports (reported_line (out_fault_text (Write sent))) old.err new.err
   pub status_is : status ≡ 3
 
 abbrev pub SummaryEnds : Devices → Devices → ℕ → Type 0
 SummaryEnds old new status =
-    IsSummaryTold old new status ⊎ (IsNotOpened old new status ⊎ IsSummaryCutOff old new status)
+    IsSummaryReported old new status ⊎ (IsNotOpened old new status ⊎ IsSummaryCutOff old new status)

@@ -6,7 +6,7 @@ use Rattle.warc_frame.specs.declared.fault.OutFault.TheVariants.{Memory}
 use Rattle.warc_commands.specs.Devices.{Devices}
 use Rattle.warc_arguments.specs.declared.digits.UriFault.{UriFault}
 use Rattle.warc_arguments.specs.declared.digits.UriFault.TheVariants.{Digits, Memory as NoMemory}
-use Rattle.warc_commands.specs.Program.{IsBadWord, Tells, told_line}
+use Rattle.warc_commands.specs.Program.{IsBadWord, Reports, reported_line}
 
 -- the URI that a word names, if there is a word; where digits are wanted, no word names no URI
 abbrev pub uri_listed : Bool → Option (List ℕ) → Option (Option (List ℕ))
@@ -18,7 +18,7 @@ uri_listed true (Some word) = option_map Some (uri_named true word)
 pub record IsStarved (old new : Devices) (status : ℕ) : Type 0 where
   pub unread : new.source ≡ old.source
   pub untouched : new.out ≡ old.out
-  pub told : Tells (told_line (out_fault_text (Memory 0))) old.err new.err
+  pub reported : Reports (reported_line (out_fault_text (Memory 0))) old.err new.err
   pub status_is : status ≡ 3
 
 -- of digits alone

@@ -16,7 +16,7 @@ use Rattle.warc_pieces.specs.Pieces.{piece_len}
 use Rattle.warc_pieces.specs.Reader.{AreGiven, faults_after_stop}
 use Rattle.warc_pieces.specs.declared.piece.Piece.{Piece}
 use Rattle.warc_pieces.specs.declared.piece.Piece.TheVariants.{Records, Damage}
-use Rattle.warc_commands.specs.Pieces.{AreRead, TellsEach, good_bytes_in, damage_lines, has_damage, pieces_text, records_in}
+use Rattle.warc_commands.specs.Pieces.{AreRead, ReportsEach, good_bytes_in, damage_lines, has_damage, pieces_text, records_in}
 use Rattle.warc_commands.specs.Reads.{AsksNear}
 use Rattle.warc_commands.specs.declared.walk.Found.{Found}
 use Rattle.warc_commands.specs.declared.walk.Step.{Step}
@@ -89,8 +89,8 @@ pub record SendsPieces (begun now : SeenSource) (before after : Seen) (answer : 
   pub at : ℕ
   pub tally : Tally
   pub walked : HasWalked begun now at stop tally pieces
-  pub told : OnOk answer (after.tells ≡ append_known before.tells (pieces_text pieces))
-  pub cut : IfErr answer (λ e. WentOut before.tells (pieces_text pieces) after.tells e.sent)
+  pub reported : OnOk answer (after.reports ≡ append_known before.reports (pieces_text pieces))
+  pub cut : IfErr answer (λ e. WentOut before.reports (pieces_text pieces) after.reports e.sent)
   pub cause : after.faults ≡ (if is_err answer then raised before.faults else before.faults)
   pub ended : IfOk answer (IsFoundOf begun stop tally pieces)
 
@@ -108,11 +108,11 @@ ReadsGood (Damage offset len fault) old new = new ≡ old
 pub record CopiesRuns {X : Type 0} (holds : Option (List ℕ)) (pieces : List Piece) (before after : Seen)
     (waits waiting : Staged) (answer : Result X OutFault) : Type 0 where
   pub out : IfHeld holds (λ bytes. length bytes < 2 ^ 64 → (start : Option (List ℕ)) (output : List ℕ)
-      → IsStaged start output before.tells waits
-      → OnOk answer (IsStaged start (output ++ salvaged bytes pieces) after.tells waiting))
+      → IsStaged start output before.reports waits
+      → OnOk answer (IsStaged start (output ++ salvaged bytes pieces) after.reports waiting))
   pub cut : IfHeld holds (λ bytes. length bytes < 2 ^ 64 → (start : Option (List ℕ)) (output : List ℕ)
-      → IsStaged start output before.tells waits
-      → IfErr answer (λ e. WentOut start (output ++ salvaged bytes pieces) after.tells (sent_of e)))
+      → IsStaged start output before.reports waits
+      → IfErr answer (λ e. WentOut start (output ++ salvaged bytes pieces) after.reports (sent_of e)))
   pub cause : after.faults ≡ failed_by answer before.faults
 
 -- the good records of each piece that was given were added to the output, and each damage was reported
@@ -121,7 +121,7 @@ pub record HasCopied (begun now : SeenSource) (at : ℕ) (failure : Option Fault
   pub pieces : List Piece
   pub walked : HasWalked begun now at failure tally pieces
   pub copies : CopiesRuns {X = Unit {0}} begun.holds pieces before after waits waiting (Ok tt)
-  pub reports : TellsEach (damage_lines pieces) err err_now
+  pub damages : ReportsEach (damage_lines pieces) err err_now
 
 -- to the end, or to a failed read or write after a step of the walk
 pub record CopiesPieces (begun now : SeenSource) (before after : Seen) (waits waiting : Staged) (err err_now : Seen)
@@ -136,7 +136,7 @@ pub record CopiesPieces (begun now : SeenSource) (before after : Seen) (waits wa
   pub fails : FailsBy (λ bytes. length bytes < 2 ^ 64) answer mid now
   pub kept : now.holds ≡ begun.holds
   pub near : AsksNear begun now
-  pub reports : TellsEach (damage_lines pieces) err err_now
+  pub damages : ReportsEach (damage_lines pieces) err err_now
   pub ended : IfOk answer (IsFoundOf begun stop tally pieces)
 
 -- the good records went out, or a front of them
@@ -149,12 +149,12 @@ pub record SendsRuns (begun now : SeenSource) (before after err err_now : Seen) 
   pub mid : SeenSource
   pub walked : HasWalked begun mid at stop tally pieces
   pub out : IfHeld begun.holds (λ bytes. length bytes < 2 ^ 64
-      → OnOk answer (after.tells ≡ append_known before.tells (salvaged bytes pieces)))
+      → OnOk answer (after.reports ≡ append_known before.reports (salvaged bytes pieces)))
   pub cut : IfHeld begun.holds (λ bytes. length bytes < 2 ^ 64
-      → IfErr answer (λ e. WentOut before.tells (salvaged bytes pieces) after.tells (sent_of e)))
+      → IfErr answer (λ e. WentOut before.reports (salvaged bytes pieces) after.reports (sent_of e)))
   pub cause : after.faults ≡ failed_by answer before.faults
   pub fails : FailsBy (λ bytes. length bytes < 2 ^ 64) answer mid now
   pub kept : now.holds ≡ begun.holds
   pub near : AsksNear begun now
-  pub reports : TellsEach (damage_lines pieces) err err_now
+  pub damages : ReportsEach (damage_lines pieces) err err_now
   pub ended : IfOk answer (IsFoundOf begun stop tally pieces)

@@ -3,12 +3,12 @@ ghost use Rattle.std.specs.Prelude.{◌≡◌, Some};
 ghost use Rattle.warc_commands.specs.Bodies.{BodyEnds, body_line, body_status};
 ghost use Rattle.warc_commands.specs.Devices.{devices};
 ghost use Rattle.warc_commands.specs.Parts.{position_of};
-ghost use Rattle.warc_commands.specs.Program.{Tells};
+ghost use Rattle.warc_commands.specs.Program.{Reports};
 ghost use Rattle.warc_commands.specs.Reads.{ReadsTimes};
 
-use crate::extract::tell_replay;
+use crate::extract::report_replay;
 use crate::parts::position_of;
-use crate::program::{FAILED, FOUND, tell, tell_refusal};
+use crate::program::{FAILED, FOUND, report, report_refusal};
 use std::alloc::Allocator;
 use warc::{Archive, BodyFault};
 use warc_answer::Answer;
@@ -37,7 +37,7 @@ where
     match position_of(position.as_bytes()) {
         Some(position) => body_at(alloc, position, source, out, err),
         None => {
-            tell("warc: bad position\n", err);
+            report("warc: bad position\n", err);
             (FAILED, source)
         }
     }
@@ -59,27 +59,27 @@ where
 {
     let mut archive = match Archive::open(alloc, source) {
         Ok(archive) => archive,
-        Err((fault, source)) => return (tell_refusal(fault, err), source),
+        Err((fault, source)) => return (report_refusal(fault, err), source),
     };
     let answer = archive.replay_at(position, out);
-    (tell_body(answer, err), archive.into_source())
+    (report_body(answer, err), archive.into_source())
 }
 
 /// Reports what is said of a body, or why it isn't written, or not whole, and answers the exit status.
-pub(crate) fn tell_body<E: Sink>(answer: Result<Answer, BodyFault>, err: &mut E) -> u8
-    ensures told { Tells (body_line answer) (E.seen err.old) (E.seen err.new) }
+pub(crate) fn report_body<E: Sink>(answer: Result<Answer, BodyFault>, err: &mut E) -> u8
+    ensures reported { Reports (body_line answer) (E.seen err.old) (E.seen err.new) }
     ensures status { result ≡ body_status answer }
 {
     match answer {
-        Ok(answer) => tell_replay(Ok(answer), err),
+        Ok(answer) => report_replay(Ok(answer), err),
         Err(BodyFault::NoRecord) => {
-            tell("warc: E1 NoRecord\n", err);
+            report("warc: E1 NoRecord\n", err);
             FOUND
         }
         Err(BodyFault::NoCapture) => {
-            tell("warc: E2 NoCapture\n", err);
+            report("warc: E2 NoCapture\n", err);
             FOUND
         }
-        Err(BodyFault::Replay(fault)) => tell_replay(Err(fault), err),
+        Err(BodyFault::Replay(fault)) => report_replay(Err(fault), err),
     }
 }

@@ -7,8 +7,8 @@ ghost use Rattle.warc_commands.specs.Reads.{AsksNear};
 ghost use Rattle.warc_commands.specs.Uris.{UriEnds, uri_listed};
 ghost use Rattle.warc_reading.specs.Indexed.{IsIndexed};
 
-use crate::program::{DONE, FOUND, tell, tell_cut, tell_refusal};
-use crate::uris::tell_fault;
+use crate::program::{DONE, FOUND, report, report_cut, report_refusal};
+use crate::uris::report_fault;
 use std::alloc::Allocator;
 use warc::{Archive, Captures};
 use warc_arguments::{UriFault, bytes_of};
@@ -67,11 +67,11 @@ where
     ensures reads { AsksNear (S.seen source) (S.seen result.1) }
 {
     let Some(word) = uri else {
-        return (tell_fault(UriFault::Digits, err), source);
+        return (report_fault(UriFault::Digits, err), source);
     };
     match bytes_of(alloc, word) {
         Ok(uri) => list_of(alloc, &uri, source, out, err),
-        Err(fault) => (tell_fault(fault, err), source),
+        Err(fault) => (report_fault(fault, err), source),
     }
 }
 
@@ -91,10 +91,10 @@ where
 {
     let mut captures = match Captures::open(alloc, source) {
         Ok(captures) => captures,
-        Err((fault, source)) => return (tell_refusal(fault, err), source),
+        Err((fault, source)) => return (report_refusal(fault, err), source),
     };
     let answer = write_all(&mut captures, out);
-    (tell_answer(answer, err), captures.into_source())
+    (report_answer(answer, err), captures.into_source())
 }
 
 /// Writes a line for each capture of a URI. No block is hashed but those of these captures.
@@ -113,10 +113,10 @@ where
 {
     let mut archive = match Archive::open(alloc, source) {
         Ok(archive) => archive,
-        Err((fault, source)) => return (tell_refusal(fault, err), source),
+        Err((fault, source)) => return (report_refusal(fault, err), source),
     };
     let answer = write_of(&mut archive, uri, out);
-    (tell_answer(answer, err), archive.into_source())
+    (report_answer(answer, err), archive.into_source())
 }
 
 /// Writes the lines of all captures, and returns how many there are.
@@ -155,16 +155,16 @@ fn write_of<S: Source, W: Sink, A: Allocator + Copy>(
 }
 
 /// Reports if no capture is listed, or why the lines end early, and answers the exit status.
-fn tell_answer<E: Sink>(answer: Result<usize, OutFault>, err: &mut E) -> u8
+fn report_answer<E: Sink>(answer: Result<usize, OutFault>, err: &mut E) -> u8
     ensures { AnswerEnds answer (E.seen err.old) (E.seen err.new) result }
 {
     let count = match answer {
         Ok(count) => count,
-        Err(fault) => return tell_cut(fault, err),
+        Err(fault) => return report_cut(fault, err),
     };
     if count > 0 {
         return DONE;
     }
-    tell("warc: P1 NoCapture\n", err);
+    report("warc: P1 NoCapture\n", err);
     FOUND
 }

@@ -4,7 +4,7 @@ ghost use Rattle.warc_commands.specs.Devices.{devices};
 ghost use Rattle.warc_commands.specs.Program.{CheckEnds};
 ghost use Rattle.warc_commands.specs.Reads.{ReadsTimes};
 
-use crate::program::{DONE, FOUND, tell_cut, tell_refusal};
+use crate::program::{DONE, FOUND, report_cut, report_refusal};
 use std::alloc::Allocator;
 use warc::Checked;
 use warc_frame::{Sink, Source};
@@ -25,11 +25,11 @@ where
 {
     let checked = match Checked::open(alloc, source) {
         Ok(checked) => checked,
-        Err((fault, source)) => return (tell_refusal(fault, err), source),
+        Err((fault, source)) => return (report_refusal(fault, err), source),
     };
     match checked.check(out) {
         Ok(count) => (status_of_count(count), checked.into_source()),
-        Err(fault) => (tell_cut(fault, err), checked.into_source()),
+        Err(fault) => (report_cut(fault, err), checked.into_source()),
     }
 }
 

@@ -4,7 +4,7 @@ ghost use Rattle.warc_arguments.specs.Explanations.{explained};
 ghost use Rattle.warc_commands.specs.Devices.{devices};
 ghost use Rattle.warc_commands.specs.Explaining.{ExplainEnds};
 
-use crate::program::{FAILED, show, tell};
+use crate::program::{FAILED, report, show};
 use warc_arguments::explanation_of;
 use warc_frame::{Sink, Source};
 
@@ -23,7 +23,7 @@ where
     match explanation_of(number) {
         Some(text) => (show(text, out, err), source),
         None => {
-            tell("warc: bad number\n", err);
+            report("warc: bad number\n", err);
             (FAILED, source)
         }
     }

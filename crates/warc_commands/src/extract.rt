@@ -3,11 +3,11 @@ ghost use Rattle.std.specs.Prelude.{◌≡◌, ◌≤◌, ◌⊎◌, ◌++◌, l
 ghost use Rattle.warc_value.specs.Dates.{Instant};
 ghost use Rattle.warc_answer.specs.ReasonText.{reason_text};
 ghost use Rattle.warc_commands.specs.Devices.{devices};
-ghost use Rattle.warc_commands.specs.Program.{ExtractEnds, ReplayEnds, Tells, TellsIf, answer_text, extract_line, extract_status, number_or_dash, replay_line, replay_status, told_line, yes_or_no};
+ghost use Rattle.warc_commands.specs.Program.{ExtractEnds, ReplayEnds, Reports, ReportsIf, answer_text, extract_line, extract_status, number_or_dash, replay_line, replay_status, reported_line, yes_or_no};
 ghost use Rattle.warc_commands.specs.Reads.{ReadsTimes};
 ghost use Rattle.warc_commands.specs.Stored.{ReplayedAs};
 
-use crate::program::{DONE, FAILED, FOUND, LINE, tell, tell_cut, tell_refusal};
+use crate::program::{DONE, FAILED, FOUND, LINE, report, report_cut, report_refusal};
 use crate::stored::stored_as_of;
 use arrayvec::ArrayString;
 use itoa::Buffer;
@@ -39,10 +39,10 @@ where
 {
     let mut archive = match Archive::open(alloc, source) {
         Ok(archive) => archive,
-        Err((fault, source)) => return (tell_refusal(fault, err), source),
+        Err((fault, source)) => return (report_refusal(fault, err), source),
     };
     let answer = archive.extract(id.as_bytes(), out);
-    (tell_extract(answer, err), archive.into_source())
+    (report_extract(answer, err), archive.into_source())
 }
 
 /// The date as of which a body is wanted, and whether it is wanted as it is stored.
@@ -74,7 +74,7 @@ where
     ensures reads { ReadsTimes 3 (S.seen source) (S.seen result.1) }
 {
     let Some(moment) = read_date(as_of.date.as_bytes()) else {
-        tell("warc: bad date\n", err);
+        report("warc: bad date\n", err);
         return (FAILED, source);
     };
     if as_of.stored {
@@ -106,42 +106,42 @@ where
 {
     let mut archive = match Archive::open(alloc, source) {
         Ok(archive) => archive,
-        Err((fault, source)) => return (tell_refusal(fault, err), source),
+        Err((fault, source)) => return (report_refusal(fault, err), source),
     };
     let answer = archive.replay(uri, moment, out);
-    (tell_replay(answer, err), archive.into_source())
+    (report_replay(answer, err), archive.into_source())
 }
 
 /// Reports why a block isn't written, or not whole, and answers the exit status.
-pub(crate) fn tell_extract<E: Sink>(answer: Result<u64, ExtractFault>, err: &mut E) -> u8
-    ensures told { TellsIf (extract_line answer) (E.seen err.old) (E.seen err.new) }
+pub(crate) fn report_extract<E: Sink>(answer: Result<u64, ExtractFault>, err: &mut E) -> u8
+    ensures reported { ReportsIf (extract_line answer) (E.seen err.old) (E.seen err.new) }
     ensures status { result ≡ extract_status answer }
 {
     match answer {
         Ok(_) => DONE,
         Err(ExtractFault::NoRecord) => {
-            tell("warc: E1 NoRecord\n", err);
+            report("warc: E1 NoRecord\n", err);
             FOUND
         }
-        Err(ExtractFault::Out(fault)) => tell_cut(fault, err),
+        Err(ExtractFault::Out(fault)) => report_cut(fault, err),
     }
 }
 
 /// Reports what is said of a body, or why it isn't written, or not whole, and answers the exit status.
-pub(crate) fn tell_replay<E: Sink>(answer: Result<Answer, ReplayFault>, err: &mut E) -> u8
-    ensures told { Tells (replay_line answer) (E.seen err.old) (E.seen err.new) }
+pub(crate) fn report_replay<E: Sink>(answer: Result<Answer, ReplayFault>, err: &mut E) -> u8
+    ensures reported { Reports (replay_line answer) (E.seen err.old) (E.seen err.new) }
     ensures status { result ≡ replay_status answer }
 {
     match answer {
         Ok(answer) => {
-            tell(line_of_answer(&answer).as_str(), err);
+            report(line_of_answer(&answer).as_str(), err);
             DONE
         }
         Err(ReplayFault::Reason(reason)) => {
-            tell(line_of_reason(reason).as_str(), err);
+            report(line_of_reason(reason).as_str(), err);
             FOUND
         }
-        Err(ReplayFault::Out(fault)) => tell_cut(fault, err),
+        Err(ReplayFault::Out(fault)) => report_cut(fault, err),
     }
 }
 
@@ -186,7 +186,7 @@ pub(crate) fn line_of_answer(answer: &Answer) -> ArrayString<LINE>
 
 /// The line that says why there is no body.
 fn line_of_reason(reason: Reason) -> ArrayString<LINE>
-    ensures { result.bytes ≡ told_line (reason_text reason) }
+    ensures { result.bytes ≡ reported_line (reason_text reason) }
 {
     let (name, gap, number) = reason.parts();
     let mut digits = Buffer::new();

@@ -4,7 +4,7 @@ ghost use Rattle.warc_commands.specs.Devices.{devices};
 ghost use Rattle.warc_commands.specs.Fixity.{FixityEnds, fixity_status};
 ghost use Rattle.warc_commands.specs.Reads.{ReadsTimes};
 
-use crate::program::{DONE, FOUND, tell_cut, tell_refusal};
+use crate::program::{DONE, FOUND, report_cut, report_refusal};
 use std::alloc::Allocator;
 use warc::{Counts, Fixity};
 use warc_frame::{Sink, Source};
@@ -43,10 +43,10 @@ where
 {
     let fixity = match Fixity::open(alloc, source) {
         Ok(fixity) => fixity,
-        Err((fault, source)) => return (tell_refusal(fault, err), source),
+        Err((fault, source)) => return (report_refusal(fault, err), source),
     };
     match fixity.list(out) {
         Ok(()) => (status_of(fixity.counts()), fixity.into_source()),
-        Err(fault) => (tell_cut(fault, err), fixity.into_source()),
+        Err(fault) => (report_cut(fault, err), fixity.into_source()),
     }
 }

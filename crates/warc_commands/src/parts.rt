@@ -4,8 +4,8 @@ ghost use Rattle.warc_commands.specs.Devices.{devices};
 ghost use Rattle.warc_commands.specs.Parts.{PartEnds, position_of};
 ghost use Rattle.warc_commands.specs.Reads.{ReadsTimes};
 
-use crate::extract::tell_extract;
-use crate::program::{FAILED, tell, tell_refusal};
+use crate::extract::report_extract;
+use crate::program::{FAILED, report, report_refusal};
 use std::alloc::Allocator;
 use warc::{Listing, Part};
 use warc_field::decimal;
@@ -43,13 +43,13 @@ where
     ensures reads { ReadsTimes 2 (S.seen source) (S.seen result.1) }
 {
     let Some(position) = position_of(position.as_bytes()) else {
-        tell("warc: bad position\n", err);
+        report("warc: bad position\n", err);
         return (FAILED, source);
     };
     let mut archive = match Listing::open(alloc, source) {
         Ok(archive) => archive,
-        Err((fault, source)) => return (tell_refusal(fault, err), source),
+        Err((fault, source)) => return (report_refusal(fault, err), source),
     };
     let answer = archive.part_to(position, part, out);
-    (tell_extract(answer, err), archive.into_source())
+    (report_extract(answer, err), archive.into_source())
 }

@@ -5,7 +5,7 @@ ghost use Rattle.warc_commands.specs.Payloads.{PayloadLinesEnd, PayloadsEnd, Pay
 ghost use Rattle.warc_commands.specs.Reads.{AsksNear};
 
 use crate::fixity::UNCHECKED;
-use crate::program::{DONE, FOUND, tell_cut, tell_refusal};
+use crate::program::{DONE, FOUND, report_cut, report_refusal};
 use std::alloc::Allocator;
 use warc::{Archive, Payloads};
 use warc_frame::{OutFault, Sink, Source};
@@ -26,17 +26,17 @@ where
 {
     let mut archive = match Archive::open(alloc, source) {
         Ok(archive) => archive,
-        Err((fault, source)) => return (tell_refusal(fault, err), source),
+        Err((fault, source)) => return (report_refusal(fault, err), source),
     };
     let judged = archive.payloads();
     (
-        tell_payloads(&archive, &judged, out, err),
+        report_payloads(&archive, &judged, out, err),
         archive.into_source(),
     )
 }
 
 /// Writes the lines of payloads, or reports why there are none, and answers the exit status.
-fn tell_payloads<A, S, W, E>(
+fn report_payloads<A, S, W, E>(
     archive: &Archive<S, A>,
     payloads: &Result<Payloads<A>, OutFault>,
     out: &mut W,
@@ -51,13 +51,13 @@ where
         (E.seen err.old) (E.seen err.new) result }
 {
     match payloads {
-        Ok(payloads) => tell_judged(archive, payloads, out, err),
-        Err(fault) => tell_cut(*fault, err),
+        Ok(payloads) => report_judged(archive, payloads, out, err),
+        Err(fault) => report_cut(*fault, err),
     }
 }
 
 /// Writes the lines of payloads.
-fn tell_judged<A, S, W, E>(
+fn report_judged<A, S, W, E>(
     archive: &Archive<S, A>,
     payloads: &Payloads<A>,
     out: &mut W,
@@ -73,7 +73,7 @@ where
 {
     match archive.list_payloads(payloads, out) {
         Ok(()) => status_of(payloads),
-        Err(fault) => tell_cut(fault, err),
+        Err(fault) => report_cut(fault, err),
     }
 }
 

@@ -4,11 +4,11 @@ ghost use Rattle.warc_frame.specs.Effects.{Puts};
 ghost use Rattle.warc_pieces.specs.declared.piece.Piece.{Piece as Given};
 ghost use Rattle.warc_pieces.specs.declared.piece.Piece.TheVariants.{Damage as GivenDamage, Records as GivenRecords};
 ghost use Rattle.warc_commands.specs.Devices.{devices};
-ghost use Rattle.warc_commands.specs.Pieces.{PiecesEnd, TellsEach, has_damage, piece_line, pieces_status, stop_lines};
+ghost use Rattle.warc_commands.specs.Pieces.{PiecesEnd, ReportsEach, has_damage, piece_line, pieces_status, stop_lines};
 ghost use Rattle.warc_commands.specs.Reads.{AsksNear};
 ghost use Rattle.warc_commands.specs.Walking.{PutsPieces, SendsPieces};
 
-use crate::program::{DONE, REFUSED, tell_cut, tell_refusal};
+use crate::program::{DONE, REFUSED, report_cut, report_refusal};
 use crate::walk::{Found, Step, Tally, next_step};
 use itoa::Buffer;
 use std::alloc::Allocator;
@@ -118,13 +118,13 @@ fn send_pieces<S: Source, A: Allocator + Copy, W: Sink>(
 }
 
 /// Reports what stopped reading, if anything did, and answers the exit status.
-fn tell_stop<E: Sink>(found: Found, err: &mut E) -> u8
-    ensures told { TellsEach (stop_lines found.stop) (E.seen err.old) (E.seen err.new) }
+fn report_stop<E: Sink>(found: Found, err: &mut E) -> u8
+    ensures reported { ReportsEach (stop_lines found.stop) (E.seen err.old) (E.seen err.new) }
     ensures status { (pieces : List Given) → found.tally.is_damaged ≡ has_damage pieces
         → result ≡ pieces_status found.stop pieces }
 {
     if let Some(fault) = found.stop {
-        return tell_refusal(fault, err);
+        return report_refusal(fault, err);
     }
     if found.tally.is_damaged {
         REFUSED
@@ -146,8 +146,8 @@ fn print<S: Source, A: Allocator + Copy, W: Sink, E: Sink>(
     ensures reads { AsksNear (S.seen pieces.old.source) (S.seen pieces.new.source) }
 {
     match send_pieces(pieces, out) {
-        Ok(found) => tell_stop(found, err),
-        Err(fault) => tell_cut(OutFault::Write(fault.sent), err),
+        Ok(found) => report_stop(found, err),
+        Err(fault) => report_cut(OutFault::Write(fault.sent), err),
     }
 }
 
@@ -167,7 +167,7 @@ where
 {
     let mut pieces = match Pieces::new(alloc, source) {
         Ok(pieces) => pieces,
-        Err((fault, source)) => return (tell_refusal(fault, err), source),
+        Err((fault, source)) => return (report_refusal(fault, err), source),
     };
     let status = print(&mut pieces, out, err);
     (status, pieces.into_source())

@@ -3,7 +3,7 @@ ghost use Rattle.std.specs.Prelude.{◌≡◌, ◌≤◌, ◌++◌, decimal, fal
 ghost use Rattle.warc_frame.specs.FaultText.{out_fault_text};
 ghost use Rattle.warc_frame.specs.Send.{sent_of};
 ghost use Rattle.warc_commands.specs.Ends.{Ends, IsStatusOf, writes_front};
-ghost use Rattle.warc_commands.specs.Program.{FaultEnds, IsShown, ListEnds, Tells, WriteEnds, fault_line, status_of_kind, told_line};
+ghost use Rattle.warc_commands.specs.Program.{FaultEnds, IsShown, ListEnds, Reports, WriteEnds, fault_line, status_of_kind, reported_line};
 ghost use Rattle.warc_commands.specs.Devices.{devices};
 ghost use Rattle.warc_commands.specs.Reads.{CommandReads, ReadsTimes};
 ghost use Rattle.warc.specs.Forms.{texts_as};
@@ -82,8 +82,8 @@ where
     ensures reads { CommandReads command.now (S.seen source) (S.seen result.1) }
 
     // Nothing is written where the archive is refused, whatever the source holds, but by `pieces` and `salvage`.
-    ensures refused { writes_front command.now ≡ false → result.0 ≡ 2 → ((W.seen out.new).tells ≡
-        (W.seen out.old).tells) × ((W.seen out.new).faults ≡ (W.seen out.old).faults) }
+    ensures refused { writes_front command.now ≡ false → result.0 ≡ 2 → ((W.seen out.new).reports ≡
+        (W.seen out.old).reports) × ((W.seen out.new).faults ≡ (W.seen out.old).faults) }
     ensures answers { IsStatusOf command.now result.0 }
 {
     match command {
@@ -192,11 +192,11 @@ where
 {
     let listing = match Listing::open(alloc, source) {
         Ok(listing) => listing,
-        Err((fault, source)) => return (tell_refusal(fault, err), source),
+        Err((fault, source)) => return (report_refusal(fault, err), source),
     };
     match listing.list(out) {
         Ok(()) => (DONE, listing.into_source()),
-        Err(fault) => (tell_cut(fault, err), listing.into_source()),
+        Err(fault) => (report_cut(fault, err), listing.into_source()),
     }
 }
 
@@ -216,29 +216,29 @@ where
 {
     let mut archive = match Listing::open(alloc, source) {
         Ok(archive) => archive,
-        Err((fault, source)) => return (tell_refusal(fault, err), source),
+        Err((fault, source)) => return (report_refusal(fault, err), source),
     };
     match archive.write_as(form, out) {
         Ok(()) => (DONE, archive.into_source()),
-        Err(fault) => (tell_cut(fault, err), archive.into_source()),
+        Err(fault) => (report_cut(fault, err), archive.into_source()),
     }
 }
 
 /// Reports why an archive isn't opened, and answers the exit status.
-pub(crate) fn tell_refusal<E: Sink>(fault: Fault, err: &mut E) -> u8
-    ensures told { Tells (fault_line fault) (E.seen err.old) (E.seen err.new) }
+pub(crate) fn report_refusal<E: Sink>(fault: Fault, err: &mut E) -> u8
+    ensures reported { Reports (fault_line fault) (E.seen err.old) (E.seen err.new) }
     ensures status { result ≡ status_of_kind fault.kind }
 {
-    tell(line_of_fault(fault).as_str(), err);
+    report(line_of_fault(fault).as_str(), err);
     status_of(fault.kind)
 }
 
 /// Reports why an output ends early, and answers the exit status.
-pub(crate) fn tell_cut<E: Sink>(fault: OutFault, err: &mut E) -> u8
-    ensures told { Tells (told_line (out_fault_text fault)) (E.seen err.old) (E.seen err.new) }
+pub(crate) fn report_cut<E: Sink>(fault: OutFault, err: &mut E) -> u8
+    ensures reported { Reports (reported_line (out_fault_text fault)) (E.seen err.old) (E.seen err.new) }
     ensures status { result ≡ 3 }
 {
-    tell(line_of_cut(fault).as_str(), err);
+    report(line_of_cut(fault).as_str(), err);
     FAILED
 }
 
@@ -253,8 +253,8 @@ fn status_of(kind: FaultKind) -> u8
 }
 
 /// Writes a line, as far as the sink takes it.
-pub(crate) fn tell<E: Sink>(line: &str, err: &mut E)
-    ensures { Tells line.now (E.seen err.old) (E.seen err.new) }
+pub(crate) fn report<E: Sink>(line: &str, err: &mut E)
+    ensures { Reports line.now (E.seen err.old) (E.seen err.new) }
 {
     let _ = send_all(err, line.as_bytes());
 }
@@ -277,7 +277,7 @@ fn line_of_fault(fault: Fault) -> ArrayString<LINE>
 
 /// The line that says why an output ends early.
 fn line_of_cut(fault: OutFault) -> ArrayString<LINE>
-    ensures { result.bytes ≡ told_line (out_fault_text fault) }
+    ensures { result.bytes ≡ reported_line (out_fault_text fault) }
 {
     let mut digits = Buffer::new();
     let mut line = ArrayString::new();
@@ -291,7 +291,7 @@ fn line_of_cut(fault: OutFault) -> ArrayString<LINE>
 /// The line of a short text.
 pub(crate) fn line_of(text: &str) -> ArrayString<LINE>
     requires { length text.now ≤ 100 }
-    ensures { result.bytes ≡ told_line text.now }
+    ensures { result.bytes ≡ reported_line text.now }
 {
     let mut line = ArrayString::new();
     line.push_str("warc: ");
@@ -308,10 +308,10 @@ pub fn refuse<W: Sink, E: Sink>(fault: &CommandFault, out: &mut W, err: &mut E) 
     match fault {
         CommandFault::Usage { text, asked: true } => show(text.as_str(), out, err),
         CommandFault::Usage { text, asked: false } => {
-            tell(text.as_str(), err);
+            report(text.as_str(), err);
             FAILED
         }
-        CommandFault::Memory => tell_cut(OutFault::Memory(0), err),
+        CommandFault::Memory => report_cut(OutFault::Memory(0), err),
     }
 }
 
@@ -321,6 +321,6 @@ pub(crate) fn show<W: Sink, E: Sink>(text: &str, out: &mut W, err: &mut E) -> u8
 {
     match send_all(out, text.as_bytes()) {
         Ok(()) => DONE,
-        Err(fault) => tell_cut(OutFault::Write(fault.sent), err),
+        Err(fault) => report_cut(OutFault::Write(fault.sent), err),
     }
 }

@@ -3,13 +3,13 @@ ghost use Rattle.std.specs.Option.{option_map};
 ghost use Rattle.std.specs.Prelude.{◌≡◌, ◌≤◌, [], IfErr, IfOk, Some, length, nat_le};
 ghost use Rattle.std.specs.Result.{result_map_both};
 ghost use Rattle.std.specs.IoError.{error_kind};
-ghost use Rattle.warc_commands.specs.Program.{Tells, told_line};
+ghost use Rattle.warc_commands.specs.Program.{Reports, reported_line};
 ghost use Rattle.warc_commands.specs.Running.{Offer, CommandEnds, IsListAt, IsListCut, IsListOf, IsRunInMemory, IsRunOver, LacksList, MemoryEnds, RunsOver, PipeEnds, ReadsFile, ReadsInput, ReadsInto, ReadsMemory, RunEnds};
 ghost use Rattle.warc_commands.specs.Running.{command_place, is_input, max_input, names_input_twice, opened, outputs, place_at, redirected, run_left, stop_text, streamed};
 ghost use Rattle.warc_arguments.specs.Command.{list_word, reads_once};
 ghost use Rattle.warc_frame.specs.Seen.{IfHeld, Seen};
 
-use crate::program::{FAILED, line_of, perform, refuse, tell, tell_cut};
+use crate::program::{FAILED, line_of, perform, refuse, report, report_cut};
 use crate::write::read_front;
 use std::alloc::Global;
 use std::io::{self, ErrorKind};
@@ -64,7 +64,7 @@ pub enum RunSource<F, S> {
 /// Where the bytes of a command are: in the file at its path; in memory, into which standard input is read first; in
 /// standard input; or nowhere, if it reads nothing.
 #[derive(Clone, Copy, Debug, PartialEq, Eq)]
-enum Place {
+enum Location {
     File,
     Memory,
     Input,
@@ -121,13 +121,13 @@ where
         (outputs (W.seen out.old) (E.seen err.old)) (outputs (W.seen out.new) (E.seen err.new)) result.0 }
 {
     if names_input_twice(command) {
-        return (tell_stop(TWO_INPUTS, err), RunSource::Nothing);
+        return (report_stop(TWO_INPUTS, err), RunSource::Nothing);
     }
     match place_of(command) {
-        Place::File => run_file(alloc, system, command, out, err),
-        Place::Memory => run_memory(alloc, system, command, READ_FAILED, out, err),
-        Place::Input => run_input(alloc, system, command, out, err),
-        Place::Nowhere => (
+        Location::File => run_file(alloc, system, command, out, err),
+        Location::Memory => run_memory(alloc, system, command, READ_FAILED, out, err),
+        Location::Input => run_input(alloc, system, command, out, err),
+        Location::Nowhere => (
             run_in_memory(alloc, command, &[], Vec::new(alloc), out, err),
             RunSource::Nothing,
         ),
@@ -152,24 +152,24 @@ fn is_input(path: &str) -> bool
 }
 
 /// Where the bytes of a command are.
-fn place_of(command: &Command<'_>) -> Place
+fn place_of(command: &Command<'_>) -> Location
     ensures { result ≡ command_place command.now }
 {
     if command.opens_nothing() {
-        Place::Nowhere
+        Location::Nowhere
     } else {
         place_at(command.path())
     }
 }
 
 /// Where the bytes at a path are.
-fn place_at(path: &str) -> Place
+fn place_at(path: &str) -> Location
     ensures { result ≡ place_at path.now }
 {
     match path {
-        "-" => Place::Input,
-        "/dev/stdin" => Place::Memory,
-        _ => Place::File,
+        "-" => Location::Input,
+        "/dev/stdin" => Location::Memory,
+        _ => Location::File,
     }
 }
 
@@ -288,10 +288,10 @@ fn read_list<S: Source, E: Sink>(alloc: Global, source: &mut S, err: &mut E) -> 
 {
     let list = match read_front(alloc, source, MOST_INPUT + 1) {
         Ok(list) => list,
-        Err(fault) => return Err(tell_cut(fault, err)),
+        Err(fault) => return Err(report_cut(fault, err)),
     };
     if list.len() as u64 > MOST_INPUT {
-        return Err(tell_stop(LIST_TOO_LONG, err));
+        return Err(report_stop(LIST_TOO_LONG, err));
     }
     Ok(list)
 }
@@ -389,7 +389,7 @@ where
             let status = run_bytes(alloc, command, list, bytes, long, out, err);
             (status, RunSource::Stream(source))
         }
-        Err(fault) => (tell_cut(fault, err), RunSource::Stream(source)),
+        Err(fault) => (report_cut(fault, err), RunSource::Stream(source)),
     }
 }
 
@@ -410,7 +410,7 @@ fn run_bytes<W: Sink, E: Sink>(
     if bytes.len() as u64 <= MOST_INPUT {
         run_in_memory(alloc, command, list, bytes, out, err)
     } else {
-        tell_stop(long, err)
+        report_stop(long, err)
     }
 }
 
@@ -453,21 +453,22 @@ where
 /// Reports why a run can't begin: the text, or that memory was refused; and answers the exit status.
 fn stop<E: Sink>(error: &io::Error, why: &str, err: &mut E) -> u8
     requires { length why.now ≤ 100 }
-    ensures told { Tells (told_line (stop_text why.now (error_kind error.now))) (E.seen err.old) (E.seen err.new) }
+    ensures reported { Reports (reported_line (stop_text why.now (error_kind error.now)))
+        (E.seen err.old) (E.seen err.new) }
     ensures status { result ≡ 3 }
 {
     match error.kind() {
-        ErrorKind::OutOfMemory => tell_cut(OutFault::Memory(0), err),
-        _ => tell_stop(why, err),
+        ErrorKind::OutOfMemory => report_cut(OutFault::Memory(0), err),
+        _ => report_stop(why, err),
     }
 }
 
 /// Reports a short text, and answers the exit status.
-fn tell_stop<E: Sink>(why: &str, err: &mut E) -> u8
+fn report_stop<E: Sink>(why: &str, err: &mut E) -> u8
     requires { length why.now ≤ 100 }
-    ensures told { Tells (told_line why.now) (E.seen err.old) (E.seen err.new) }
+    ensures reported { Reports (reported_line why.now) (E.seen err.old) (E.seen err.new) }
     ensures status { result ≡ 3 }
 {
-    tell(line_of(why).as_str(), err);
+    report(line_of(why).as_str(), err);
     FAILED
 }

@@ -1,11 +1,11 @@
 //! The command that writes the records before the first fault.
 ghost use Rattle.std.specs.Prelude.{◌≡◌, ◌≤◌, Some, length};
 ghost use Rattle.warc_commands.specs.Devices.{devices};
-ghost use Rattle.warc_commands.specs.Program.{Tells, status_of_kind};
+ghost use Rattle.warc_commands.specs.Program.{Reports, status_of_kind};
 ghost use Rattle.warc_commands.specs.Reads.{ReadsTimes};
-ghost use Rattle.warc_commands.specs.Salvage.{SalvageEnds, TellsAmount, amount_line, salvage_status};
+ghost use Rattle.warc_commands.specs.Salvage.{SalvageEnds, ReportsAmount, amount_line, salvage_status};
 
-use crate::program::{DONE, LINE, tell, tell_cut, tell_refusal};
+use crate::program::{DONE, LINE, report, report_cut, report_refusal};
 use arrayvec::ArrayString;
 use itoa::Buffer;
 use std::alloc::Allocator;
@@ -31,35 +31,35 @@ fn line_of_amount(word: &str, records: u64, bytes: u64) -> ArrayString<LINE>
 }
 
 /// Reports how many records and bytes went out.
-pub(crate) fn tell_line<E: Sink>(word: &str, records: u64, bytes: u64, err: &mut E)
+pub(crate) fn report_line<E: Sink>(word: &str, records: u64, bytes: u64, err: &mut E)
     requires { length word.now ≤ 8 }
-    ensures { Tells (amount_line word.now records bytes) (E.seen err.old) (E.seen err.new) }
+    ensures { Reports (amount_line word.now records bytes) (E.seen err.old) (E.seen err.new) }
 {
-    tell(line_of_amount(word, records, bytes).as_str(), err);
+    report(line_of_amount(word, records, bytes).as_str(), err);
 }
 
 /// Reports a fault and how many records and bytes before it went out, and answers the exit status.
-fn tell_salvaged<E: Sink>(fault: Fault, records: usize, bytes: u64, err: &mut E) -> u8
-    ensures told { TellsAmount (Some fault) records bytes (E.seen err.old) (E.seen err.new) }
+fn report_salvaged<E: Sink>(fault: Fault, records: usize, bytes: u64, err: &mut E) -> u8
+    ensures reported { ReportsAmount (Some fault) records bytes (E.seen err.old) (E.seen err.new) }
     ensures status { result ≡ status_of_kind fault.kind }
 {
-    let status = tell_refusal(fault, err);
-    tell_line("salvaged", records as u64, bytes, err);
+    let status = report_refusal(fault, err);
+    report_line("salvaged", records as u64, bytes, err);
     status
 }
 
 /// Reports the fault after the records that were written, if there is one, and how many they are; and answers the exit
 /// status.
-fn tell_amount<E: Sink>(found: Option<Fault>, records: usize, bytes: u64, err: &mut E) -> u8
-    ensures told { TellsAmount found records bytes (E.seen err.old) (E.seen err.new) }
+fn report_amount<E: Sink>(found: Option<Fault>, records: usize, bytes: u64, err: &mut E) -> u8
+    ensures reported { ReportsAmount found records bytes (E.seen err.old) (E.seen err.new) }
     ensures status { result ≡ salvage_status found }
 {
     match found {
         None => {
-            tell_line("good", records as u64, bytes, err);
+            report_line("good", records as u64, bytes, err);
             DONE
         }
-        Some(fault) => tell_salvaged(fault, records, bytes, err),
+        Some(fault) => report_salvaged(fault, records, bytes, err),
     }
 }
 
@@ -80,9 +80,9 @@ where
     let (mut listing, found) = open_front(alloc, source);
     match listing.copy_to(out) {
         Ok(bytes) => {
-            let status = tell_amount(found, listing.count(), bytes, err);
+            let status = report_amount(found, listing.count(), bytes, err);
             (status, listing.into_source())
         }
-        Err(fault) => (tell_cut(fault, err), listing.into_source()),
+        Err(fault) => (report_cut(fault, err), listing.into_source()),
     }
 }

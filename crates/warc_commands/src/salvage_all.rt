@@ -4,13 +4,13 @@ ghost use Rattle.warc_frame.specs.Effects.{Emits};
 ghost use Rattle.warc_pieces.specs.Laws.{is_damage};
 ghost use Rattle.warc_pieces.specs.declared.piece.Piece.{Piece as Given};
 ghost use Rattle.warc_commands.specs.Devices.{devices};
-ghost use Rattle.warc_commands.specs.Pieces.{SalvageAllEnds, TellsEach, damage_line, damage_lines, pieces_status, salvaged_line, stop_lines};
+ghost use Rattle.warc_commands.specs.Pieces.{SalvageAllEnds, ReportsEach, damage_line, damage_lines, pieces_status, salvaged_line, stop_lines};
 ghost use Rattle.warc_commands.specs.Reads.{AsksNear};
-ghost use Rattle.warc_commands.specs.Program.{Tells};
+ghost use Rattle.warc_commands.specs.Program.{Reports};
 ghost use Rattle.warc_commands.specs.Walking.{CopiesPieces, IsGoodOf, IsTallyOf, ReadsGood, SendsRuns};
 
-use crate::program::{DONE, LINE, REFUSED, tell, tell_cut, tell_refusal};
-use crate::salvage::tell_line;
+use crate::program::{DONE, LINE, REFUSED, report, report_cut, report_refusal};
+use crate::salvage::report_line;
 use crate::walk::{Found, Step, Tally, next_step};
 use arrayvec::ArrayString;
 use itoa::Buffer;
@@ -39,11 +39,11 @@ fn line_of_damage(offset: u64, len: u64, fault: Fault) -> ArrayString<LINE>
 }
 
 /// Reports a piece if it is damage.
-fn tell_damage<E: Sink>(piece: Piece, err: &mut E)
-    ensures { TellsEach (damage_lines (piece ∷ [])) (E.seen err.old) (E.seen err.new) }
+fn report_damage<E: Sink>(piece: Piece, err: &mut E)
+    ensures { ReportsEach (damage_lines (piece ∷ [])) (E.seen err.old) (E.seen err.new) }
 {
     if let Piece::Damage { offset, len, fault } = piece {
-        tell(line_of_damage(offset, len, fault).as_str(), err);
+        report(line_of_damage(offset, len, fault).as_str(), err);
     }
 }
 
@@ -90,7 +90,7 @@ fn copy_runs<S: Source, A: Allocator + Copy, W: Sink, E: Sink>(
         match next_step(pieces, &mut tally) {
             Step::More(piece) => {
                 copy_run(piece, pieces, scratch, buffer, out)?;
-                tell_damage(piece, err);
+                report_damage(piece, err);
             }
             Step::End(stop) => return Ok(Found { tally, stop }),
         }
@@ -115,32 +115,32 @@ fn send_runs<S: Source, A: Allocator + Copy, W: Sink, E: Sink>(
 }
 
 /// Reports how many records and bytes went out, and answers the exit status.
-fn tell_sum<E: Sink>(tally: Tally, err: &mut E) -> u8
-    ensures told { (pieces : List Given) → IsTallyOf tally pieces
-        → Tells (salvaged_line None pieces) (E.seen err.old) (E.seen err.new) }
+fn report_sum<E: Sink>(tally: Tally, err: &mut E) -> u8
+    ensures reported { (pieces : List Given) → IsTallyOf tally pieces
+        → Reports (salvaged_line None pieces) (E.seen err.old) (E.seen err.new) }
     ensures status { (pieces : List Given) → IsTallyOf tally pieces → result ≡ pieces_status None pieces }
 {
     if tally.is_damaged {
-        tell_line("salvaged", tally.records, tally.bytes, err);
+        report_line("salvaged", tally.records, tally.bytes, err);
         REFUSED
     } else {
-        tell_line("good", tally.records, tally.bytes, err);
+        report_line("good", tally.records, tally.bytes, err);
         DONE
     }
 }
 
 /// Reports what stopped reading, if anything did, and what went out, and answers the exit status.
-fn tell_found<E: Sink>(found: Found, err: &mut E) -> u8
-    ensures told { (pieces : List Given) → IsTallyOf found.tally pieces → TellsEach (stop_lines found.stop
+fn report_found<E: Sink>(found: Found, err: &mut E) -> u8
+    ensures reported { (pieces : List Given) → IsTallyOf found.tally pieces → ReportsEach (stop_lines found.stop
         ++ salvaged_line found.stop pieces ∷ []) (E.seen err.old) (E.seen err.new) }
     ensures status { (pieces : List Given) → IsTallyOf found.tally pieces
         → result ≡ pieces_status found.stop pieces }
 {
     match found.stop {
-        None => tell_sum(found.tally, err),
+        None => report_sum(found.tally, err),
         Some(fault) => {
-            let status = tell_refusal(fault, err);
-            tell_line("salvaged", found.tally.records, found.tally.bytes, err);
+            let status = report_refusal(fault, err);
+            report_line("salvaged", found.tally.records, found.tally.bytes, err);
             status
         }
     }
@@ -159,8 +159,8 @@ fn salvage_pieces<S: Source, A: Allocator + Copy, W: Sink, E: Sink>(
     ensures reads { AsksNear (S.seen pieces.old.source) (S.seen pieces.new.source) }
 {
     match send_runs(pieces, out, err) {
-        Ok(found) => tell_found(found, err),
-        Err(fault) => tell_cut(fault, err),
+        Ok(found) => report_found(found, err),
+        Err(fault) => report_cut(fault, err),
     }
 }
 
@@ -180,7 +180,7 @@ where
 {
     let mut pieces = match Pieces::new(alloc, source) {
         Ok(pieces) => pieces,
-        Err((fault, source)) => return (tell_refusal(fault, err), source),
+        Err((fault, source)) => return (report_refusal(fault, err), source),
     };
     let status = salvage_pieces(&mut pieces, out, err);
     (status, pieces.into_source())

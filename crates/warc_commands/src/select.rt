@@ -3,13 +3,13 @@ ghost use Rattle.std.specs.Prelude.{◌≡◌, ◌<◌, ◌≤◌, ◌++◌, All
 ghost use Rattle.warc.specs.Selecting.{ArePositions, ReadsRecords, at_positions};
 ghost use Rattle.warc_commands.specs.Devices.{devices};
 ghost use Rattle.warc_commands.specs.Named.{bad_line, positions_in};
-ghost use Rattle.warc_commands.specs.Program.{Tells, told_line};
+ghost use Rattle.warc_commands.specs.Program.{Reports, reported_line};
 ghost use Rattle.warc_commands.specs.Reads.{ReadsTimes};
 ghost use Rattle.warc_commands.specs.Selected.{AreWanted, ChosenEnds, ReadsSome, SelectEnds, SendEnds, list_fault_text};
 
 use crate::lists::{ListFault, first_absent, put_in_order, read_list};
-use crate::program::{DONE, FAILED, FOUND, LINE, tell, tell_cut, tell_refusal};
-use crate::salvage::tell_line;
+use crate::program::{DONE, FAILED, FOUND, LINE, report, report_cut, report_refusal};
+use crate::salvage::report_line;
 use arrayvec::ArrayString;
 use itoa::Buffer;
 use std::alloc::{AllocError, Allocator};
@@ -46,11 +46,11 @@ where
 {
     let named = match read_list(alloc, wanted.list) {
         Ok(named) => named,
-        Err(fault) => return (tell_list(fault, err), source),
+        Err(fault) => return (report_list(fault, err), source),
     };
     let mut archive = match Listing::open(alloc, source) {
         Ok(archive) => archive,
-        Err((fault, source)) => return (tell_refusal(fault, err), source),
+        Err((fault, source)) => return (report_refusal(fault, err), source),
     };
     let status = write_named(&mut archive, named, wanted.except, out, err);
     (status, archive.into_source())
@@ -75,12 +75,12 @@ where
     ensures reads { ReadsSome archive.old.rows (S.seen archive.old.source) (S.seen archive.new.source) }
 {
     if let Some(absent) = first_absent(&named, archive.count()) {
-        tell_number("E1 NoRecord ", absent, err);
+        report_number("E1 NoRecord ", absent, err);
         return FOUND;
     }
     match choose(archive, named, except) {
         Ok(chosen) => send(archive, &chosen, out, err),
-        Err(_) => tell_cut(OutFault::Memory(0), err),
+        Err(_) => report_cut(OutFault::Memory(0), err),
     }
 }
 
@@ -123,39 +123,39 @@ where
     let size = archive.selected_len(positions);
     match archive.select(positions, out) {
         Ok(()) => {
-            tell_line("selected", positions.len() as u64, size, err);
+            report_line("selected", positions.len() as u64, size, err);
             DONE
         }
-        Err(fault) => tell_cut(fault, err),
+        Err(fault) => report_cut(fault, err),
     }
 }
 
 /// Reports why a list names no positions, and answers the exit status.
-pub(crate) fn tell_list<E: Sink>(fault: ListFault, err: &mut E) -> u8
-    ensures told { Tells (told_line (list_fault_text fault)) (E.seen err.old) (E.seen err.new) }
+pub(crate) fn report_list<E: Sink>(fault: ListFault, err: &mut E) -> u8
+    ensures reported { Reports (reported_line (list_fault_text fault)) (E.seen err.old) (E.seen err.new) }
     ensures status { result ≡ 3 }
 {
     match fault {
         ListFault::Line(number) => {
-            tell_number("bad position in line ", number, err);
+            report_number("bad position in line ", number, err);
             FAILED
         }
-        ListFault::Memory => tell_cut(OutFault::Memory(0), err),
+        ListFault::Memory => report_cut(OutFault::Memory(0), err),
     }
 }
 
 /// Reports a short text and a number.
-pub(crate) fn tell_number<E: Sink>(text: &str, number: usize, err: &mut E)
+pub(crate) fn report_number<E: Sink>(text: &str, number: usize, err: &mut E)
     requires { length text.now ≤ 80 }
-    ensures { Tells (told_line (text.now ++ decimal number)) (E.seen err.old) (E.seen err.new) }
+    ensures { Reports (reported_line (text.now ++ decimal number)) (E.seen err.old) (E.seen err.new) }
 {
-    tell(line_of_number(text, number).as_str(), err);
+    report(line_of_number(text, number).as_str(), err);
 }
 
 /// The line of a short text and a number.
 fn line_of_number(text: &str, number: usize) -> ArrayString<LINE>
     requires { length text.now ≤ 80 }
-    ensures { result.bytes ≡ told_line (text.now ++ decimal number) }
+    ensures { result.bytes ≡ reported_line (text.now ++ decimal number) }
 {
     let mut digits = Buffer::new();
     let mut line = ArrayString::new();

@@ -6,13 +6,13 @@ ghost use Rattle.warc.specs.Selecting.{ArePositions, ReadsRecords, at_positions}
 ghost use Rattle.warc_commands.specs.Closed.{ClosedEnds, ClosureEnds, GivesClosed, NamedEnds, ReadsClosed, beside, beside_text};
 ghost use Rattle.warc_commands.specs.Devices.{devices};
 ghost use Rattle.warc_commands.specs.Named.{bad_line, positions_in};
-ghost use Rattle.warc_commands.specs.Program.{Tells};
+ghost use Rattle.warc_commands.specs.Program.{Reports};
 ghost use Rattle.warc_commands.specs.Reads.{ReadsTimes};
 ghost use Rattle.warc_commands.specs.Selected.{SendEnds, selected_line};
 
 use crate::lists::{first_absent, put_in_order, read_list};
-use crate::program::{DONE, FOUND, LINE, tell, tell_cut, tell_refusal};
-use crate::select::{Wanted, tell_list, tell_number};
+use crate::program::{DONE, FOUND, LINE, report, report_cut, report_refusal};
+use crate::select::{Wanted, report_list, report_number};
 use arrayvec::ArrayString;
 use itoa::Buffer;
 use std::alloc::Allocator;
@@ -43,11 +43,11 @@ where
 {
     let named = match read_list(alloc, wanted.list) {
         Ok(named) => named,
-        Err(fault) => return (tell_list(fault, err), source),
+        Err(fault) => return (report_list(fault, err), source),
     };
     let mut archive = match Archive::open(alloc, source) {
         Ok(archive) => archive,
-        Err((fault, source)) => return (tell_refusal(fault, err), source),
+        Err((fault, source)) => return (report_refusal(fault, err), source),
     };
     let status = write_closed(&mut archive, named, wanted.except, out, err);
     (status, archive.into_source())
@@ -74,7 +74,7 @@ where
         (S.seen archive.new.listing.source) }
 {
     if let Some(absent) = first_absent(&named, archive.count()) {
-        tell_number("E1 NoRecord ", absent, err);
+        report_number("E1 NoRecord ", absent, err);
         return FOUND;
     }
     let mut positions = named;
@@ -108,7 +108,7 @@ where
             let besides = count_beside(archive.count(), positions.len(), chosen.len(), except);
             send_closed(archive, &chosen, Beside { except, besides }, out, err)
         }
-        Err(fault) => tell_cut(fault, err),
+        Err(fault) => report_cut(fault, err),
     }
 }
 
@@ -171,25 +171,25 @@ where
     let size = archive.selected_len(positions);
     match archive.select(positions, out) {
         Ok(()) => {
-            tell_selected(positions.len(), size, beside, err);
+            report_selected(positions.len(), size, beside, err);
             DONE
         }
-        Err(fault) => tell_cut(fault, err),
+        Err(fault) => report_cut(fault, err),
     }
 }
 
 /// Reports how many records and bytes went out, and how many records there are beside the named ones.
-fn tell_selected<E: Sink>(records: usize, bytes: u64, beside: Beside, err: &mut E)
-    ensures { Tells (selected_line records bytes (beside_text beside.except beside.besides)) (E.seen err.old)
+fn report_selected<E: Sink>(records: usize, bytes: u64, beside: Beside, err: &mut E)
+    ensures { Reports (selected_line records bytes (beside_text beside.except beside.besides)) (E.seen err.old)
         (E.seen err.new) }
 {
     if beside.except {
         let line = line_of_selected(records, bytes, beside.besides, " left out besides");
-        tell(line.as_str(), err);
+        report(line.as_str(), err);
         return;
     }
     let line = line_of_selected(records, bytes, beside.besides, " of them needed");
-    tell(line.as_str(), err);
+    report(line.as_str(), err);
 }
 
 /// The line of how many records and bytes went out, and how many records there are beside the named ones.

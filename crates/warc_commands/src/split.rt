@@ -4,7 +4,7 @@ ghost use Rattle.warc_commands.specs.Devices.{devices};
 ghost use Rattle.warc_commands.specs.Program.{SplitEnds, size_of};
 ghost use Rattle.warc_commands.specs.Reads.{ReadsTimes};
 
-use crate::program::{DONE, FAILED, tell, tell_cut, tell_refusal};
+use crate::program::{DONE, FAILED, report, report_cut, report_refusal};
 use std::alloc::Allocator;
 use warc::Listing;
 use warc_field::decimal;
@@ -41,15 +41,15 @@ where
     ensures reads { ReadsTimes 4 (S.seen source) (S.seen result.1) }
 {
     let Some(size) = size_of(size.as_bytes()) else {
-        tell("warc: bad size\n", err);
+        report("warc: bad size\n", err);
         return (FAILED, source);
     };
     let mut archive = match Listing::open(alloc, source) {
         Ok(archive) => archive,
-        Err((fault, source)) => return (tell_refusal(fault, err), source),
+        Err((fault, source)) => return (report_refusal(fault, err), source),
     };
     match archive.split(size, out) {
         Ok(()) => (DONE, archive.into_source()),
-        Err(fault) => (tell_cut(fault, err), archive.into_source()),
+        Err(fault) => (report_cut(fault, err), archive.into_source()),
     }
 }

@@ -6,14 +6,14 @@ ghost use Rattle.warc_answer.specs.Stored.{answer_with};
 ghost use Rattle.warc.specs.Outcomes.{answer_seen};
 ghost use Rattle.warc_commands.specs.Devices.{devices};
 ghost use Rattle.warc_commands.specs.Parts.{position_of};
-ghost use Rattle.warc_commands.specs.Program.{Tells, answer_text};
+ghost use Rattle.warc_commands.specs.Program.{Reports, answer_text};
 ghost use Rattle.warc_commands.specs.Reads.{ReadsTimes};
 ghost use Rattle.warc_commands.specs.Stored.{StoredEnds, StoredReplayEnds, coded_text, stored_line, stored_status};
 
-use crate::bodies::tell_body;
-use crate::extract::{line_of_answer, tell_replay};
+use crate::bodies::report_body;
+use crate::extract::{line_of_answer, report_replay};
 use crate::parts::position_of;
-use crate::program::{DONE, FAILED, tell, tell_refusal};
+use crate::program::{DONE, FAILED, report, report_refusal};
 use std::alloc::Allocator;
 use warc::{Archive, BodyFault, StoredAt};
 use warc_answer::{Answer, Reason, ReplayFault};
@@ -43,7 +43,7 @@ where
     match position_of(position.as_bytes()) {
         Some(position) => stored_at(alloc, position, source, out, err),
         None => {
-            tell("warc: bad position\n", err);
+            report("warc: bad position\n", err);
             (FAILED, source)
         }
     }
@@ -65,10 +65,10 @@ where
 {
     let mut archive = match Archive::open(alloc, source) {
         Ok(archive) => archive,
-        Err((fault, source)) => return (tell_refusal(fault, err), source),
+        Err((fault, source)) => return (report_refusal(fault, err), source),
     };
     let answer = archive.stored_to(position, out);
-    (tell_stored(&answer, err), archive.into_source())
+    (report_stored(&answer, err), archive.into_source())
 }
 
 /// Writes what is stored for a URI as of a moment: of the origin of the capture that is chosen.
@@ -94,38 +94,38 @@ where
 {
     let mut archive = match Archive::open(alloc, source) {
         Ok(archive) => archive,
-        Err((fault, source)) => return (tell_refusal(fault, err), source),
+        Err((fault, source)) => return (report_refusal(fault, err), source),
     };
     match archive.chosen(uri, moment) {
         Ok(position) => {
             let answer = archive.stored_to(position, out);
-            (tell_stored(&answer, err), archive.into_source())
+            (report_stored(&answer, err), archive.into_source())
         }
         Err(unfound) => {
             let reason = Reason::NotFound(unfound);
-            let status = tell_replay(Err(ReplayFault::Reason(reason)), err);
+            let status = report_replay(Err(ReplayFault::Reason(reason)), err);
             (status, archive.into_source())
         }
     }
 }
 
 /// Reports what is said of what is stored, or why it isn't written, or not whole, and answers the exit status.
-fn tell_stored<E: Sink, A: Allocator>(answer: &Result<StoredAt<A>, BodyFault>, err: &mut E) -> u8
-    ensures told { Tells (stored_line (answer_seen answer.now)) (E.seen err.old) (E.seen err.new) }
+fn report_stored<E: Sink, A: Allocator>(answer: &Result<StoredAt<A>, BodyFault>, err: &mut E) -> u8
+    ensures reported { Reports (stored_line (answer_seen answer.now)) (E.seen err.old) (E.seen err.new) }
     ensures status { result ≡ stored_status (answer_seen answer.now) }
 {
     match answer {
         Ok(at) => {
-            tell_answer(at, err);
+            report_answer(at, err);
             DONE
         }
-        Err(fault) => tell_body(Err(*fault), err),
+        Err(fault) => report_body(Err(*fault), err),
     }
 }
 
 /// Reports what is said of what is stored.
-fn tell_answer<E: Sink, A: Allocator>(at: &StoredAt<A>, err: &mut E)
-    ensures { Tells (answer_text (answer_with at.now.path (stored_seen at.now.stored))
+fn report_answer<E: Sink, A: Allocator>(at: &StoredAt<A>, err: &mut E)
+    ensures { Reports (answer_text (answer_with at.now.path (stored_seen at.now.stored))
         ++ coded_text at.now.stored.coded at.now.stored.codings.items ++ codes "\n") (E.seen err.old) (E.seen err.new) }
 {
     let line = line_of_answer(&Answer {
@@ -136,9 +136,9 @@ fn tell_answer<E: Sink, A: Allocator>(at: &StoredAt<A>, err: &mut E)
         length: at.stored.length,
     });
     if at.stored.coded {
-        tell_coded(line.as_str(), &at.stored.codings, err);
+        report_coded(line.as_str(), &at.stored.codings, err);
     } else {
-        tell(line.as_str(), err);
+        report(line.as_str(), err);
     }
 }
 
@@ -154,19 +154,19 @@ fn without_end(line: &[u8]) -> &[u8]
 }
 
 /// Writes a line, and before its end what is said of a coded body.
-fn tell_coded<E: Sink>(line: &str, codings: &[u8], err: &mut E)
+fn report_coded<E: Sink>(line: &str, codings: &[u8], err: &mut E)
     ensures { (text : List ℕ) → line.now ≡ text ++ codes "\n" →
-        Tells (text ++ (codes " coded" ++ codings.now) ++ codes "\n") (E.seen err.old) (E.seen err.new) }
+        Reports (text ++ (codes " coded" ++ codings.now) ++ codes "\n") (E.seen err.old) (E.seen err.new) }
 {
-    tell_all(
+    report_all(
         &[without_end(line.as_bytes()), b" coded", codings, b"\n"],
         err,
     );
 }
 
 /// Writes pieces of a line, as far as the sink takes them.
-fn tell_all<E: Sink>(pieces: &[&[u8]], err: &mut E)
-    ensures { Tells (concat (map (λ p. p.now) pieces.now)) (E.seen err.old) (E.seen err.new) }
+fn report_all<E: Sink>(pieces: &[&[u8]], err: &mut E)
+    ensures { Reports (concat (map (λ p. p.now) pieces.now)) (E.seen err.old) (E.seen err.new) }
 {
     let mut buffer = OutBuffer::new();
     match put_all(pieces, &mut buffer, err) {

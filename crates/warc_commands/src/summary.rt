@@ -4,7 +4,7 @@ ghost use Rattle.warc_commands.specs.Devices.{devices};
 ghost use Rattle.warc_commands.specs.Reads.{ReadsTimes};
 ghost use Rattle.warc_commands.specs.Summaries.{SummaryEnds};
 
-use crate::program::{DONE, tell_cut, tell_refusal};
+use crate::program::{DONE, report_cut, report_refusal};
 use std::alloc::Allocator;
 use warc::Summarized;
 use warc_frame::{Sink, Source};
@@ -25,10 +25,10 @@ where
 {
     let summarized = match Summarized::open(alloc, source) {
         Ok(summarized) => summarized,
-        Err((fault, source)) => return (tell_refusal(fault, err), source),
+        Err((fault, source)) => return (report_refusal(fault, err), source),
     };
     match summarized.summary().write(out) {
         Ok(()) => (DONE, summarized.into_source()),
-        Err(fault) => (tell_cut(fault, err), summarized.into_source()),
+        Err(fault) => (report_cut(fault, err), summarized.into_source()),
     }
 }

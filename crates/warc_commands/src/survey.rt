@@ -4,7 +4,7 @@ ghost use Rattle.warc_commands.specs.Devices.{devices};
 ghost use Rattle.warc_commands.specs.Reads.{AsksNear};
 ghost use Rattle.warc_commands.specs.Surveys.{SurveyEnds};
 
-use crate::program::{DONE, tell_cut, tell_refusal};
+use crate::program::{DONE, report_cut, report_refusal};
 use std::alloc::Allocator;
 use warc::Surveyed;
 use warc_frame::{Sink, Source};
@@ -25,10 +25,10 @@ where
 {
     let mut surveyed = match Surveyed::open(alloc, source) {
         Ok(surveyed) => surveyed,
-        Err((fault, source)) => return (tell_refusal(fault, err), source),
+        Err((fault, source)) => return (report_refusal(fault, err), source),
     };
     match surveyed.write(out) {
         Ok(()) => (DONE, surveyed.into_source()),
-        Err(fault) => (tell_cut(fault, err), surveyed.into_source()),
+        Err(fault) => (report_cut(fault, err), surveyed.into_source()),
     }
 }

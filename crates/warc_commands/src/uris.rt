@@ -1,29 +1,29 @@
 //! URIs that are written as hexadecimal digits.
 ghost use Rattle.std.specs.Prelude.{◌≡◌, true};
 ghost use Rattle.warc_commands.specs.Devices.{devices};
-ghost use Rattle.warc_commands.specs.Program.{Tells, told_line};
+ghost use Rattle.warc_commands.specs.Program.{Reports, reported_line};
 ghost use Rattle.warc_commands.specs.Reads.{ReadsTimes};
 ghost use Rattle.warc_commands.specs.Stored.{ReplayedAs};
 ghost use Rattle.warc_commands.specs.Uris.{UriEnds, uri_fault_text};
 ghost use Rattle.warc_arguments.specs.Digits.{uri_named};
 
 use crate::extract::{AsOf, replay};
-use crate::program::{FAILED, tell, tell_cut};
+use crate::program::{FAILED, report, report_cut};
 use std::alloc::Allocator;
 use warc_arguments::{UriFault, bytes_of};
 use warc_frame::{OutFault, Sink, Source};
 
 /// Reports why digits name no URI, and answers the exit status.
-pub(crate) fn tell_fault<E: Sink>(fault: UriFault, err: &mut E) -> u8
-    ensures told { Tells (told_line (uri_fault_text fault)) (E.seen err.old) (E.seen err.new) }
+pub(crate) fn report_fault<E: Sink>(fault: UriFault, err: &mut E) -> u8
+    ensures reported { Reports (reported_line (uri_fault_text fault)) (E.seen err.old) (E.seen err.new) }
     ensures status { result ≡ 3 }
 {
     match fault {
         UriFault::Digits => {
-            tell("warc: bad hex\n", err);
+            report("warc: bad hex\n", err);
             FAILED
         }
-        UriFault::Memory => tell_cut(OutFault::Memory(0), err),
+        UriFault::Memory => report_cut(OutFault::Memory(0), err),
     }
 }
 
@@ -80,6 +80,6 @@ where
 {
     match bytes_of(alloc, uri) {
         Ok(bytes) => replay(alloc, &bytes, as_of, source, out, err),
-        Err(fault) => (tell_fault(fault, err), source),
+        Err(fault) => (report_fault(fault, err), source),
     }
 }

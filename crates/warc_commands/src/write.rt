@@ -6,11 +6,11 @@ ghost use Rattle.warc_frame.specs.Record.{max_block};
 ghost use Rattle.warc_write.specs.Making.{Makes, made, make_fault_text};
 ghost use Rattle.warc_commands.specs.Asking.{AsksFar, ReadsFront};
 ghost use Rattle.warc_commands.specs.Devices.{devices};
-ghost use Rattle.warc_commands.specs.Program.{IsUnsent, MakeEnds, Tells, plan_of, told_line};
+ghost use Rattle.warc_commands.specs.Program.{IsUnsent, MakeEnds, Reports, plan_of, reported_line};
 ghost use Rattle.warc_commands.specs.Reads.{ReadsForRecord, file_piece};
 ghost use Rattle.warc_frame.specs.Ranges.{IsReadAt};
 
-use crate::program::{DONE, FAILED, line_of, tell, tell_cut};
+use crate::program::{DONE, FAILED, line_of, report, report_cut};
 use std::alloc::Allocator;
 use warc_arguments::Draft;
 use warc_frame::{Framed, MAX_BLOCK, OutFault, Sink, Source};
@@ -75,8 +75,8 @@ pub(crate) fn read_front<S: Source, A: Allocator + Copy>(
 
 /// Whether a source has a byte at the offset.
 fn has_byte_at<S: Source>(source: &mut S, at: u64) -> Result<bool, OutFault>
-    ensures stands { (bytes : List ℕ) → (S.seen source.old).holds ≡ Some bytes → IfOk result (λ stands. stands ≡
-        nat_lt at (length bytes)) }
+    ensures is_present { (bytes : List ℕ) → (S.seen source.old).holds ≡ Some bytes →
+        IfOk result (λ is_present. is_present ≡ nat_lt at (length bytes)) }
     ensures kept { (S.seen source.new).holds ≡ (S.seen source.old).holds }
     ensures failed { HasFailedBy result (S.seen source.old).faults (S.seen source.new).faults }
     ensures unsent { IfErr result IsUnsent }
@@ -185,24 +185,24 @@ where
     let mut source = source;
     let block = match read_block(alloc, &mut source) {
         Ok(Some(block)) => block,
-        Ok(None) => return (tell_unmade(refusal_of(draft), err), source),
-        Err(fault) => return (tell_cut(fault, err), source),
+        Ok(None) => return (report_unmade(refusal_of(draft), err), source),
+        Err(fault) => return (report_cut(fault, err), source),
     };
     let framed = match make_by(alloc, draft, &block) {
         Ok(framed) => framed,
-        Err(fault) => return (tell_unmade(fault, err), source),
+        Err(fault) => return (report_unmade(fault, err), source),
     };
     match render_one(&framed, out) {
         Ok(()) => (DONE, source),
-        Err(fault) => (tell_cut(fault, err), source),
+        Err(fault) => (report_cut(fault, err), source),
     }
 }
 
 /// Reports why no record is made, and answers the exit status.
-fn tell_unmade<E: Sink>(fault: MakeFault, err: &mut E) -> u8
-    ensures told { Tells (told_line (make_fault_text fault)) (E.seen err.old) (E.seen err.new) }
+fn report_unmade<E: Sink>(fault: MakeFault, err: &mut E) -> u8
+    ensures reported { Reports (reported_line (make_fault_text fault)) (E.seen err.old) (E.seen err.new) }
     ensures status { result ≡ 3 }
 {
-    tell(line_of(fault.name()).as_str(), err);
+    report(line_of(fault.name()).as_str(), err);
     FAILED
 }

@@ -92,8 +92,8 @@ empty_front [] rest more e h = sym e
 empty_front (x ∷ xs) rest more e h = absurd (omega (arith, h))
 
 -- a bad line behind a field's line
-behind : (field : Pair) (line more : List ℕ) (k : ℕ) → IsFieldLine field line → begins_blank more ≡ false → IsFirstBadLine more k → IsFirstBadLine (line ++ more) (length line + k)
-behind field line more k is begins later = record {
+following : (field : Pair) (line more : List ℕ) (k : ℕ) → IsFieldLine field line → begins_blank more ≡ false → IsFirstBadLine more k → IsFirstBadLine (line ++ more) (length line + k)
+following field line more k is begins later = record {
   fields = field ∷ later.fields;
   front = line ++ later.front;
   rest = later.rest;
@@ -125,7 +125,7 @@ err-found (line ∷ next ∷ rest) area from at e h = ⊎_elim
     let later = err-found (next ∷ rest) cut.0 (from + length line + 2) at cut.2 inner in
     let whole : area ≡ (line ++ crlf) ++ cut.0 = cut.1 ∙ sym (append_assoc line crlf cut.0) in
     let size = length-append line crlf in
-    (length (line ++ crlf) + later.0, omega (arith, later.1, size), subst (λ a. IsFirstBadLine a (length (line ++ crlf) + later.0)) (sym whole) (behind some.0 (line ++ crlf) cut.0 later.0 (field_line-of line some.0 some.1) cut.3 later.2)))
+    (length (line ++ crlf) + later.0, omega (arith, later.1, size), subst (λ a. IsFirstBadLine a (length (line ++ crlf) + later.0)) (sym whole) (following some.0 (line ++ crlf) cut.0 later.0 (field_line-of line some.0 some.1) cut.3 later.2)))
     (none_or_some (field_of line))
 
 -- a text that begins with a spelled area and goes on with no blank

@@ -11,11 +11,11 @@ set_field (f ∷ fs) zero field h is = (is, h.1)
 set_field (f ∷ fs) (suc place) field h is = (h.0, set_field fs place field h.1 is)
 
 -- what is put after all fields comes after those before its place, which are all
-pub put_behind : (fields : List Pair) (place : ℕ) (field : Pair) → length fields ≤ place → place ≤ length fields → take (place + 1) (fields ++ field ∷ []) ≡ take place fields ++ field ∷ []
-put_behind [] place field some few = let e : place ≡ 0 = omega arith in rw e refl
-put_behind (f ∷ fs) zero field some few = absurd (omega arith)
-put_behind (f ∷ fs) (suc place) field some few =
-    let later = put_behind fs place field (omega arith) (omega arith) in
+pub put_after : (fields : List Pair) (place : ℕ) (field : Pair) → length fields ≤ place → place ≤ length fields → take (place + 1) (fields ++ field ∷ []) ≡ take place fields ++ field ∷ []
+put_after [] place field some few = let e : place ≡ 0 = omega arith in rw e refl
+put_after (f ∷ fs) zero field some few = absurd (omega arith)
+put_after (f ∷ fs) (suc place) field some few =
+    let later = put_after fs place field (omega arith) (omega arith) in
     let e : suc place + 1 ≡ suc (place + 1) = omega arith in
     ap (λ n. take n (f ∷ fs ++ field ∷ [])) e ∙ ap (λ l. f ∷ l) later
 

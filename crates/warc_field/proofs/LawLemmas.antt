@@ -106,22 +106,22 @@ none_area (f ∷ fs) area more (line, left, is, e, spells) =
     let text : area ≡ f.0 ++ (58 ∷ rest ++ 13 ∷ 10 ∷ left) = e ∙ ap (λ l. l ++ left) is.text ∙ regroup f.0 rest left in
     let whole : area ++ 13 ∷ 10 ∷ more ≡ f.0 ++ y = ap (λ a. a ++ 13 ∷ 10 ∷ more) text ∙ regroup_more f.0 rest left (13 ∷ 10 ∷ more) in
     let n = length rest + length left in
-    let behind : NoneAbove (rest ++ 13 ∷ 10 ∷ (left ++ 13 ∷ 10 ∷ more)) n = none_rest rest (left ++ 13 ∷ 10 ∷ more) (length left) (value_folds rest f.1 (means_value-value_of rest f.1 is.value)) (none_area fs left more spells) in
-    let colon : NoneAbove y (suc n) = none_other 58 (rest ++ 13 ∷ 10 ∷ (left ++ 13 ∷ 10 ∷ more)) n (colon_no_cr 58 refl) behind in
+    let following : NoneAbove (rest ++ 13 ∷ 10 ∷ (left ++ 13 ∷ 10 ∷ more)) n = none_rest rest (left ++ 13 ∷ 10 ∷ more) (length left) (value_folds rest f.1 (means_value-value_of rest f.1 is.value)) (none_area fs left more spells) in
+    let colon : NoneAbove y (suc n) = none_other 58 (rest ++ 13 ∷ 10 ∷ (left ++ 13 ∷ 10 ∷ more)) n (colon_no_cr 58 refl) following in
     let named : NoneAbove (f.0 ++ y) (length f.0 + suc n) = none_name f.0 y (suc n) (name_bytes f.0 is.name) colon in
     let after_lf : NoneAbove (10 ∷ (f.0 ++ y)) (suc (length f.0 + suc n)) = none_other 10 (f.0 ++ y) _ (lf_no_cr 10 refl) named in
     let after_cr : NoneAbove (13 ∷ 10 ∷ (f.0 ++ y)) (suc (suc (length f.0 + suc n))) = none_skip 13 (10 ∷ (f.0 ++ y)) _ (name-first f.0 y (get_or (f.0 ++ y) 1 0) is.name) after_lf in
     let size : length area ≡ suc (suc (length f.0 + suc n)) = omega (arith, ap length text, length-append f.0 (58 ∷ rest ++ 13 ∷ 10 ∷ left), length-append (58 ∷ rest) (13 ∷ 10 ∷ left)) in
     λ k l. ap (λ xs. empty_at (13 ∷ 10 ∷ xs) k) whole ∙ after_cr k (omega (arith, size, l))
 
-get_or-behind : (xs ys : List ℕ) (k : ℕ) → get_or (xs ++ ys) (length xs + k) 0 ≡ get_or ys k 0
-get_or-behind [] ys k = ap (λ n. get_or ys n 0) (let e : 0 + k ≡ k = omega arith in e)
-get_or-behind (x ∷ xs) ys k = ap (λ n. get_or (x ∷ (xs ++ ys)) n 0) (let e : suc (length xs) + k ≡ suc (length xs + k) = omega arith in e) ∙ get_or-behind xs ys k
+get_or-following : (xs ys : List ℕ) (k : ℕ) → get_or (xs ++ ys) (length xs + k) 0 ≡ get_or ys k 0
+get_or-following [] ys k = ap (λ n. get_or ys n 0) (let e : 0 + k ≡ k = omega arith in e)
+get_or-following (x ∷ xs) ys k = ap (λ n. get_or (x ∷ (xs ++ ys)) n 0) (let e : suc (length xs) + k ≡ suc (length xs + k) = omega arith in e) ∙ get_or-following xs ys k
 
-crlf_at-behind : (xs ys : List ℕ) (k : ℕ) → crlf_at (xs ++ ys) (length xs + k) ≡ crlf_at ys k
-crlf_at-behind xs ys k =
+crlf_at-following : (xs ys : List ℕ) (k : ℕ) → crlf_at (xs ++ ys) (length xs + k) ≡ crlf_at ys k
+crlf_at-following xs ys k =
     let e : suc (length xs + k) ≡ length xs + suc k = omega arith in
-    rw (get_or-behind xs ys k, e, get_or-behind xs ys (suc k))
+    rw (get_or-following xs ys k, e, get_or-following xs ys (suc k))
 
 -- a field's line, its CRLF and what follows it, behind a CRLF
 regroup_front : (name rest left tail : List ℕ) → 13 ∷ 10 ∷ (name ++ (58 ∷ (rest ++ 13 ∷ 10 ∷ (left ++ tail)))) ≡ (13 ∷ 10 ∷ (name ++ 58 ∷ rest)) ++ (13 ∷ 10 ∷ (left ++ tail))
@@ -136,12 +136,12 @@ ends_crlf (f ∷ fs) area tail (line, left, is, e, spells) =
     let text : area ≡ f.0 ++ (58 ∷ rest ++ 13 ∷ 10 ∷ left) = e ∙ ap (λ l. l ++ left) is.text ∙ regroup f.0 rest left in
     let whole : 13 ∷ 10 ∷ (area ++ tail) ≡ front ++ (13 ∷ 10 ∷ (left ++ tail)) = ap (λ a. 13 ∷ 10 ∷ (a ++ tail)) text ∙ ap (λ xs. 13 ∷ 10 ∷ xs) (regroup_more f.0 rest left tail) ∙ regroup_front f.0 rest left tail in
     let size : length area ≡ length front + length left = omega (arith, ap length text, length-append f.0 (58 ∷ rest ++ 13 ∷ 10 ∷ left), length-append (58 ∷ rest) (13 ∷ 10 ∷ left), length-append f.0 (58 ∷ rest)) in
-    ap (λ xs. crlf_at xs (length area)) whole ∙ ap (crlf_at (front ++ (13 ∷ 10 ∷ (left ++ tail)))) size ∙ crlf_at-behind front (13 ∷ 10 ∷ (left ++ tail)) (length left) ∙ ends_crlf fs left tail spells
+    ap (λ xs. crlf_at xs (length area)) whole ∙ ap (crlf_at (front ++ (13 ∷ 10 ∷ (left ++ tail)))) size ∙ crlf_at-following front (13 ∷ 10 ∷ (left ++ tail)) (length left) ∙ ends_crlf fs left tail spells
 
 -- behind the version line's CRLF, the first empty line is that behind the area
 pub empty_line_ends_area : (fields : List Pair) (area more : List ℕ) → SpellsFields fields area → (empty_at (crlf ++ (area ++ (crlf ++ more))) (length area) ≡ true) × ((k : ℕ) → k < length area → empty_at (crlf ++ (area ++ (crlf ++ more))) k ≡ false)
 empty_line_ends_area fields area more spells =
-    let second : crlf_at (13 ∷ 10 ∷ (area ++ 13 ∷ 10 ∷ more)) (suc (suc (length area))) ≡ true = ap (crlf_at (area ++ 13 ∷ 10 ∷ more)) (let e : length area ≡ length area + 0 = omega arith in e) ∙ crlf_at-behind area (13 ∷ 10 ∷ more) 0 in
+    let second : crlf_at (13 ∷ 10 ∷ (area ++ 13 ∷ 10 ∷ more)) (suc (suc (length area))) ≡ true = ap (crlf_at (area ++ 13 ∷ 10 ∷ more)) (let e : length area ≡ length area + 0 = omega arith in e) ∙ crlf_at-following area (13 ∷ 10 ∷ more) 0 in
     (and_from _ _ (ends_crlf fields area (13 ∷ 10 ∷ more) spells) second, none_area fields area more spells)
 
 -- how long the canonical lines are: four bytes a field beside its name and value

@@ -11,17 +11,17 @@ use Rattle.warc_field.specs.Text.{is_blank, is_value_byte, is_value}
 abbrev is_visible : ℕ → Bool
 is_visible b = nat_lt 32 b && nat_lt b 127
 
-may_stand : (b : ℕ) → is_visible b ≡ true → is_value_byte b ≡ true
+may_occur : (b : ℕ) → is_visible b ≡ true → is_value_byte b ≡ true
 unfolding is_value_byte
-may_stand b e = grind (arith, nat_tests)
+may_occur b e = grind (arith, nat_tests)
 
 no_blank : (b : ℕ) → is_visible b ≡ true → is_blank b ≡ false
 unfolding is_blank
 no_blank b e = grind (arith, nat_tests)
 
-may_all_stand : (text : List ℕ) → list_all is_visible text ≡ true → list_all is_value_byte text ≡ true
-may_all_stand [] all = refl
-may_all_stand (b ∷ text) all = let both = and_parts _ _ all in and_from _ _ (may_stand b both.0) (may_all_stand text both.1)
+may_all_remain : (text : List ℕ) → list_all is_visible text ≡ true → list_all is_value_byte text ≡ true
+may_all_remain [] all = refl
+may_all_remain (b ∷ text) all = let both = and_parts _ _ all in and_from _ _ (may_occur b both.0) (may_all_remain text both.1)
 
 begins_so : (text : List ℕ) → list_all is_visible text ≡ true → prefix_len is_blank text ≡ 0
 begins_so [] all = refl
@@ -37,5 +37,5 @@ reversed (b ∷ text) all =
 pub visible_text_is_value : (text : List ℕ) → list_all (λ b. nat_lt 32 b && nat_lt b 127) text ≡ true → is_value text ≡ true
 unfolding is_value
 visible_text_is_value text all =
-    and_from _ _ (and_from _ _ (may_all_stand text all) (ap (λ n. n == 0) (begins_so text all)))
+    and_from _ _ (and_from _ _ (may_all_remain text all) (ap (λ n. n == 0) (begins_so text all)))
     (ap (λ n. n == 0) (begins_so (reverse text) (reversed text all)))

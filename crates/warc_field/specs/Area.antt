@@ -111,11 +111,11 @@ Reads view (Ok x) read = read ≡ Ok (view x)
 Reads view (Err e) read = Fails e read
 
 -- a fault other than lack of memory names the area's first bad line
-abbrev pub TellsBadLine : List ℕ → AreaFault → Type 0
-TellsBadLine area Memory = Unit {0}
-TellsBadLine area (Line at) = IsFirstBadLine area at
+abbrev pub ReportsBadLine : List ℕ → AreaFault → Type 0
+ReportsBadLine area Memory = Unit {0}
+ReportsBadLine area (Line at) = IsFirstBadLine area at
 
 -- a line's fault is within n bytes
-abbrev pub TellsWithin : ℕ → AreaFault → Type 0
-TellsWithin len Memory = Unit {0}
-TellsWithin len (Line at) = at ≤ len
+abbrev pub ReportsWithin : ℕ → AreaFault → Type 0
+ReportsWithin len Memory = Unit {0}
+ReportsWithin len (Line at) = at ≤ len

@@ -1,6 +1,6 @@
 //! A field area, read: its lines, and the fields that they are.
 ghost use Rattle.std.specs.Prelude.{◌≡◌, IfOk, IfErr, List, Some, None, Ok, option_map, IfSome, position, length, ◌<◌, ◌≤◌};
-ghost use Rattle.warc_field.specs.Area.{Pair, is_colon, value_of, field_of, area_of, Reads, SpellsFields, TellsBadLine, TellsWithin};
+ghost use Rattle.warc_field.specs.Area.{Pair, is_colon, value_of, field_of, area_of, Reads, SpellsFields, ReportsBadLine, ReportsWithin};
 ghost use Rattle.warc_field.specs.FaultText.{area_fault_text};
 ghost use Rattle.warc_field.specs.Meant.{meant, field_meant, IsPut};
 ghost use Rattle.warc_field.specs.Text.{IsField};
@@ -150,11 +150,11 @@ pub fn read_area<A: Allocator + Copy>(alloc: A, area: &[u8]) -> Result<Fields<A>
     ensures only { (fields : List Pair) → SpellsFields fields area.now → Reads (λ f. f) result (Ok fields) }
 
     // A fault other than lack of memory is the first line that is no field or isn't ended.
-    ensures bad { IfErr result (TellsBadLine area.now) }
+    ensures bad { IfErr result (ReportsBadLine area.now) }
 
     // The same by the computing definition.
     ensures exact { Reads (λ f. f) result (area_of area.now) }
-    ensures within { IfErr result (TellsWithin (length area.now)) }
+    ensures within { IfErr result (ReportsWithin (length area.now)) }
 {
     read_area_in(Fields::new(alloc), area)
 }
@@ -166,7 +166,7 @@ pub fn read_area_in<A: Allocator + Copy>(
     area: &[u8],
 ) -> Result<Fields<A>, AreaFault>
     ensures exact { Reads (λ f. f) result (area_of area.now) }
-    ensures within { IfErr result (TellsWithin (length area.now)) }
+    ensures within { IfErr result (ReportsWithin (length area.now)) }
 {
     let mut fields = spare;
     fields.reserve_first(ROOM)?;
@@ -177,7 +177,7 @@ pub fn read_area_in<A: Allocator + Copy>(
 /// Writes the fields of an area's lines over others, by the computing definition alone.
 fn read_lines<A: Allocator + Copy>(area: &[u8], fields: &mut Fields<A>) -> Result<(), AreaFault>
     ensures exact { Reads (λ _. fields.new) result (area_of area.now) }
-    ensures within { IfErr result (TellsWithin (length area.now)) }
+    ensures within { IfErr result (ReportsWithin (length area.now)) }
 {
     let mut count = 0;
     let mut rest = area;

@@ -140,9 +140,9 @@ not_truth true h = cc
 not_truth false h = refl
 
 -- a text of which no byte is a CR, before one
-pub empty_line-behind : (xs t : List ℕ) (n : ℕ) → list_all (λ b. not (b == 13)) xs ≡ true → empty_line t ≡ Some n → empty_line (xs ++ t) ≡ Some (length xs + n)
-empty_line-behind [] t n all e = e ∙ ap Some (let z : n ≡ 0 + n = omega arith in z)
-empty_line-behind (b ∷ bs) t n all e =
+pub empty_line-following : (xs t : List ℕ) (n : ℕ) → list_all (λ b. not (b == 13)) xs ≡ true → empty_line t ≡ Some n → empty_line (xs ++ t) ≡ Some (length xs + n)
+empty_line-following [] t n all e = e ∙ ap Some (let z : n ≡ 0 + n = omega arith in z)
+empty_line-following (b ∷ bs) t n all e =
     let both = and_parts (not (b == 13)) (list_all (λ c. not (c == 13)) bs) all in
     let other : (b == 13) ≡ false = not_truth _ both.0 in
-    empty_line-skip b (bs ++ t) (length bs + n) (and_false_left _ _ (and_false_left _ _ other)) (empty_line-behind bs t n both.1 e) ∙ ap Some (let z : suc (length bs + n) ≡ suc (length bs) + n = omega arith in z)
+    empty_line-skip b (bs ++ t) (length bs + n) (and_false_left _ _ (and_false_left _ _ other)) (empty_line-following bs t n both.1 e) ∙ ap Some (let z : suc (length bs + n) ≡ suc (length bs) + n = omega arith in z)

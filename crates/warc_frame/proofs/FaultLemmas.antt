@@ -9,7 +9,7 @@ use Rattle.warc_frame.specs.declared.fault.Fault.{Fault}
 use Rattle.warc_frame.specs.Record.{Record, max_archive}
 use Rattle.warc_frame.specs.Spelling.{Spells, SpellsAll}
 use Rattle.warc_frame.specs.Reading.{Judgement, any_fields, record_of}
-use Rattle.warc_frame.specs.Faults.{AllAccepted, within_limit, goes_on, behind, HasFault, ReadsAs, or_too_long, limited, IsFirstFault}
+use Rattle.warc_frame.specs.Faults.{AllAccepted, within_limit, goes_on, following, HasFault, ReadsAs, or_too_long, limited, IsFirstFault}
 use Rattle.warc_frame.proofs.EmptyLineLemmas.{true_or_false}
 use Rattle.warc_frame.proofs.RowLemmas.{result_cases, option_cases}
 use Rattle.warc_frame.proofs.ReadLemmas.{record-spelled, le_from}
@@ -57,7 +57,7 @@ has_same judge q t None (Some g) x y = absurd (y.0 x)
 has_same judge q t (Some f) None x y = absurd (x.0 y)
 has_same judge q t (Some f) (Some g) (some, f', fails, is) (some', g', fails', is') =
     let same : f' ≡ g' = err_same f' g' (sym fails ∙ fails') in
-    ap Some (is ∙ ap (behind q) same ∙ sym is')
+    ap Some (is ∙ ap (following q) same ∙ sym is')
 
 -- a text is read in one way
 found_one : (judge : Judgement) (q p : ℕ) (rs ss : List Record) (front rest front' rest' : List ℕ) (a b : Option Fault) → SpellsAll rs front → SpellsAll ss front' → AllAccepted judge rs → AllAccepted judge ss
@@ -114,7 +114,7 @@ not_nil b bs e = cc
 stops : (judge : Judgement) (q b : ℕ) (bs : List ℕ) (g : Fault) → record_of judge (b ∷ bs) ≡ Err g → Read judge q (b ∷ bs)
 stops judge q b bs g fails = (
   [],
-  Some (behind (q + 0) g),
+  Some (following (q + 0) g),
   record { front = []; rest = b ∷ bs; text = refl; spelled = refl; accepted = tt; fault_is = (not_nil b bs, g, fails, refl) },
 )
 

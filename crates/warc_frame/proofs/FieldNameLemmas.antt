@@ -60,9 +60,9 @@ eighth_of a b is =
     sym (get_or-map to_ascii_lowercase a 7 0) ∙ ap (λ t. slice_index t 7) is ∙ get_or-map to_ascii_lowercase b 7 0
 
 -- a text that is one of the names, in any case, has the length and the eighth letter of that name
-pub told_by : (text : List ℕ) (name : FieldName) → same text (name_text name) ≡ true
+pub reported_by : (text : List ℕ) (name : FieldName) → same text (name_text name) ≡ true
     → name_by (length text) (to_ascii_lowercase (slice_index text 7)) ≡ Some name
-told_by text name is =
+reported_by text name is =
     let low : lower text ≡ lower (name_text name) = (bytes_eq-Decides (lower text) (lower (name_text name))).0 is in
     ap (λ n. name_by n (to_ascii_lowercase (slice_index text 7))) (length_of text (name_text name) low)
     ∙ ap (name_by (length (name_text name))) (eighth_of text (name_text name) low)
@@ -73,5 +73,5 @@ names_are = record {
   named = λ name. (facts name).2;
   places = λ a b is. sym (facts a).1 ∙ ap (λ place. get_or names place «Type») is ∙ (facts b).1;
   within = λ name. ltb-true (name_place name) name_count (facts name).3;
-  texts = λ text a b one other. let both = sym (told_by text a one) ∙ told_by text b other in cc;
+  texts = λ text a b one other. let both = sym (reported_by text a one) ∙ reported_by text b other in cc;
 }

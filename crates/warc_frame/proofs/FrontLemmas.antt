@@ -16,13 +16,13 @@ use Rattle.warc_frame.specs.Names.{content_length}
 use Rattle.warc_frame.specs.Record.{Record, canonical_len, block_len, block_number, or_length, max_head, max_block, max_archive}
 use Rattle.warc_frame.specs.Spelling.{Spells}
 use Rattle.warc_frame.specs.Reading.{◌>>=◌, Head, any_fields, fault, begins, version_of, head_len, head_of, block_at, record_of, refuses, at_front, fields_or_line, OrMemory, AnswersAs}
-use Rattle.warc_frame.specs.Faults.{within_limit, goes_on, behind, ReadsAs, limited, IsFrameFault}
+use Rattle.warc_frame.specs.Faults.{within_limit, goes_on, following, ReadsAs, limited, IsFrameFault}
 use Rattle.warc_frame.proofs.EmptyLineLemmas.{true_or_false}
 use Rattle.warc_frame.proofs.FramedLemmas.{number_small}
 use Rattle.warc_frame.proofs.RowLemmas.{bind_err, err_same, refuses-err, option_cases, result_cases}
 use Rattle.warc_frame.proofs.ReadLemmas.{head-has, head-looks, record-spelled, le_from}
 use Rattle.warc_frame.proofs.SpellLemmas.{record-read}
-use Rattle.warc_frame.proofs.StableLemmas.{behind_head, record_of-is, no_version, no_end, record-fault-stays}
+use Rattle.warc_frame.proofs.StableLemmas.{after_head, record_of-is, no_version, no_end, record-fault-stays}
 use Rattle.warc_frame.proofs.FaultLemmas.{limited-kept}
 
 -- a fault of another kind isn't truncation
@@ -85,15 +85,15 @@ block_short t place n f l m e is = ⊎_elim
     (bind_err (refuses (nat_lt (length t) (place + n + 4)) (fault Truncated (length t))) _ f good.2))
     (bind_err (refuses (not (begins (drop (place + n) t) (crlf ++ crlf))) (fault End (place + n))) _ f e)
 
-behind_short : (t : List ℕ) (head : Head) (f : Fault) → head.len ≤ max_head → head.block_len ≤ max_block → behind_head t head ≡ Err f → f.kind ≡ Truncated → IsShort t
-unfolding behind_head
-behind_short t head f l m e is = ⊎_elim
+after_short : (t : List ℕ) (head : Head) (f : Fault) → head.len ≤ max_head → head.block_len ≤ max_block → after_head t head ≡ Err f → f.kind ≡ Truncated → IsShort t
+unfolding after_head
+after_short t head f l m e is = ⊎_elim
     (λ (bad : block_at head.len head.block_len t ≡ Err f). block_short t head.len head.block_len f l m bad is)
     (λ (ok : (block : List ℕ) × (block_at head.len head.block_len t ≡ Ok block) × (◌≡◌ {A = Result (Record × ℕ) Fault} (Ok (record { version = head.version; fields = head.fields; block = block }, head.len + head.block_len + 4)) (Err f))). absurd (let no = ok.2 in cc))
     (bind_err (block_at head.len head.block_len t) _ f e)
 
 fault_from : (t : List ℕ) (f g : Fault) → head_of any_fields t ≡ Err g → record_of any_fields t ≡ Err f → g ≡ f
-fault_from t f g a e = err_same {A = Record × ℕ} g f (sym (record_of-is any_fields t ∙ ap (λ r. r >>= behind_head t) a) ∙ e)
+fault_from t f g a e = err_same {A = Record × ℕ} g f (sym (record_of-is any_fields t ∙ ap (λ r. r >>= after_head t) a) ∙ e)
 
 not_le : (m n : ℕ) → nat_le m n ≡ false → n < m
 not_le m n h = ⊎_elim (λ l. l) (λ l. absurd (false≢true (sym h ∙ le-leb m n l))) (cases_lt n m)
@@ -109,15 +109,15 @@ truncated_short t f e is = ⊎_elim
     (true_or_false (nat_le max_head (length t))))
     (λ (ends : (n : ℕ) × (head_len t ≡ Some n)). ⊎_elim
     (λ (bad : head_of any_fields t ≡ Err f). absurd (rows_other t version.0 ends.0 f (sym (head-rows t version.0 ends.0 version.1 ends.1) ∙ bad) is))
-    (λ (good : (head : Head) × (head_of any_fields t ≡ Ok head) × (behind_head t head ≡ Err f)).
+    (λ (good : (head : Head) × (head_of any_fields t ≡ Ok head) × (after_head t head ≡ Err f)).
     let h = head-has any_fields t good.0 good.1 in
     let looks = head-looks t good.0.version good.0.len h.version h.len in
-    behind_short t good.0 f looks.short (number_small good.0.fields good.0.block_len h.number) good.2 is)
-    (bind_err (head_of any_fields t) (behind_head t) f (sym (record_of-is any_fields t) ∙ e)))
+    after_short t good.0 f looks.short (number_small good.0.fields good.0.block_len h.number) good.2 is)
+    (bind_err (head_of any_fields t) (after_head t) f (sym (record_of-is any_fields t) ∙ e)))
     (option_cases (head_len t)))
     (option_cases (version_of t))
 
-at_zero : (f : Fault) → behind (0 + 0) f ≡ f
+at_zero : (f : Fault) → following (0 + 0) f ≡ f
 at_zero f = ap (fault f.kind) (let e : 0 + 0 + f.offset ≡ f.offset = omega arith in e)
 
 reads_none : (s : List ℕ) (f : Fault) → s ≢ [] → record_of any_fields s ≡ Err f → ReadsAs any_fields 0 s [] (Some f)

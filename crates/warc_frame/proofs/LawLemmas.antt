@@ -102,7 +102,7 @@ pub went_out_of_longer : (start now : Option (List ℕ)) (output more : List ℕ
 went_out_of_longer start now output more sent out = record {
   count = out.count;
   within = grind (arith, common_steps, out.within);
-  told = out.told ∙ ap (λ l. append_known start l) (sym (take-append-le out.count output more out.within));
+  reported = out.reported ∙ ap (λ l. append_known start l) (sym (take-append-le out.count output more out.within));
   number = out.number;
 }
 
@@ -110,14 +110,14 @@ pub staged_went_out : (start now : Option (List ℕ)) (output : List ℕ) (buffe
 staged_went_out start now output buffer is = record {
   count = length is.gone;
   within = grind (arith, common_steps, is.whole);
-  told = is.told ∙ ap (λ l. append_known start l) (sym (ap (λ l. take (length is.gone) l) is.whole ∙ take-append_seam is.gone buffer.bytes));
+  reported = is.reported ∙ ap (λ l. append_known start l) (sym (ap (λ l. take (length is.gone) l) is.whole ∙ take-append_seam is.gone buffer.bytes));
   number = is.number;
 }
 
 pub sent_is_exact : (start now : Option (List ℕ)) (output : List ℕ) (sent : ℕ) → WentOut start output now sent → length output < 2 ^ 64 → (sent ≤ length output) × (now ≡ append_known start (take sent output))
 sent_is_exact start now output sent out short =
     let exact : sent ≡ out.count = omega (arith, out.number, out.within) in
-    (omega (arith, out.within), out.told ∙ ap (λ n. append_known start (take n output)) (sym exact))
+    (omega (arith, out.within), out.reported ∙ ap (λ n. append_known start (take n output)) (sym exact))
 
 -- what went out of an output went out of one that goes on with more
 pub longer : {start now : Option (List ℕ)} {output : List ℕ} {sent : ℕ} (more : List ℕ) → WentOut start output now sent → WentOut start (output ++ more) now sent

@@ -18,10 +18,10 @@ capped-add a b n m h e = omega arith
 
 -- a front of the next piece went out
 pub went_out_more : (start before now : Option (List ℕ)) (gone piece : List ℕ) (old n new : ℕ) → before ≡ append_known start gone → old ≡ capped (length gone) → now ≡ append_known before (take n piece) → n < length piece → new ≡ min (old + n) (2 ^ 64 - 1) → WentOut start (gone ++ piece) now new
-went_out_more start before now gone piece old n new told number took short sum = record {
+went_out_more start before now gone piece old n new reported number took short sum = record {
   count = length gone + n;
   within = grind (arith, common_steps);
-  told = took ∙ ap (λ o. append_known o (take n piece)) told ∙ append_known-append start gone (take n piece) ∙ ap (λ l. append_known start l) (sym (take-append-add gone piece n));
+  reported = took ∙ ap (λ o. append_known o (take n piece)) reported ∙ append_known-append start gone (take n piece) ∙ ap (λ l. append_known start l) (sym (take-append-add gone piece n));
   number = capped-add old n (length gone) new number sum;
 }
 
@@ -29,10 +29,10 @@ went_out_more start before now gone piece old n new told number took short sum =
 pub sent_is_staged : {X Y : Type 0} (answer : Result X Y) (start now : Option (List ℕ)) (output gone piece : List ℕ) (buffer : Staged) → output ≡ gone → buffer.bytes ≡ []
     → OnOk answer (now ≡ append_known start (gone ++ piece)) → OnOk answer (buffer.sent ≡ capped (length (gone ++ piece)))
     → OnOk answer (IsStaged start (output ++ piece) now buffer)
-sent_is_staged (Ok x) start now output gone piece buffer same empty told number = record {
+sent_is_staged (Ok x) start now output gone piece buffer same empty reported number = record {
   gone = gone ++ piece;
   whole = ap (λ l. l ++ piece) same ∙ sym (append-nil (gone ++ piece)) ∙ ap (λ l. (gone ++ piece) ++ l) (sym empty);
-  told = told;
+  reported = reported;
   number = number;
 }
-sent_is_staged (Err e) start now output gone piece buffer same empty told number = tt
+sent_is_staged (Err e) start now output gone piece buffer same empty reported number = tt

@@ -13,7 +13,7 @@ use Rattle.warc_frame.specs.Record.{Record, IsFramed, canonical_len, head_text, 
 use Rattle.warc_frame.specs.VersionLine.{version_line}
 use Rattle.warc_frame.specs.Spelling.{Spells, canonical}
 use Rattle.warc_frame.specs.Reading.{Judgement, version_of, empty_line, head_front, head_len, block_at, record_of}
-use Rattle.warc_frame.proofs.EmptyLineLemmas.{empty_line-first, empty_line-behind}
+use Rattle.warc_frame.proofs.EmptyLineLemmas.{empty_line-first, empty_line-following}
 use Rattle.warc_frame.proofs.CanonicalLemmas.{version_size, head_size}
 use Rattle.warc_frame.proofs.RowLemmas.{ok_same}
 use Rattle.warc_frame.proofs.ReadLemmas.{HasHead, head-from}
@@ -25,16 +25,16 @@ version-read V1_0 more = refl
 version-read V1_1 more = refl
 
 -- the first empty line of a text that begins with a version line and fields
-version-behind : (v : Version) (t : List ℕ) (n : ℕ) → empty_line (13 ∷ 10 ∷ t) ≡ Some n → empty_line (version_line v ++ t) ≡ Some (8 + n)
-version-behind V1_0 t n e = empty_line-behind (take 8 (version_line V1_0)) (13 ∷ 10 ∷ t) n refl e
-version-behind V1_1 t n e = empty_line-behind (take 8 (version_line V1_1)) (13 ∷ 10 ∷ t) n refl e
+version-following : (v : Version) (t : List ℕ) (n : ℕ) → empty_line (13 ∷ 10 ∷ t) ≡ Some n → empty_line (version_line v ++ t) ≡ Some (8 + n)
+version-following V1_0 t n e = empty_line-following (take 8 (version_line V1_0)) (13 ∷ 10 ∷ t) n refl e
+version-following V1_1 t n e = empty_line-following (take 8 (version_line V1_1)) (13 ∷ 10 ∷ t) n refl e
 
 head-ends : (v : Version) (fields : List Pair) (area more : List ℕ) → SpellsFields fields area → empty_line (head_text v area ++ more) ≡ Some (8 + length area)
 head-ends v fields area more spells =
     let line = version_line v in
     let ends = empty_line_ends_area fields area more spells in
     let there : empty_line (13 ∷ 10 ∷ (area ++ 13 ∷ 10 ∷ more)) ≡ Some (length area) = empty_line-first (13 ∷ 10 ∷ (area ++ 13 ∷ 10 ∷ more)) (length area) ends.0 ends.1 in
-    ap empty_line (append_assoc (line ++ area) crlf more ∙ append_assoc line area (crlf ++ more)) ∙ version-behind v (area ++ 13 ∷ 10 ∷ more) (length area) there
+    ap empty_line (append_assoc (line ++ area) crlf more ∙ append_assoc line area (crlf ++ more)) ∙ version-following v (area ++ 13 ∷ 10 ∷ more) (length area) there
 
 pub head-read : (v : Version) (fields : List Pair) (area more : List ℕ) → SpellsFields fields area → length (head_text v area) ≤ max_head → head_len (head_text v area ++ more) ≡ Some (length area + 12)
 unfolding head_len head_front
@@ -50,10 +50,10 @@ slice-read : (v : Version) (area more : List ℕ) → take (length area + 12 - 2
 slice-read v area more =
     let line = version_line v in
     let size : length area + 12 - 2 - 10 ≡ length area = omega arith in
-    let behind : drop 10 (head_text v area ++ more) ≡ area ++ (crlf ++ more) =
+    let following : drop 10 (head_text v area ++ more) ≡ area ++ (crlf ++ more) =
     ap (drop 10) (append_assoc (line ++ area) crlf more ∙ append_assoc line area (crlf ++ more))
     ∙ ap (λ k. drop k (line ++ (area ++ (crlf ++ more)))) (sym (version_size v)) ∙ drop-append_seam line (area ++ (crlf ++ more)) in
-    ap (λ k. take k (drop 10 (head_text v area ++ more))) size ∙ ap (take (length area)) behind ∙ take-append_seam area (crlf ++ more)
+    ap (λ k. take k (drop 10 (head_text v area ++ more))) size ∙ ap (take (length area)) following ∙ take-append_seam area (crlf ++ more)
 
 not_past : (m n : ℕ) → n ≤ m → nat_lt m n ≡ false
 not_past m n l = false_from_ne_true _ (λ is. absurd (omega (arith, ltb-true _ _ is, l)))

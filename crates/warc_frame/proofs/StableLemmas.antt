@@ -99,16 +99,16 @@ block-stays place n t x f e other = ⊎_elim
     (bind_err (refuses (not (begins (drop (place + n) t) (crlf ++ crlf))) (fault End (place + n))) _ f e)
 
 -- what is left to do after the head
-unfoldable pub behind_head : List ℕ → Head → Result (Record × ℕ) Fault
-behind_head t head = block_at head.len head.block_len t >>= λ block. Ok (record { version = head.version; fields = head.fields; block = block }, head.len + head.block_len + 4)
+unfoldable pub after_head : List ℕ → Head → Result (Record × ℕ) Fault
+after_head t head = block_at head.len head.block_len t >>= λ block. Ok (record { version = head.version; fields = head.fields; block = block }, head.len + head.block_len + 4)
 
-pub record_of-is : (judge : Judgement) (t : List ℕ) → record_of judge t ≡ (head_of judge t >>= behind_head t)
-unfolding record_of behind_head
+pub record_of-is : (judge : Judgement) (t : List ℕ) → record_of judge t ≡ (head_of judge t >>= after_head t)
+unfolding record_of after_head
 record_of-is judge t = refl
 
-behind_head-stays : (t x : List ℕ) (head : Head) (f : Fault) → behind_head t head ≡ Err f → (f.kind ≡ Truncated → ⊥) → behind_head (t ++ x) head ≡ Err f
-unfolding behind_head
-behind_head-stays t x head f e other = ⊎_elim
+after_head-stays : (t x : List ℕ) (head : Head) (f : Fault) → after_head t head ≡ Err f → (f.kind ≡ Truncated → ⊥) → after_head (t ++ x) head ≡ Err f
+unfolding after_head
+after_head-stays t x head f e other = ⊎_elim
     (λ (bad : block_at head.len head.block_len t ≡ Err f). rw (block-stays head.len head.block_len t x f bad other) refl)
     (λ (ok : (block : List ℕ) × (block_at head.len head.block_len t ≡ Ok block) × (◌≡◌ {A = Result (Record × ℕ) Fault} (Ok (record { version = head.version; fields = head.fields; block = block }, head.len + head.block_len + 4)) (Err f))). absurd (let no = ok.2 in cc))
     (bind_err (block_at head.len head.block_len t) _ f e)
@@ -132,14 +132,14 @@ after r (Err z) f g e same = ap (λ y. y >>= f) e
 -- a fault of the head, other than truncation, stays
 early : (judge : Judgement) (t x : List ℕ) (f g : Fault) → head_of judge t ≡ Err g → head_of judge (t ++ x) ≡ Err g → record_of judge t ≡ Err f → record_of judge (t ++ x) ≡ Err f
 early judge t x f g a b e =
-    let is : ◌≡◌ {A = Result (Record × ℕ) Fault} (Err g) (Err f) = sym (record_of-is judge t ∙ ap (λ r. r >>= behind_head t) a) ∙ e in
-    record_of-is judge (t ++ x) ∙ ap (λ r. r >>= behind_head (t ++ x)) b ∙ is
+    let is : ◌≡◌ {A = Result (Record × ℕ) Fault} (Err g) (Err f) = sym (record_of-is judge t ∙ ap (λ r. r >>= after_head t) a) ∙ e in
+    record_of-is judge (t ++ x) ∙ ap (λ r. r >>= after_head (t ++ x)) b ∙ is
 
 late : (judge : Judgement) (t x : List ℕ) (f : Fault) → head_of judge (t ++ x) ≡ head_of judge t → record_of judge t ≡ Err f → (f.kind ≡ Truncated → ⊥) → record_of judge (t ++ x) ≡ Err f
 late judge t x f same e other = ⊎_elim
-    (λ (bad : head_of judge t ≡ Err f). record_of-is judge (t ++ x) ∙ ap (λ r. r >>= behind_head (t ++ x)) (same ∙ bad))
-    (λ (good : (head : Head) × (head_of judge t ≡ Ok head) × (behind_head t head ≡ Err f)). record_of-is judge (t ++ x) ∙ ap (λ r. r >>= behind_head (t ++ x)) (same ∙ good.1) ∙ behind_head-stays t x good.0 f good.2 other)
-    (bind_err (head_of judge t) (behind_head t) f (sym (record_of-is judge t) ∙ e))
+    (λ (bad : head_of judge t ≡ Err f). record_of-is judge (t ++ x) ∙ ap (λ r. r >>= after_head (t ++ x)) (same ∙ bad))
+    (λ (good : (head : Head) × (head_of judge t ≡ Ok head) × (after_head t head ≡ Err f)). record_of-is judge (t ++ x) ∙ ap (λ r. r >>= after_head (t ++ x)) (same ∙ good.1) ∙ after_head-stays t x good.0 f good.2 other)
+    (bind_err (head_of judge t) (after_head t) f (sym (record_of-is judge t) ∙ e))
 
 -- every fault but truncation stays
 pub record-fault-stays : (judge : Judgement) (t x : List ℕ) (f : Fault) → record_of judge t ≡ Err f → (f.kind ≡ Truncated → ⊥) → record_of judge (t ++ x) ≡ Err f
@@ -150,10 +150,10 @@ record-fault-stays judge t x f e other = ⊎_elim
     (λ (long : nat_le max_head (length t) ≡ true).
     let size : max_head ≤ length t = leb-true _ _ long in
     let before = no_end judge t version.0 version.1 unended size in
-    let behind = no_end judge (t ++ x) version.0 (version-stays t x version.0 version.1 (omega (arith, size))) (head_len-long t x size ∙ unended) (omega (arith, size, length-append t x)) in
-    early judge t x f (fault HeadTooLong 0) before behind e)
+    let following = no_end judge (t ++ x) version.0 (version-stays t x version.0 version.1 (omega (arith, size))) (head_len-long t x size ∙ unended) (omega (arith, size, length-append t x)) in
+    early judge t x f (fault HeadTooLong 0) before following e)
     (λ (short : nat_le max_head (length t) ≡ false).
-    let is : ◌≡◌ {A = Result (Record × ℕ) Fault} (Err (fault Truncated (length t))) (Err f) = sym (record_of-is judge t ∙ ap (λ r. r >>= behind_head t) (unfinished judge t version.0 version.1 unended short)) ∙ e in
+    let is : ◌≡◌ {A = Result (Record × ℕ) Fault} (Err (fault Truncated (length t))) (Err f) = sym (record_of-is judge t ∙ ap (λ r. r >>= after_head t) (unfinished judge t version.0 version.1 unended short)) ∙ e in
     absurd (other (ap (λ (g : Fault). g.kind) (sym (err_same _ _ is)))))
     (true_or_false (nat_le max_head (length t))))
     (λ (ends : (n : ℕ) × (head_len t ≡ Some n)). late judge t x f (head_of-stays judge t x version.0 ends.0 version.1 ends.1) e other)

@@ -58,23 +58,23 @@ take-more zero t x = let e : 0 - length t ≡ 0 = omega arith in ap (λ k. take 
 take-more (suc n) [] x = ap (λ k. take k x) (let e : suc n ≡ suc n - 0 = omega arith in e)
 take-more (suc n) (b ∷ bs) x = ap (λ ys. b ∷ ys) (take-more n bs x ∙ ap (λ k. take n bs ++ take k x) (let e : n - length bs ≡ suc n - suc (length bs) = omega arith in e))
 
-abbrev behind_place : Option ℕ → Option ℕ
-behind_place o = option_map (λ place. place + 4) o
+abbrev after_place : Option ℕ → Option ℕ
+after_place o = option_map (λ place. place + 4) o
 
 -- a head stays where bytes follow
 pub head_len-more : (t x : List ℕ) (n : ℕ) → head_len t ≡ Some n → head_len (t ++ x) ≡ Some n
 unfolding head_len head_front
 head_len-more t x n h =
     let p = head-place t n h in
-    ap (λ s. behind_place (empty_line s)) (take-more max_head t x) ∙ ap behind_place (empty_line-more (take max_head t) (take (max_head - length t) x) p.0 p.1) ∙ ap Some p.2
+    ap (λ s. after_place (empty_line s)) (take-more max_head t x) ∙ ap after_place (empty_line-more (take max_head t) (take (max_head - length t) x) p.0 p.1) ∙ ap Some p.2
 
 pub head_len-none : (t front : List ℕ) → take max_head t ≡ front → empty_line front ≡ None → head_len t ≡ None
 unfolding head_len head_front
-head_len-none t front e h = ap (λ s. behind_place (empty_line s)) e ∙ ap behind_place h
+head_len-none t front e h = ap (λ s. after_place (empty_line s)) e ∙ ap after_place h
 
 pub head_len-whole : (t : List ℕ) (p : ℕ) → empty_line t ≡ Some p → p + 4 ≡ length t → length t ≤ max_head → head_len t ≡ Some (length t)
 unfolding head_len head_front
-head_len-whole t p h e l = ap (λ s. behind_place (empty_line s)) (take_all max_head t l) ∙ ap behind_place h ∙ ap Some e
+head_len-whole t p h e l = ap (λ s. after_place (empty_line s)) (take_all max_head t l) ∙ ap after_place h ∙ ap Some e
 
 -- the rows of a head, by its parts
 pub no_version : (judge : Judgement) (t : List ℕ) → version_of t ≡ None → head_of judge t ≡ Err (fault kinds.Version 0)
@@ -171,28 +171,28 @@ pub record_head : (judge : Judgement) (t : List ℕ) (f : Fault) → head_of jud
 unfolding record_of
 record_head judge t f h = rw h refl
 
-behind_block : (place n : ℕ) (head y : List ℕ) → place ≡ length head → drop (place + n) (head ++ y) ≡ drop n y
-behind_block place n head y e = ap (λ k. drop (k + n) (head ++ y)) e ∙ drop-append-add head y n
+after_block : (place n : ℕ) (head y : List ℕ) → place ≡ length head → drop (place + n) (head ++ y) ≡ drop n y
+after_block place n head y e = ap (λ k. drop (k + n) (head ++ y)) e ∙ drop-append-add head y n
 
 block_cut : (place n : ℕ) (head y : List ℕ) → place ≡ length head → begins (drop n y) closing ≡ true → length y < n + 4 → block_at place n (head ++ y) ≡ Err (fault kinds.Truncated (length (head ++ y)))
 unfolding block_at
 block_cut place n head y e on short =
     let few : nat_lt (length (head ++ y)) (place + n + 4) ≡ true = lt-ltb _ _ (omega (arith, e, short, length-append head y)) in
-    rw (behind_block place n head y e, on, few) refl
+    rw (after_block place n head y e, on, few) refl
 
 block_bad : (place n : ℕ) (head y : List ℕ) → place ≡ length head → begins (drop n y) closing ≡ false → block_at place n (head ++ y) ≡ Err (fault kinds.End (place + n))
 unfolding block_at
-block_bad place n head y e off = rw (behind_block place n head y e, off) refl
+block_bad place n head y e off = rw (after_block place n head y e, off) refl
 
 block_whole : (place n : ℕ) (head block : List ℕ) → place ≡ length head → n ≡ length block → block_at place n (head ++ (block ++ closing)) ≡ Ok block
 unfolding block_at
 block_whole place n head block e size =
     let y : List ℕ = block ++ closing in
-    let behind : drop (place + n) (head ++ y) ≡ closing = behind_block place n head y e ∙ ap (λ k. drop k y) size ∙ drop-append_seam block closing in
+    let following : drop (place + n) (head ++ y) ≡ closing = after_block place n head y e ∙ ap (λ k. drop k y) size ∙ drop-append_seam block closing in
     let all : nat_lt (length (head ++ y)) (place + n + 4) ≡ false = false_from_ne_true _ (λ is. absurd (omega (arith, e, size, ltb-true _ _ is, length-append head y, length-append block closing))) in
     let cut : slice_range (head ++ y) place (place + n) ≡ block =
     ap (λ k. take k (drop place (head ++ y))) (let m : place + n - place ≡ length block = omega (arith, size) in m) ∙ ap (λ k. take (length block) (drop k (head ++ y))) e ∙ ap (take (length block)) (drop-append_seam head y) ∙ take-append_seam block closing in
-    rw (behind, all, cut) refl
+    rw (following, all, cut) refl
 
 pub record_cut : (judge : Judgement) (h : Head) (head y : List ℕ) → head_of judge (head ++ y) ≡ Ok h → h.len ≡ length head → begins (drop h.block_len y) closing ≡ true → length y < h.block_len + 4 → record_of judge (head ++ y) ≡ Err (fault kinds.Truncated (length (head ++ y)))
 unfolding record_of

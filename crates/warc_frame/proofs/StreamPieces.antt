@@ -12,9 +12,9 @@ use Rattle.warc_frame.specs.Record.{Record, IsFramed, max_archive}
 use Rattle.warc_frame.specs.Spelling.{SpellsAll}
 use Rattle.warc_frame.specs.Reading.{any_fields}
 use Rattle.warc_frame.specs.Faults.{within_limit}
-use Rattle.warc_frame.specs.Told.{Unclosed, Told, tell, ended, WantsMemory, RefusesAs, Refuses}
+use Rattle.warc_frame.specs.Reported.{Unclosed, Reported, report, ended, WantsMemory, RefusesAs, Refuses}
 use Rattle.warc_frame.specs.Decoding.{State, IsAt, TakesWithin, Takes}
-use Rattle.warc_frame.specs.Pieces.{ClosesFramed, MayKeep, StandsBehind, Keeping, Keeps, start_on, IsPieceFault, IsPiecesFault, IsMemoryFault}
+use Rattle.warc_frame.specs.Pieces.{ClosesFramed, MayKeep, AreRecordsBefore, Keeping, Keeps, start_on, IsPieceFault, IsPiecesFault, IsMemoryFault}
 use Rattle.std.specs.Prelude.{is_err, OnOk, OnErr, true, false}
 use Rattle.warc_frame.proofs.StreamSteps.{true_false}
 use Rattle.warc_frame.proofs.StreamFaults.{refuted_fault, refusals_refute}
@@ -29,11 +29,11 @@ closes_framed : (rs : List Record) (o : Option Unclosed) (t : List ℕ) → Spel
 closes_framed rs None t s = tt
 closes_framed rs (Some u) t s = last_framed rs (record { version = u.version; fields = u.fields; block = u.bytes }) t s
 
-pub may_keep : {A : Type 0} (at : ℕ) (taken piece : List ℕ) (told : Told) (new : State) (n took : ℕ) (event : Event A) → TakesWithin n took event → Takes at taken told new piece took event → MayKeep n told.unclosed event
-may_keep at taken piece told new n took events.More h t = tt
-may_keep at taken piece told new n took (events.Head version fields number) h t = tt
-may_keep at taken piece told new n took (events.Part from to) h t = (omega (arith, h.0), omega (arith, h.1, h.2))
-may_keep at taken piece told new n took events.End h t = closes_framed told.records told.unclosed t.is_at.front t.is_at.spelled
+pub may_keep : {A : Type 0} (at : ℕ) (taken piece : List ℕ) (reported : Reported) (new : State) (n took : ℕ) (event : Event A) → TakesWithin n took event → Takes at taken reported new piece took event → MayKeep n reported.unclosed event
+may_keep at taken piece reported new n took events.More h t = tt
+may_keep at taken piece reported new n took (events.Head version fields number) h t = tt
+may_keep at taken piece reported new n took (events.Part from to) h t = (omega (arith, h.0), omega (arith, h.1, h.2))
+may_keep at taken piece reported new n took events.End h t = closes_framed reported.records reported.unclosed t.is_at.front t.is_at.spelled
 
 pub takes_some : {A : Type 0} (n took : ℕ) (event : Event A) → TakesWithin n took event → 0 < n → (0 < took) × (took ≤ n)
 takes_some n took events.More h some = (omega (arith, h, some), omega (arith, h))
@@ -47,8 +47,8 @@ take_further i n xs h =
     ap (λ x. take (i + n) x) (sym (take-append-drop i xs)) ∙ ap (λ k. take (k + n) (take i xs ++ drop i xs)) (sym len) ∙ take-append-add (take i xs) (drop i xs) n
 
 -- a step's refusal is the frame fault of the bytes
-pub refused : (at : ℕ) (text : List ℕ) (told : Told) (f : Fault) → Refuses at text told f → IsPieceFault at text f
-refused at text told f r other = let x = refusals_refute at text told f r other in (refuted_fault at text told f x, x.settled)
+pub refused : (at : ℕ) (text : List ℕ) (reported : Reported) (f : Fault) → Refuses at text reported f → IsPieceFault at text f
+refused at text reported f r other = let x = refusals_refute at text reported f r other in (refuted_fault at text reported f x, x.settled)
 
 -- it stays whatever follows
 pub stays : (at : ℕ) (text more : List ℕ) (f : Fault) → IsPieceFault at text f → IsPiecesFault at (text ++ more) f
@@ -60,8 +60,8 @@ whole_piece taken piece from =
     ap (λ x. (taken ++ take from piece) ++ x) (take_rest piece from) ∙ append_assoc taken (take from piece) (drop from piece) ∙ ap (λ x. taken ++ x) (take-append-drop from piece)
 
 -- what comes after records stays there
-pub stands_more : (at : ℕ) (text more : List ℕ) (records : List Record) (offset : ℕ) → StandsBehind at text records offset → StandsBehind at (text ++ more) records offset
-stands_more at text more records offset s = record {
+pub is_present_more : (at : ℕ) (text more : List ℕ) (records : List Record) (offset : ℕ) → AreRecordsBefore at text records offset → AreRecordsBefore at (text ++ more) records offset
+is_present_more at text more records offset s = record {
   front = s.front;
   rest = s.rest ++ more;
   text_is = ap (λ x. x ++ more) s.text_is ∙ append_assoc s.front s.rest more;
@@ -70,12 +70,12 @@ stands_more at text more records offset s = record {
 }
 
 pub memory_more : (at : ℕ) (text more : List ℕ) (f : Fault) → IsMemoryFault at text f → IsMemoryFault at (text ++ more) f
-memory_more at text more f h is = let x = h is in (x.0, stands_more at text more x.0 f.offset x.1)
+memory_more at text more f h is = let x = h is in (x.0, is_present_more at text more x.0 f.offset x.1)
 
 -- memory was wanted for the record after those that were reported
-wanted : (at : ℕ) (text : List ℕ) (told : Told) (f : Fault) → WantsMemory at text told f → StandsBehind at text told.records f.offset
+wanted : (at : ℕ) (text : List ℕ) (reported : Reported) (f : Fault) → WantsMemory at text reported f → AreRecordsBefore at text reported.records f.offset
 unfolding within_limit
-wanted at text told f w = record {
+wanted at text reported f w = record {
   front = w.front;
   rest = w.rest ++ drop (max_archive - at) text;
   text_is = sym (take-append-drop (max_archive - at) text) ∙ ap (λ x. x ++ drop (max_archive - at) text) w.text_is ∙ append_assoc w.front w.rest (drop (max_archive - at) text);
@@ -83,30 +83,30 @@ wanted at text told f w = record {
   offset_is = w.offset_is;
 }
 
-pub refused_memory : (at : ℕ) (text : List ℕ) (told : Told) (f : Fault) → Refuses at text told f → IsMemoryFault at text f
-refused_memory at text told f r is = let P : FaultKind → Type 0 = λ k. RefusesAs k at text told f in (told.records, wanted at text told f (subst P is r))
+pub refused_memory : (at : ℕ) (text : List ℕ) (reported : Reported) (f : Fault) → Refuses at text reported f → IsMemoryFault at text f
+refused_memory at text reported f r is = let P : FaultKind → Type 0 = λ k. RefusesAs k at text reported f in (reported.records, wanted at text reported f (subst P is r))
 
 -- where the record begins that isn't ended, behind an event
-starts : {A : Type 0} (at : ℕ) (taken piece : List ℕ) (told : Told) (new : State) (took start : ℕ) (event : Event A) → Takes at taken told new piece took event → StandsBehind at taken told.records start
-    → StandsBehind at (taken ++ take took piece) (tell told piece event).records (start_on start new.position event)
-starts at taken piece told new took start events.More t s = stands_more at taken (take took piece) told.records start s
-starts at taken piece told new took start (events.Head version fields number) t s = stands_more at taken (take took piece) told.records start s
-starts at taken piece told new took start (events.Part from to) t s = stands_more at taken (take took piece) told.records start s
-starts at taken piece told new took start events.End t s =
+starts : {A : Type 0} (at : ℕ) (taken piece : List ℕ) (reported : Reported) (new : State) (took start : ℕ) (event : Event A) → Takes at taken reported new piece took event → AreRecordsBefore at taken reported.records start
+    → AreRecordsBefore at (taken ++ take took piece) (report reported piece event).records (start_on start new.position event)
+starts at taken piece reported new took start events.More t s = is_present_more at taken (take took piece) reported.records start s
+starts at taken piece reported new took start (events.Head version fields number) t s = is_present_more at taken (take took piece) reported.records start s
+starts at taken piece reported new took start (events.Part from to) t s = is_present_more at taken (take took piece) reported.records start s
+starts at taken piece reported new took start events.End t s =
     let x = t.exact in
     let all : x.front ≡ taken ++ take took piece = sym (x.text_is ∙ ap (λ xs. x.front ++ xs) x.ends ∙ append-nil x.front) in
     record { front = x.front; rest = x.rest; text_is = x.text_is; spelled = x.spelled; offset_is = t.is_at.position_is ∙ ap (λ xs. at + length xs) (sym all) }
 
 -- what is kept behind an event
-pub keeps_on : {A : Type 0} (at : ℕ) (taken piece : List ℕ) (old new : Keeping) (d : State) (took : ℕ) (event : Event A) → Takes at taken old.told d piece took event → StandsBehind at taken old.told.records old.start
-    → new.told ≡ tell old.told piece event → new.start ≡ start_on old.start d.position event → Keeps at (taken ++ take took piece) new d
-keeps_on at taken piece old new d took event t s told start =
-    let P : Told → Type 0 = λ x. IsAt at (taken ++ take took piece) x d in
-    let Q : Told → Type 0 = λ x. StandsBehind at (taken ++ take took piece) x.records (start_on old.start d.position event) in
-    let R : ℕ → Type 0 = λ x. StandsBehind at (taken ++ take took piece) new.told.records x in
+pub keeps_on : {A : Type 0} (at : ℕ) (taken piece : List ℕ) (old new : Keeping) (d : State) (took : ℕ) (event : Event A) → Takes at taken old.reported d piece took event → AreRecordsBefore at taken old.reported.records old.start
+    → new.reported ≡ report old.reported piece event → new.start ≡ start_on old.start d.position event → Keeps at (taken ++ take took piece) new d
+keeps_on at taken piece old new d took event t s reported start =
+    let P : Reported → Type 0 = λ x. IsAt at (taken ++ take took piece) x d in
+    let Q : Reported → Type 0 = λ x. AreRecordsBefore at (taken ++ take took piece) x.records (start_on old.start d.position event) in
+    let R : ℕ → Type 0 = λ x. AreRecordsBefore at (taken ++ take took piece) new.reported.records x in
     record {
-      is_at = subst P (sym told) t.is_at;
-      start = subst R (sym start) (subst Q (sym told) (starts at taken piece old.told d took old.start event t s));
+      is_at = subst P (sym reported) t.is_at;
+      start = subst R (sym start) (subst Q (sym reported) (starts at taken piece old.reported d took old.start event t s));
     }
 
 -- a text that is cut off wants no memory

@@ -9,7 +9,7 @@ use Rattle.warc_frame.specs.declared.version.Version.TheVariants as versions
 use Rattle.warc_frame.specs.Record.{Record, max_archive}
 use Rattle.warc_frame.specs.Reading.{Head, any_fields, begins, version_of, empty_line, head_front, head_len, head_of}
 use Rattle.warc_frame.specs.Faults.{AllAccepted, within_limit, goes_on}
-use Rattle.warc_frame.specs.Told.{Unclosed, Told, IsHeadOf, IsCut, Lies, opened, unclosed_of}
+use Rattle.warc_frame.specs.Reported.{Unclosed, Reported, IsHeadOf, IsCut, Lies, opened, unclosed_of}
 use Rattle.warc_frame.specs.Decoding.{State, closing, InHead, InBlock, PhaseIs, IsAt}
 use Rattle.warc_frame.proofs.StreamHeads.{cut_head, head_more, head_parts, record_head, record_cut}
 
@@ -25,19 +25,19 @@ pub front_length : (k : ℕ) → k ≤ 4 → length (take k closing) ≡ k
 front_length k h = length-take-le k closing h
 
 -- the head of a part, as it is read
-abbrev pub head_told : Unclosed → List ℕ → Head
-head_told u head = record { version = u.version; fields = u.fields; len = length head; block_len = u.block_len }
+abbrev pub head_reported : Unclosed → List ℕ → Head
+head_reported u head = record { version = u.version; fields = u.fields; len = length head; block_len = u.block_len }
 
-pub head_behind : (u : Unclosed) (head y : List ℕ) → IsHeadOf u head → head_of any_fields (head ++ y) ≡ Ok (head_told u head)
-head_behind u head y h =
-    let parts = head_parts any_fields head (head_told u head) h in
+pub head_after : (u : Unclosed) (head y : List ℕ) → IsHeadOf u head → head_of any_fields (head ++ y) ≡ Ok (head_reported u head)
+head_after u head y h =
+    let parts = head_parts any_fields head (head_reported u head) h in
     head_more any_fields head y u.version (length head) parts.0 parts.1 ∙ h
 
 -- in a head
 pub cut_in_head : (rest : List ℕ) (o : Option Unclosed) (kept : List ℕ) → InHead rest o kept → IsCut rest × (o ≡ unclosed_of rest)
 cut_in_head rest o kept s =
     let cut = cut_head any_fields rest s.version s.version_is s.unended s.room in
-    (record_head any_fields rest _ cut, s.told ∙ sym (ap (λ r. opened r rest) cut))
+    (record_head any_fields rest _ cut, s.reported ∙ sym (ap (λ r. opened r rest) cut))
 
 -- what a block's bytes are followed by, where bytes of the block are to come or not
 block_rest : (u : Unclosed) (left matched : ℕ) → u.block_len ≡ length u.bytes + left → matched < 4 → (0 < left → matched ≡ 0)
@@ -58,20 +58,20 @@ block_rest u (suc left) matched count fewer first =
     )
 
 -- what a text tells that is a head and a part of what follows it
-pub unclosed_behind : (u : Unclosed) (head y : List ℕ) → IsHeadOf u head → take u.block_len y ≡ u.bytes → unclosed_of (head ++ y) ≡ Some u
-unclosed_behind u head y h e =
-    ap (λ r. opened r (head ++ y)) (head_behind u head y h)
+pub unclosed_after : (u : Unclosed) (head y : List ℕ) → IsHeadOf u head → take u.block_len y ≡ u.bytes → unclosed_of (head ++ y) ≡ Some u
+unclosed_after u head y h e =
+    ap (λ r. opened r (head ++ y)) (head_after u head y h)
     ∙ ap (λ x. Some (record { version = u.version; fields = u.fields; block_len = u.block_len; bytes = x })) (ap (take u.block_len) (drop-append_seam head y) ∙ e)
 
 pub cut_in_block : (rest : List ℕ) (o : Option Unclosed) (left matched : ℕ) → InBlock rest o left matched → IsCut rest × (o ≡ unclosed_of rest)
 cut_in_block rest o left matched s =
     let u = s.part in
     let y : List ℕ = u.bytes ++ take matched closing in
-    let behind = block_rest u left matched s.count s.fewer s.block_first in
+    let following = block_rest u left matched s.count s.fewer s.block_first in
     let P : List ℕ → Type 0 = λ x. IsCut x × (o ≡ unclosed_of x) in
     subst P (sym s.rest_is) (
-      record_cut any_fields (head_told u s.head) s.head y (head_behind u s.head y s.head_is) refl behind.0 behind.1,
-      s.told ∙ sym (unclosed_behind u s.head y s.head_is behind.2),
+      record_cut any_fields (head_reported u s.head) s.head y (head_after u s.head y s.head_is) refl following.0 following.1,
+      s.reported ∙ sym (unclosed_after u s.head y s.head_is following.2),
     )
 
 pub cut_at : (rest : List ℕ) (o : Option Unclosed) (d : State) (phase : Phase) → PhaseIs rest o d phase → IsCut rest × (o ≡ unclosed_of rest)
@@ -80,9 +80,9 @@ cut_at rest o d phases.Block s = cut_in_block rest o d.left d.matched s.1
 cut_at rest o d (phases.Failed f) s = absurd s
 
 -- what was reported is what lies in the bytes taken
-pub lies_there : (at : ℕ) (taken : List ℕ) (told : Told) (d : State) → IsAt at taken told d → Lies taken told
-lies_there at taken told d s =
-    let cut = cut_at s.rest told.unclosed d d.phase s.phase_is in
+pub lies_there : (at : ℕ) (taken : List ℕ) (reported : Reported) (d : State) → IsAt at taken reported d → Lies taken reported
+lies_there at taken reported d s =
+    let cut = cut_at s.rest reported.unclosed d d.phase s.phase_is in
     record { front = s.front; rest = s.rest; text_is = s.taken_is; spelled = s.spelled; cut = cut.0; unclosed_is = cut.1 }
 
 pub all_accepted : (records : List Record) → AllAccepted any_fields records

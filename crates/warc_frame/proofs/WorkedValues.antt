@@ -39,9 +39,9 @@ its_canonical_length = refl
 
 -- what follows a record changes nothing
 
-more_behind : record_of any_fields (resource ++ codes "W") ≡ Ok (resource_record, 278)
+more_after : record_of any_fields (resource ++ codes "W") ≡ Ok (resource_record, 278)
 unfolding record_of head_of block_at version_of head_len head_front empty_line canonical_len block_len decimal_of fields_of field_of value_of unfolded parts lines is_name is_name_byte is_value_byte trimmed is_blank fields
-more_behind = refl
+more_after = refl
 
 version_1_0 : record_of any_fields (codes "WARC/1.0\r\nContent-Length: 3\r\n\r\nabc\r\n\r\n") ≡ Ok (record { version = V1_0; fields = (codes "Content-Length", codes "3") ∷ []; block = codes "abc" }, 38)
 unfolding record_of head_of block_at version_of head_len head_front empty_line canonical_len block_len decimal_of fields_of field_of value_of unfolded parts lines is_name is_name_byte is_value_byte trimmed is_blank

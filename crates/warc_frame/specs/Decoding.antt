@@ -12,7 +12,7 @@ use Rattle.warc_frame.specs.Record.{max_head, max_archive}
 use Rattle.warc_frame.specs.Spelling.{SpellsAll}
 use Rattle.warc_frame.specs.Reading.{version_of, empty_line, head_len, fault}
 use Rattle.warc_frame.specs.Faults.{IsFrameFault}
-use Rattle.warc_frame.specs.Told.{Unclosed, Told, tell, MayTell, IsHeadOf, IsExact, IfTold}
+use Rattle.warc_frame.specs.Reported.{Unclosed, Reported, report, MayReport, IsHeadOf, IsExact, IfReported}
 
 -- a decoder: where it is, the bytes of the head that it keeps, how many bytes of the block are to come, and how many of
 -- the CRLF CRLF after it were taken
@@ -30,7 +30,7 @@ pub record IsSound (position : ℕ) (kept : List ℕ) (matched : ℕ) : Type 0 w
   pub taken : length kept ≤ position
   pub unended : empty_line kept ≡ None
   pub fewer : matched < 4
-  pub behind : matched ≤ position
+  pub following : matched ≤ position
 
 -- what closes a record
 abbrev pub closing : List ℕ
@@ -38,7 +38,7 @@ closing = 13 ∷ 10 ∷ 13 ∷ 10 ∷ []
 
 -- in a head: all bytes so far are kept, they are no whole head, and nothing speaks against one
 pub record InHead (rest : List ℕ) (unclosed : Option Unclosed) (kept : List ℕ) : Type 0 where
-  pub told : unclosed ≡ None
+  pub reported : unclosed ≡ None
   pub kept_is : kept ≡ rest
   pub version : Version
   pub version_is : version_of rest ≡ Some version
@@ -49,7 +49,7 @@ pub record InHead (rest : List ℕ) (unclosed : Option Unclosed) (kept : List �
 pub record InBlock (rest : List ℕ) (unclosed : Option Unclosed) (left matched : ℕ) : Type 0 where
   pub head : List ℕ
   pub part : Unclosed
-  pub told : unclosed ≡ Some part
+  pub reported : unclosed ≡ Some part
   pub head_is : IsHeadOf part head
   pub count : part.block_len ≡ length part.bytes + left
   pub rest_is : rest ≡ head ++ (part.bytes ++ take matched closing)
@@ -62,22 +62,22 @@ PhaseIs rest unclosed d phases.Block = (d.kept ≡ []) × InBlock rest unclosed 
 PhaseIs rest unclosed d (phases.Failed f) = ⊥
 
 -- the decoder, which began at offset `at` and didn't fail, took these bytes and reported this
-pub record IsAt (at : ℕ) (taken : List ℕ) (told : Told) (d : State) : Type 0 where
+pub record IsAt (at : ℕ) (taken : List ℕ) (reported : Reported) (d : State) : Type 0 where
   pub front : List ℕ
   pub rest : List ℕ
   pub taken_is : taken ≡ front ++ rest
-  pub spelled : SpellsAll told.records front
+  pub spelled : SpellsAll reported.records front
   pub position_is : d.position ≡ at + length taken
-  pub phase_is : PhaseIs rest told.unclosed d d.phase
+  pub phase_is : PhaseIs rest reported.unclosed d d.phase
 
 -- the decoder failed
 abbrev pub IsFailed : State → Fault → Type 0
 IsFailed d f = d.phase ≡ phases.Failed f
 
 -- what `finish` says of the bytes taken: they are whole records, or their frame fault is that they end too early
-abbrev pub Finishes : ℕ → List ℕ → Told → Result (Unit {0}) Fault → Type 0
-Finishes at taken told (Ok u) = (told.unclosed ≡ None) × SpellsAll told.records taken
-Finishes at taken told (Err f) = (f ≡ fault Truncated (at + length taken)) × IsFrameFault at taken f
+abbrev pub Finishes : ℕ → List ℕ → Reported → Result (Unit {0}) Fault → Type 0
+Finishes at taken reported (Ok u) = (reported.unclosed ≡ None) × SpellsAll reported.records taken
+Finishes at taken reported (Err f) = (f ≡ fault Truncated (at + length taken)) × IsFrameFault at taken f
 
 -- how many bytes a step takes of a piece of n bytes, and what it reports
 abbrev pub TakesWithin : {A : Type 0} → ℕ → ℕ → Event A → Type 0
@@ -87,12 +87,12 @@ TakesWithin n took (events.Part from to) = (from < to) × (to ≡ took) × (took
 TakesWithin n took events.End = (0 < took) × (took ≤ n)
 
 -- what a step says that took bytes of a piece and reported an event
-pub record Takes {A : Type 0} (at : ℕ) (taken : List ℕ) (told : Told) (new : State) (piece : List ℕ) (took : ℕ)
+pub record Takes {A : Type 0} (at : ℕ) (taken : List ℕ) (reported : Reported) (new : State) (piece : List ℕ) (took : ℕ)
     (event : Event A) : Type 0 where
-  pub may : MayTell told.unclosed event
-  pub is_at : IsAt at (taken ++ take took piece) (tell told piece event) new
-  pub exact : IfTold event (IsExact (taken ++ take took piece) (tell told piece event))
+  pub may : MayReport reported.unclosed event
+  pub is_at : IsAt at (taken ++ take took piece) (report reported piece event) new
+  pub exact : IfReported event (IsExact (taken ++ take took piece) (report reported piece event))
 
 -- a CRLF CRLF ends with the byte at this place
-abbrev pub ends_behind : List ℕ → ℕ → Bool
-ends_behind t e = nat_le 3 e && (crlf_at t (e - 3) && crlf_at t (e - 1))
+abbrev pub ends_after : List ℕ → ℕ → Bool
+ends_after t e = nat_le 3 e && (crlf_at t (e - 3) && crlf_at t (e - 1))

@@ -58,11 +58,11 @@ IsOfDevice (Memory sent) = ⊥
 pub record Emits {X : Type 0} (Says : List ℕ → List ℕ → Type 0) (from from_new : SeenSource) (to to_new : Seen)
     (waits waiting : Staged) (answer : Result X OutFault) : Type 0 where
   pub out : (bytes text : List ℕ) → from.holds ≡ Some bytes → Says bytes text → (start : Option (List ℕ))
-      (output : List ℕ) → IsStaged start output to.tells waits
-      → OnOk answer (IsStaged start (output ++ text) to_new.tells waiting)
+      (output : List ℕ) → IsStaged start output to.reports waits
+      → OnOk answer (IsStaged start (output ++ text) to_new.reports waiting)
   pub cut : (bytes text : List ℕ) → from.holds ≡ Some bytes → Says bytes text → (start : Option (List ℕ))
-      (output : List ℕ) → IsStaged start output to.tells waits
-      → IfErr answer (λ e. WentOut start (output ++ text) to_new.tells (sent_of e))
+      (output : List ℕ) → IsStaged start output to.reports waits
+      → IfErr answer (λ e. WentOut start (output ++ text) to_new.reports (sent_of e))
   pub kept : from_new.holds ≡ from.holds
   pub cause : to_new.faults ≡ failed_by answer to.faults
   pub fails : FailsBy (λ bytes. (text : List ℕ) × Says bytes text) answer from from_new
@@ -72,16 +72,16 @@ pub record Emits {X : Type 0} (Says : List ℕ → List ℕ → Type 0) (from fr
 pub record Sends {X : Type 0} (Says : List ℕ → List ℕ → Type 0) (from from_new : SeenSource) (to to_new : Seen)
     (answer : Result X OutFault) : Type 0 where
   pub out : (bytes text : List ℕ) → from.holds ≡ Some bytes → Says bytes text
-      → OnOk answer (to_new.tells ≡ append_known to.tells text)
+      → OnOk answer (to_new.reports ≡ append_known to.reports text)
   pub cut : (bytes text : List ℕ) → from.holds ≡ Some bytes → Says bytes text
-      → IfErr answer (λ e. WentOut to.tells text to_new.tells (sent_of e))
+      → IfErr answer (λ e. WentOut to.reports text to_new.reports (sent_of e))
   pub cause : to_new.faults ≡ failed_by answer to.faults
   pub fails : FailsBy (λ bytes. (text : List ℕ) × Says bytes text) answer from from_new
 
 -- a text went out, or after a failed write a front of it did, as long as the fault says; nothing else failed
 pub record SendsText {X : Type 0} (old new : Seen) (answer : Result X OutFault) (text : List ℕ) : Type 0 where
-  pub told : OnOk answer (new.tells ≡ append_known old.tells text)
-  pub cut : IfErr answer (λ e. WentOut old.tells text new.tells (sent_of e))
+  pub reported : OnOk answer (new.reports ≡ append_known old.reports text)
+  pub cut : IfErr answer (λ e. WentOut old.reports text new.reports (sent_of e))
   pub write : IfErr answer (λ e. e ≡ Write (sent_of e))
   pub cause : new.faults ≡ (if is_err answer then raised old.faults else old.faults)
 
@@ -89,21 +89,21 @@ pub record SendsText {X : Type 0} (old new : Seen) (answer : Result X OutFault) 
 -- a failed write the buffer is empty, and its count of the bytes that went out is the fault's
 pub record Puts {X : Type 0} (old new : Seen) (waits waiting : Staged) (answer : Result X SendFault) (text : List ℕ)
     : Type 0 where
-  pub out : (start : Option (List ℕ)) (output : List ℕ) → IsStaged start output old.tells waits
-      → OnOk answer (IsStaged start (output ++ text) new.tells waiting)
-  pub cut : (start : Option (List ℕ)) (output : List ℕ) → IsStaged start output old.tells waits
-      → IfErr answer (λ e. WentOut start (output ++ text) new.tells e.sent)
+  pub out : (start : Option (List ℕ)) (output : List ℕ) → IsStaged start output old.reports waits
+      → OnOk answer (IsStaged start (output ++ text) new.reports waiting)
+  pub cut : (start : Option (List ℕ)) (output : List ℕ) → IsStaged start output old.reports waits
+      → IfErr answer (λ e. WentOut start (output ++ text) new.reports e.sent)
   pub cause : new.faults ≡ (if is_err answer then raised old.faults else old.faults)
   pub left : IfErr answer (λ e. waiting ≡ record { bytes = []; sent = e.sent })
 
 -- what waited in a buffer went out, or a front of it did; the buffer is empty, and counts what went out
 pub record Flushes {X : Type 0} (old new : Seen) (waits waiting : Staged) (answer : Result X SendFault) : Type 0 where
-  pub out : (start : Option (List ℕ)) (output : List ℕ) → IsStaged start output old.tells waits
-      → OnOk answer (IsStaged start output new.tells waiting)
-  pub told : (start : Option (List ℕ)) (output : List ℕ) → IsStaged start output old.tells waits
-      → OnOk answer (new.tells ≡ append_known start output)
-  pub cut : (start : Option (List ℕ)) (output : List ℕ) → IsStaged start output old.tells waits
-      → IfErr answer (λ e. WentOut start output new.tells e.sent)
+  pub out : (start : Option (List ℕ)) (output : List ℕ) → IsStaged start output old.reports waits
+      → OnOk answer (IsStaged start output new.reports waiting)
+  pub reported : (start : Option (List ℕ)) (output : List ℕ) → IsStaged start output old.reports waits
+      → OnOk answer (new.reports ≡ append_known start output)
+  pub cut : (start : Option (List ℕ)) (output : List ℕ) → IsStaged start output old.reports waits
+      → IfErr answer (λ e. WentOut start output new.reports e.sent)
   pub cause : new.faults ≡ (if is_err answer then raised old.faults else old.faults)
   pub empty : waiting.bytes ≡ []
   pub left : IfErr answer (λ e. waiting ≡ record { bytes = []; sent = e.sent })

@@ -21,13 +21,13 @@ unfoldable pub goes_on : ℕ → List ℕ → Bool
 goes_on q t = nat_lt (max_archive - q) (length t)
 
 -- a fault of what is at offset q
-abbrev pub behind : ℕ → Fault → Fault
-behind q f = fault f.kind (q + f.offset)
+abbrev pub following : ℕ → Fault → Fault
+following q f = fault f.kind (q + f.offset)
 
 -- what is wrong with a text that begins at offset q: nothing if it is empty, and else that no record is there
 abbrev pub HasFault : Judgement → ℕ → List ℕ → Option Fault → Type 0
 HasFault judge q t None = t ≡ []
-HasFault judge q t (Some f) = (t ≢ []) × (g : Fault) × (record_of judge t ≡ Err g) × (f ≡ behind q g)
+HasFault judge q t (Some f) = (t ≢ []) × (g : Fault) × (record_of judge t ≡ Err g) × (f ≡ following q g)
 
 -- a text that begins at offset q, read as far as records go: the longest list of records that a front of it spells, and
 -- what is wrong with the rest

@@ -9,7 +9,7 @@ pub mod Record
 pub mod Spelling
 pub mod Reading
 pub mod Faults
-pub mod Told
+pub mod Reported
 pub mod Decoding
 pub mod Steps
 pub mod Pieces

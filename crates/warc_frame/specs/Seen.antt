@@ -39,5 +39,5 @@ InOrder from old new = IfSome old.next (λ next. from ≡ next → new.jumps ≡
 
 -- a sink: the bytes that it reports, where they are known, and how often it has failed
 pub record Seen : Type 0 where
-  pub tells : Option (List ℕ)
+  pub reports : Option (List ℕ)
   pub faults : ℕ

@@ -23,12 +23,12 @@ sent_of (Memory sent) = sent
 pub record WentOut (start : Option (List ℕ)) (output : List ℕ) (now : Option (List ℕ)) (sent : ℕ) : Type 0 where
   pub count : ℕ
   pub within : count ≤ length output
-  pub told : now ≡ append_known start (take count output)
+  pub reported : now ≡ append_known start (take count output)
   pub number : sent ≡ capped count
 
 -- the output so far: what went out, and then what waits in the buffer
 pub record IsStaged (start : Option (List ℕ)) (output : List ℕ) (now : Option (List ℕ)) (buffer : Staged) : Type 0 where
   pub gone : List ℕ
   pub whole : output ≡ gone ++ buffer.bytes
-  pub told : now ≡ append_known start gone
+  pub reported : now ≡ append_known start gone
   pub number : buffer.sent ≡ capped (length gone)

@@ -36,11 +36,12 @@ impl Model for OutBuffer {
 
 /// Writes the whole piece, and adds to the count of bytes that went out.
 fn send_counted<W: Sink>(out: &mut W, piece: &[u8], sent: &mut u64) -> Result<(), SendFault>
-    ensures out { (start : Option (List ℕ)) (gone : List ℕ) → (W.seen out.old).tells ≡ append_known start gone →
-        sent.old ≡ capped (length gone) → OnOk result ((W.seen out.new).tells ≡ append_known start (gone ++ piece.now))
+    ensures out { (start : Option (List ℕ)) (gone : List ℕ) → (W.seen out.old).reports ≡ append_known start gone
+        → sent.old ≡ capped (length gone)
+        → OnOk result ((W.seen out.new).reports ≡ append_known start (gone ++ piece.now))
         × OnOk result (sent.new ≡ capped (length (gone ++ piece.now))) }
-    ensures cut { (start : Option (List ℕ)) (gone : List ℕ) → (W.seen out.old).tells ≡ append_known start gone →
-        sent.old ≡ capped (length gone) → IfErr result (λ e. WentOut start (gone ++ piece.now) (W.seen out.new).tells
+    ensures cut { (start : Option (List ℕ)) (gone : List ℕ) → (W.seen out.old).reports ≡ append_known start gone →
+        sent.old ≡ capped (length gone) → IfErr result (λ e. WentOut start (gone ++ piece.now) (W.seen out.new).reports
         e.sent) }
     ensures number { IfErr result (λ e. sent.new ≡ e.sent) }
     ensures cause { (W.seen out.new).faults ≡ (if is_err result then raised (W.seen out.old).faults else
@@ -112,7 +113,7 @@ impl OutBuffer {
 
     /// Adds a piece for which there is no room: sends what waits before it, and also the piece if it is longer than
     /// the buffer.
-    fn put_behind<W: Sink>(&mut self, out: &mut W, piece: &[u8]) -> Result<(), SendFault>
+    fn put_after<W: Sink>(&mut self, out: &mut W, piece: &[u8]) -> Result<(), SendFault>
         ensures { Puts (W.seen out.old) (W.seen out.new) self.old self.new result piece.now }
     {
         self.flush(out)?;
@@ -130,7 +131,7 @@ impl OutBuffer {
         ensures { Puts (W.seen out.old) (W.seen out.new) self.old self.new result piece.now }
     {
         if piece.len() > SIZE - self.len {
-            return self.put_behind(out, piece);
+            return self.put_after(out, piece);
         }
         self.append(piece);
         Ok(())

@@ -2,7 +2,7 @@
 ghost use Rattle.std.specs.Prelude.{◌≡◌, ℕ, ◌+◌, ◌-◌, ◌<◌, ◌≤◌, ◌++◌, ◌&&◌, length, take, drop, slice_index, IfSome, IsTrue, ◌↔◌, MatchOption, None, Some};
 ghost use Rattle.warc_field.specs.Lines.{crlf_at};
 ghost use Rattle.warc_frame.specs.Reading.{empty_line, version_of, begins};
-ghost use Rattle.warc_frame.specs.Decoding.{ends_behind, closing};
+ghost use Rattle.warc_frame.specs.Decoding.{ends_after, closing};
 ghost use Rattle.warc_frame.specs.Record.{max_head};
 
 use crate::version::Version;
@@ -26,7 +26,7 @@ fn byte_at(kept: &[u8], piece: &[u8], place: usize) -> u8
 fn ends_at(kept: &[u8], piece: &[u8], place: usize) -> bool
     requires within { place < length piece.now }
     requires short { length kept.now + length piece.now ≤ max_head }
-    ensures { result ≡ ends_behind (kept.now ++ piece.now) (length kept.now + place) }
+    ensures { result ≡ ends_after (kept.now ++ piece.now) (length kept.now + place) }
 {
     let end = kept.len() + place;
     if piece[place] != b'\n' {

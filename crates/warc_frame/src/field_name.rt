@@ -81,7 +81,7 @@ fn eighth(text: &[u8]) -> u8
 impl FieldName {
     /// The only field whose name the text can be, in any case. Whether it is that name is for the caller to compare.
     #[inline(always)]
-    #[tactic(auto, using(crate::proofs::FieldNameLemmas::told_by))]
+    #[tactic(auto, using(crate::proofs::FieldNameLemmas::reported_by))]
     pub fn candidate(text: &[u8]) -> Option<FieldName>
         ensures { (name : FieldName) → same text.now (name_text name) ≡ true → result ≡ Some name }
     {

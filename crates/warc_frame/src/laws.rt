@@ -8,7 +8,7 @@ ghost use Rattle.warc_frame.specs.FieldNames.{AreFieldNames};
 ghost use Rattle.warc_frame.specs.Spelling.{Spells, SpellsAll, canonical};
 ghost use Rattle.warc_frame.specs.Reading.{Judgement, Head, head_of, headed, record_of};
 ghost use Rattle.warc_frame.specs.Faults.{AllAccepted, ReadsAs, IsFaultAfter, IsFirstFault, IsFrameFault};
-ghost use Rattle.warc_frame.specs.Told.{Unclosed, Told, Lies, IsExact, Refutes, Refuses, AcceptsTold};
+ghost use Rattle.warc_frame.specs.Reported.{Unclosed, Reported, Lies, IsExact, Refutes, Refuses, AcceptsReported};
 ghost use Rattle.std.specs.Io.KnownBytes.{append_known};
 ghost use Rattle.warc_frame.specs.Device.{Staged};
 ghost use Rattle.warc_frame.specs.Send.{WentOut, IsStaged};
@@ -87,22 +87,23 @@ pub fn reading_is_unique()
 
 /// What a step that fails says of the text, if memory didn't run out: the text is refuted, by a fault that stays.
 pub fn refusals_refute()
-    ensures { (at : ℕ) (text : List ℕ) (told : Told) (f : Fault) → Refuses at text told f → f.kind ≢ Memory
-        → Refutes at text told f }
+    ensures { (at : ℕ) (text : List ℕ) (reported : Reported) (f : Fault) → Refuses at text reported f → f.kind ≢ Memory
+        → Refutes at text reported f }
 {}
 
 /// The first fault for a reader that gets a text's records by framing alone, and judges the fields of each head that is
 /// reported. While it accepts them, the fault is that of framing; the first that it refuses is the fault, at the first
 /// byte of its record.
 pub fn first_fault_of_judged_heads()
-    ensures refuted { (judge : Judgement) (at : ℕ) (text : List ℕ) (told : Told) (f : Fault) → Refutes at text told f
-        → AcceptsTold judge told → IsFirstFault judge at text f }
-    ensures cut { (judge : Judgement) (at : ℕ) (text : List ℕ) (told : Told) (f : Fault) → Lies text told
-        → AcceptsTold judge told → at + length text ≤ max_archive → IsFrameFault at text f
+    ensures refuted { (judge : Judgement) (at : ℕ) (text : List ℕ) (reported : Reported) (f : Fault)
+        → Refutes at text reported f → AcceptsReported judge reported → IsFirstFault judge at text f }
+    ensures cut { (judge : Judgement) (at : ℕ) (text : List ℕ) (reported : Reported) (f : Fault) → Lies text reported
+        → AcceptsReported judge reported → at + length text ≤ max_archive → IsFrameFault at text f
         → IsFirstFault judge at text f }
-    ensures head { (judge : Judgement) (at : ℕ) (text : List ℕ) (told : Told) (u : Unclosed) (kind : FaultKind)
-        → IsExact text told → told.unclosed ≡ Some u → AllAccepted judge told.records → judge u.fields ≡ Some kind
-        → at + length text ≤ max_archive → IsFaultAfter judge at text told.records kind }
+    ensures head { (judge : Judgement) (at : ℕ) (text : List ℕ) (reported : Reported) (u : Unclosed) (kind : FaultKind)
+        → IsExact text reported → reported.unclosed ≡ Some u → AllAccepted judge reported.records
+        → judge u.fields ≡ Some kind → at + length text ≤ max_archive
+        → IsFaultAfter judge at text reported.records kind }
 {}
 
 /// What went out of an output went out of each longer one.

@@ -3,7 +3,7 @@ ghost use Rattle.std.specs.Prelude.{◌≡◌, ℕ, ◌+◌, ◌≤◌, ◌^◌,
 ghost use Rattle.std.specs.List.{flat_map};
 ghost use Rattle.warc_frame.specs.Record.{Record, max_archive};
 ghost use Rattle.warc_frame.specs.Spelling.{SpellsAll};
-ghost use Rattle.warc_frame.specs.Told.{tell};
+ghost use Rattle.warc_frame.specs.Reported.{report};
 ghost use Rattle.warc_frame.specs.Pieces.{start_on, Keeps, IsPieceFault, IsMemoryFault, MayKeep, IsPiecesFault};
 
 use crate::fault::{Fault, FaultKind};
@@ -24,7 +24,7 @@ struct Begun<A: Allocator> {
 }
 
 impl<A: Allocator> Model for Begun<A> {
-    ghost use Rattle.warc_frame.specs.Told.{Unclosed};
+    ghost use Rattle.warc_frame.specs.Reported.{Unclosed};
 
     ghost Value = { Unclosed };
 
@@ -38,27 +38,30 @@ impl<A: Allocator> Model for Begun<A> {
 
 /// The records reported so far, and the one that is open.
 #[derive(Drop)]
-struct Kept<A: Allocator> {
+struct Collected<A: Allocator> {
     records: Vec<Framed<A>, A>,
     begun: Option<Begun<A>>,
     /// The offset after the reported records.
     start: u64,
 }
 
-impl<A: Allocator> Model for Kept<A> {
+impl<A: Allocator> Model for Collected<A> {
     ghost use Rattle.warc_frame.specs.Pieces.{Keeping};
 
     ghost Value = { Keeping };
 
-    ghost view = { λ k. record { told = record { records = k.records.items; unclosed = k.begun }; start = k.start } };
+    ghost view = { λ k. record {
+      reported = record { records = k.records.items; unclosed = k.begun };
+      start = k.start;
+    } };
 }
 
-impl<A: Allocator + Copy> Kept<A> {
-    /// Keeps what an event reports of a piece, whose bytes end before offset `behind`.
-    fn keep(&mut self, piece: &[u8], event: Event<A>, behind: u64) -> Result<(), AllocError>
-        requires { MayKeep (length piece.now) self.old.told.unclosed event }
-        ensures told { OnOk result (self.new.told ≡ tell self.old.told piece.now event) }
-        ensures start { OnOk result (self.new.start ≡ start_on self.old.start behind event) }
+impl<A: Allocator + Copy> Collected<A> {
+    /// Keeps what an event reports of a piece, whose bytes end before offset `following`.
+    fn keep(&mut self, piece: &[u8], event: Event<A>, following: u64) -> Result<(), AllocError>
+        requires { MayKeep (length piece.now) self.old.reported.unclosed event }
+        ensures reported { OnOk result (self.new.reported ≡ report self.old.reported piece.now event) }
+        ensures start { OnOk result (self.new.start ≡ start_on self.old.start following event) }
         ensures still { OnErr result (self.new.start ≡ self.old.start) }
     {
         match event {
@@ -82,7 +85,7 @@ impl<A: Allocator + Copy> Kept<A> {
                     let record = Framed::from_checked(begun.version, begun.fields, begun.bytes);
                     self.records.push(record)?;
                 }
-                self.start = behind;
+                self.start = following;
             }
         }
         Ok(())
@@ -92,7 +95,7 @@ impl<A: Allocator + Copy> Kept<A> {
 /// Gives a piece to the decoder, and keeps what it reports.
 fn feed<A: Allocator + Copy>(
     decoder: &mut Decoder<A>,
-    kept: &mut Kept<A>,
+    kept: &mut Collected<A>,
     piece: &[u8],
 ) -> Result<(), Fault>
     requires { (at : ℕ) × (taken : List ℕ) × Keeps at taken kept.old decoder.old }
@@ -132,7 +135,7 @@ pub fn decode<A: Allocator + Copy>(
     ensures memory { IfErr result (IsMemoryFault at (flat_map (λ piece. piece.now) pieces.now)) }
 {
     let mut decoder = Decoder::new(alloc, at);
-    let mut kept = Kept {
+    let mut kept = Collected {
         records: Vec::new(alloc),
         begun: None,
         start: at,

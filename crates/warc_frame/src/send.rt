@@ -26,7 +26,7 @@ impl std::fmt::Display for SendFault {
 
 /// Writes the whole piece, by single writes, so that the count in a fault is exact.
 pub fn send_all<W: Sink>(out: &mut W, piece: &[u8]) -> Result<(), SendFault>
-    ensures bytes { (W.seen out.new).tells ≡ append_known (W.seen out.old).tells (take (count_sent result piece.now)
+    ensures bytes { (W.seen out.new).reports ≡ append_known (W.seen out.old).reports (take (count_sent result piece.now)
         piece.now) }
     ensures bound { IfErr result (λ e. e.sent < length piece.now) }
     ensures cause { (W.seen out.new).faults ≡ (if is_err result then raised (W.seen out.old).faults else

@@ -36,7 +36,7 @@ pub trait Sink {
     /// that isn't empty is a failure, too.
     fn write(&mut self, piece: &[u8]) -> Result<usize, WriteFault>
         ensures bound { IfOk result (λ n. n ≤ length piece.now) }
-        ensures bytes { (seen self.new).tells ≡ append_known (seen self.old).tells (take (taken result) piece.now) }
+        ensures bytes { (seen self.new).reports ≡ append_known (seen self.old).reports (take (taken result) piece.now) }
         ensures cause { (seen self.new).faults ≡ (if failed result piece.now then raised (seen self.old).faults else
             (seen self.old).faults) };
 }
@@ -97,7 +97,7 @@ impl<A: Allocator> MemSink<A> {
 }
 
 impl<A: Allocator> Sink for MemSink<A> {
-    ghost seen = { λ s. record { tells = Some s.bytes; faults = s.faults } };
+    ghost seen = { λ s. record { reports = Some s.bytes; faults = s.faults } };
 
     /// It fails only if a growth of the memory is refused, and otherwise takes the whole piece.
     fn write(&mut self, piece: &[u8]) -> Result<usize, WriteFault>
@@ -151,7 +151,7 @@ impl<W: Write> OutSink<W> {
 }
 
 impl<W: Write> Sink for OutSink<W> {
-    ghost seen = { λ s. record { tells = None; faults = s.faults } };
+    ghost seen = { λ s. record { reports = None; faults = s.faults } };
 
     /// Any error of the writer is a failure, and nothing is tried again. What the writer holds,
     /// where that is known, grows by the bytes that it took.

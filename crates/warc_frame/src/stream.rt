@@ -1,7 +1,7 @@
 //! The decoder: records that come in pieces of any length.
 ghost use Rattle.std.specs.Prelude.{◌≡◌, ◌≢◌, ℕ, ◌+◌, ◌-◌, ◌<◌, ◌≤◌, ◌^◌, ◌++◌, length, List, [], take, Bool, true, false, MatchResult, IfOk, OnErr, IfErr, Ok, Err, Some, None};
 ghost use Rattle.warc_frame.specs.Reading.{head_len, version_of};
-ghost use Rattle.warc_frame.specs.Told.{Told, nothing, Lies, Refuses};
+ghost use Rattle.warc_frame.specs.Reported.{Reported, nothing, Lies, Refuses};
 ghost use Rattle.warc_frame.specs.Decoding.{IsAt, IsFailed, Finishes, TakesWithin, Takes};
 ghost use Rattle.warc_frame.specs.Steps.{Near, ClosesHead};
 ghost use Rattle.warc_frame.specs.declared.fault.Fault.{Fault};
@@ -102,8 +102,8 @@ impl<A: Allocator + Copy> Decoder<A> {
     /// The offset after the bytes taken.
     pub fn position(&self) -> u64
         // What was reported is exactly what lies in the bytes taken.
-        ensures history { (at : ℕ) (taken : List ℕ) (told : Told) → IsAt at taken told self.now
-            → (result ≡ at + length taken) × Lies taken told }
+        ensures history { (at : ℕ) (taken : List ℕ) (reported : Reported) → IsAt at taken reported self.now
+            → (result ≡ at + length taken) × Lies taken reported }
         ensures value { result ≡ self.now.position }
         ensures limit { result ≤ max_archive }
     {
@@ -112,8 +112,8 @@ impl<A: Allocator + Copy> Decoder<A> {
 
     /// Whether the stream may end here: it may between records. Else it is truncated, or the fault is reported again.
     pub fn finish(&self) -> Result<(), Fault>
-        ensures history { (at : ℕ) (taken : List ℕ) (told : Told) → IsAt at taken told self.now
-            → Finishes at taken told result }
+        ensures history { (at : ℕ) (taken : List ℕ) (reported : Reported) → IsAt at taken reported self.now
+            → Finishes at taken reported result }
         ensures failed { (fault : Fault) → IsFailed self.now fault → result ≡ Err fault }
     {
         let truncated = FaultKind::Truncated.at(self.position);
@@ -136,9 +136,9 @@ impl<A: Allocator + Copy> Decoder<A> {
     /// with the last byte of what it reports. A fault is the frame fault of the bytes taken followed by the piece, or
     /// lack of memory; it takes nothing, and each later call returns it again.
     pub fn step(&mut self, piece: &[u8]) -> Result<(usize, Event<A>), Fault>
-        ensures history { (at : ℕ) (taken : List ℕ) (told : Told) → IsAt at taken told self.old →
-            MatchResult result (λ r. Takes at taken told self.new piece.now r.0 r.1)
-            (λ fault. Refuses at (taken ++ piece.now) told fault) }
+        ensures history { (at : ℕ) (taken : List ℕ) (reported : Reported) → IsAt at taken reported self.old →
+            MatchResult result (λ r. Takes at taken reported self.new piece.now r.0 r.1)
+            (λ fault. Refuses at (taken ++ piece.now) reported fault) }
         ensures within { IfOk result (λ r. TakesWithin (length piece.now) r.0 r.1) }
         ensures empty { piece.now ≡ [] → MatchResult result (λ r. r ≡ (0, Event.More)) (IsFailed self.old) }
         ensures err { IfErr result (λ fault. IsFailed self.new fault × (self.new.position ≡ self.old.position)) }
@@ -163,10 +163,10 @@ impl<A: Allocator + Copy> Decoder<A> {
     /// Takes bytes of a head; `crosses` says that bytes at the limit follow the given ones.
     fn take_head(&mut self, near: &[u8], crosses: bool) -> Result<(usize, Event<A>), Fault>
         requires room { self.old.position + length near.now ≤ max_archive }
-        ensures history { (at : ℕ) (taken text : List ℕ) (told : Told) → self.old.phase ≡ Phase.Head
-            → IsAt at taken told self.old → Near crosses at text (taken ++ near.now)
-            → MatchResult result (λ r. Takes at taken told self.new near.now r.0 r.1)
-            (λ fault. Refuses at text told fault) }
+        ensures history { (at : ℕ) (taken text : List ℕ) (reported : Reported) → self.old.phase ≡ Phase.Head
+            → IsAt at taken reported self.old → Near crosses at text (taken ++ near.now)
+            → MatchResult result (λ r. Takes at taken reported self.new near.now r.0 r.1)
+            (λ fault. Refuses at text reported fault) }
         ensures within { IfOk result (λ r. TakesWithin (length near.now) r.0 r.1) }
         ensures more { IfOk result (λ r. r.1 ≡ Event.More → crosses ≡ false) }
         ensures still { OnErr result (self.new.position ≡ self.old.position) }
@@ -234,10 +234,10 @@ impl<A: Allocator + Copy> Decoder<A> {
     /// Takes bytes of a block or of what closes the record.
     fn take_block(&mut self, near: &[u8], crosses: bool) -> Result<(usize, Event<A>), Fault>
         requires room { self.old.position + length near.now ≤ max_archive }
-        ensures history { (at : ℕ) (taken text : List ℕ) (told : Told) → self.old.phase ≡ Phase.Block
-            → IsAt at taken told self.old → Near crosses at text (taken ++ near.now)
-            → MatchResult result (λ r. Takes at taken told self.new near.now r.0 r.1)
-            (λ fault. Refuses at text told fault) }
+        ensures history { (at : ℕ) (taken text : List ℕ) (reported : Reported) → self.old.phase ≡ Phase.Block
+            → IsAt at taken reported self.old → Near crosses at text (taken ++ near.now)
+            → MatchResult result (λ r. Takes at taken reported self.new near.now r.0 r.1)
+            (λ fault. Refuses at text reported fault) }
         ensures within { IfOk result (λ r. TakesWithin (length near.now) r.0 r.1) }
         ensures empty { near.now ≡ [] → crosses ≡ false → result ≡ Ok (0, Event.More) }
         ensures more { IfOk result (λ r. r.1 ≡ Event.More → crosses ≡ false) }
@@ -262,10 +262,10 @@ impl<A: Allocator + Copy> Decoder<A> {
     fn take_end(&mut self, near: &[u8], crosses: bool) -> Result<(usize, Event<A>), Fault>
         requires room { self.old.position + length near.now ≤ max_archive }
         requires some { 0 < length near.now }
-        ensures history { (at : ℕ) (taken text : List ℕ) (told : Told) → self.old.phase ≡ Phase.Block
-            → self.old.left ≡ 0 → IsAt at taken told self.old → Near crosses at text (taken ++ near.now)
-            → MatchResult result (λ r. Takes at taken told self.new near.now r.0 r.1)
-            (λ fault. Refuses at text told fault) }
+        ensures history { (at : ℕ) (taken text : List ℕ) (reported : Reported) → self.old.phase ≡ Phase.Block
+            → self.old.left ≡ 0 → IsAt at taken reported self.old → Near crosses at text (taken ++ near.now)
+            → MatchResult result (λ r. Takes at taken reported self.new near.now r.0 r.1)
+            (λ fault. Refuses at text reported fault) }
         ensures within { IfOk result (λ r. TakesWithin (length near.now) r.0 r.1) }
         ensures more { IfOk result (λ r. r.1 ≡ Event.More → crosses ≡ false) }
         ensures still { OnErr result (self.new.position ≡ self.old.position) }

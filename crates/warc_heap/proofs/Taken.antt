@@ -11,7 +11,7 @@ use denote.Steps.{only}
 use Rattle.core.specs.contracts.option.Option as option
 use Rattle.warc_heap.specs.Units.{room_of}
 use Rattle.warc_heap.specs.contracts.memory.Memory as memory
-use Rattle.warc_heap.proofs.Values.{memory_val, memory_own, memory_told}
+use Rattle.warc_heap.proofs.Values.{memory_val, memory_own, memory_reported}
 
 abbrev pub Taken : RattleType
 Taken = option.the_row memory.the_row
@@ -29,4 +29,4 @@ module _ {M : Type 1} {𝓤 : Ura M} {𝓛 : Logic 𝓤} {K : Type 0} {Γ : List
   taken t n a (Some m) v said some none =
       fpick t (λ us. fsplit t $ feq_l t (λ is. fpick t (λ vss. fsplit t $ feq_l t (λ is'. fsplit t $ move t (1 ∷ []) $ drop t $ fsplit t $ pure_l t (memory_own m.at vss.0) (λ s.
       some m said.0 said.1
-      (ap only is ∙ ap (λ (xs : List Val). live 1 (of_list xs)) (is' ∙ ap (λ (xs : List Val). xs ++ []) (memory_told m.at vss.0 s))))))))
+      (ap only is ∙ ap (λ (xs : List Val). live 1 (of_list xs)) (is' ∙ ap (λ (xs : List Val). xs ++ []) (memory_reported m.at vss.0 s))))))))

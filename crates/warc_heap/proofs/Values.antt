@@ -27,8 +27,8 @@ memory_val p = vstruct (vcons (ptr_val p) vnil)
 abbrev pub memory_own : Ptr → List Val → Fml
 memory_own p = pointer.own_val (p, tt)
 
-pub memory_told : (p : Ptr) (vs : List Val) → shadow (memory_own p vs) → vs ≡ memory_val p ∷ []
-memory_told p vs s = s.1.0 ∙ (λ i. vstruct (of_list (s.1.1.0 i ++ [])) ∷ [])
+pub memory_reported : (p : Ptr) (vs : List Val) → shadow (memory_own p vs) → vs ≡ memory_val p ∷ []
+memory_reported p vs s = s.1.0 ∙ (λ i. vstruct (of_list (s.1.1.0 i ++ [])) ∷ [])
 
 pub memory_made : {M : Type 1} {𝓤 : Ura M} (𝓛 : Logic 𝓤) (p : Ptr) → ent 𝓤 (emp 𝓤) (sem 𝓛 (memory_own p (memory_val p ∷ [])))
 memory_made 𝓛 p = makes_shadow 𝓛 (memory_own p (memory_val p ∷ [])) (λ _. (tt, (tt, tt))) ((ptr_val p ∷ [], tt), (refl, (refl, tt)))

@@ -176,7 +176,7 @@ fn show<W: Sink>(text: &mut Text, piece: &[u8], sink: &mut W) -> Result<(), Writ
 }
 
 impl<W: Write> Sink for ShownSink<W> {
-    ghost seen = { λ s. record { tells = None; faults = s.faults } };
+    ghost seen = { λ s. record { reports = None; faults = s.faults } };
 
     /// A terminal takes the whole piece or fails.
     fn write(&mut self, piece: &[u8]) -> Result<usize, WriteFault> {

@@ -13,7 +13,7 @@ use Rattle.warc_index.specs.Captures.{AreCapturesOf, Indexed, IsCaptureOf, IsLat
 use Rattle.warc_index.specs.Links.{first_mark}
 use Rattle.warc_index.specs.Linked.{instant_mark}
 use Rattle.warc_index.specs.Orders.{capture_entry, entries_from}
-use Rattle.warc_index.proofs.KeptLemmas.{HasCaptureEntry, capture_stands, later_same, no_capture}
+use Rattle.warc_index.proofs.KeptLemmas.{HasCaptureEntry, capture_is_present, later_same, no_capture}
 use Rattle.warc_index.proofs.LinkedLemmas.{capture_at}
 use Rattle.warc_index.proofs.PassLemmas.{forward_way}
 
@@ -37,10 +37,10 @@ record Met (all : List Indexed) (uri : List ℕ) (p : ℕ) : Type 0 where
 
 entry_for : (all : List Indexed) (uri : List ℕ) (p : ℕ) → AreTimed all → IsCaptureOf all uri p → Met all uri p
 entry_for all uri p timed is =
-    let h : HasCaptureEntry uri all p is.it = capture_stands all uri p is.it timed is.there is.capture in
+    let h : HasCaptureEntry uri all p is.it = capture_is_present all uri p is.it timed is.there is.capture in
     record {
       entry = entry_of uri (instant_mark h.instant) p;
-      among = h.stands;
+      among = h.is_present;
       has = record { it = is.it; there = is.there; hit = is.capture; instant = h.instant; has_instant = h.has_instant; is = refl };
     }
 
@@ -50,7 +50,7 @@ entry_says all uri e among text =
     let c = capture_at all uri e among text in
     record {
       it = c.it;
-      there = c.stands;
+      there = c.is_present;
       hit = and_from (is_capture c.it.kind) (is_text uri c.it.target) c.kind c.target;
       instant = c.instant;
       has_instant = c.has_instant;
@@ -127,9 +127,9 @@ module _ (all : List Indexed) (uri : List ℕ) (es : List Entry) (timed : AreTim
   begun None first none = λ q is. never q is none
   begun (Some found) first none =
       let e : Entry = entry_at es found.index in
-      let one = entry_says all uri e (inside e first.stands) first.passes.text_is in
+      let one = entry_says all uri e (inside e first.is_present) first.passes.text_is in
       record {
-        among = inside e first.stands;
+        among = inside e first.is_present;
         text = first.passes.text_is;
         before = λ q is later.
             let met = entry_for all uri q timed is in
@@ -182,18 +182,18 @@ module _ (all : List Indexed) (uri : List ℕ) (es : List Entry) (timed : AreTim
     stepped (Some found) first none =
         let e : Entry = entry_at es found.index in
         let text : e.text ≡ uri = first.passes.text_is ∙ next.text in
-        let other = entry_says all uri e (inside e first.stands) text in
+        let other = entry_says all uri e (inside e first.is_present) text in
         record {
-          among = inside e first.stands;
+          among = inside e first.is_present;
           text = text;
           before = λ q is later.
               let met = entry_for all uri q timed is in
-              let behind : comes_later e met.entry ≡ true = entry_later all uri q e.position met.entry e met.has other later in
+              let following : comes_later e met.entry ≡ true = entry_later all uri q e.position met.entry e met.has other later in
               elim (cases_Bool (comes_later met.entry here)) [
                 | inl on ↦
                     let off : comes_later e met.entry ≡ false =
                     first.first met.entry (outside met.entry met.among) (record { text_is = ap (λ (f : Entry). f.text) met.has.is ∙ sym next.text; later = on }) in
-                    absurd (true≢false (sym behind ∙ off))
+                    absurd (true≢false (sym following ∙ off))
                 | inr off ↦ passed q is off
               ];
           after = All-push (λ p. IsLaterAt all p e.position) positions here.position

@@ -34,7 +34,7 @@ revisit_is all p = by_place all p (slice_get all p) refl
 -- the revisit at a place
 pub record IsRevisitAt (all : List Indexed) (p : ℕ) : Type 0 where
   pub it : Indexed
-  pub stands : slice_get all p ≡ Some it
+  pub is_present : slice_get all p ≡ Some it
   pub capture : is_capture it.kind ≡ true
   pub link : link_at (map link_of all) p ≡ revisit_link it.reference.known_profile it
 
@@ -70,7 +70,7 @@ at_place all p (Some r) at h =
     r.kind) o false) at) ∙ h in
     record {
       it = r;
-      stands = at;
+      is_present = at;
       capture = revisit_captures r.kind is;
       link = link_there all p r at ∙ revisit_made r.kind r is;
     }

@@ -33,8 +33,8 @@ next_best test all i x best e h = elim (cases_Bool (test x)) [
     passing : (best : Option ℕ) → BestBelow test all i best → test x ≡ true → Best test all (i + 1)
     passing None h hit = (Some i, step-first test all i x h e hit)
     passing (Some p) h hit = elim (cases_Bool (is_earlier x.instant h.it.instant)) [
-      | inl before ↦ (Some p, step-stays test all i p x h.it h e h.stands before)
-      | inr after ↦ (Some i, step-later test all i p x h.it h e h.stands hit after)
+      | inl before ↦ (Some p, step-stays test all i p x h.it h e h.is_present before)
+      | inr after ↦ (Some i, step-later test all i p x h.it h e h.is_present hit after)
     ]
 
 best_of : (test : Indexed → Bool) (all : List Indexed) (i : ℕ) → i ≤ length all → Best test all i
@@ -51,7 +51,7 @@ best_is_latest : (test : Indexed → Bool) (all : List Indexed) (p : ℕ) → Is
     → IsLatest test all p
 best_is_latest test all p best = record {
   it = best.it;
-  stands = best.stands;
+  is_present = best.is_present;
   passes = best.passes;
   last = λ q r e hit. best.last q r (slice_get_within all q r e) e hit;
 }
@@ -60,8 +60,8 @@ latest_is_best : (test : Indexed → Bool) (all : List Indexed) (p : ℕ) → Is
     → IsBestBelow test all (length all) p
 latest_is_best test all p h = record {
   it = h.it;
-  within = slice_get_within all p h.it h.stands;
-  stands = h.stands;
+  within = slice_get_within all p h.it h.is_present;
+  is_present = h.is_present;
   passes = h.passes;
   last = λ k r lt e hit. h.last k r e hit;
 }
@@ -89,7 +89,7 @@ found_none test all e = by_best (best_of test all (length all) (omega arith))
     by_best (Some q, best) = let f : latest test all ≡ Some q = latest-best test all q best in absurd (cc)
 
 pub latest_below : (test : Indexed → Bool) (all : List Indexed) (p : ℕ) → latest test all ≡ Some p → p < length all
-latest_below test all p e = let is = found_latest test all p e in slice_get_within all p is.it is.stands
+latest_below test all p e = let is = found_latest test all p e in slice_get_within all p is.it is.is_present
 
 pub latest_is_last : LatestIsLast
 latest_is_last test all = (
@@ -108,7 +108,7 @@ chosen_when_latest all uri moment p is =
     let both = and_parts (is_capture_of uri is.it) (is_by (Some moment) is.it) is.passes in
     record {
       it = is.it;
-      stands = is.stands;
+      is_present = is.is_present;
       capture = both.0;
       early = both.1;
       last = λ q r e a b. is.last q r e (and_from (is_capture_of uri r) (is_by (Some moment) r) a b);
@@ -118,7 +118,7 @@ latest_when_chosen : (all : List Indexed) (uri : List ℕ) (moment : Instant) (p
     → IsLatest (early_of uri moment) all p
 latest_when_chosen all uri moment p is = record {
   it = is.it;
-  stands = is.stands;
+  is_present = is.is_present;
   passes = and_from (is_capture_of uri is.it) (is_by (Some moment) is.it) is.capture is.early;
   last = λ q r e hit. let both = and_parts (is_capture_of uri r) (is_by (Some moment) r) hit in
       is.last q r e both.0 both.1;

@@ -49,7 +49,7 @@ contains_either (x ∷ xs) ys e (suc k, lt, is) = elim (contains_either xs ys e 
 pub record IsEntryOf (entry : ℕ → Indexed → Option Entry) (p : ℕ) (all : List Indexed) (e : Entry) : Type 0 where
   pub place : ℕ
   pub it : Indexed
-  pub stands : slice_get all place ≡ Some it
+  pub is_present : slice_get all place ≡ Some it
   pub is : entry (p + place) it ≡ Some e
 
 single : (o : Option Entry) (e : Entry) → Contains (option_to_list o) e → o ≡ Some e
@@ -69,7 +69,7 @@ entry_in entry p (r ∷ all) e c = elim (contains_either (option_to_list (entry 
       | inl here ↦ record {
         place = 0;
         it = r;
-        stands = refl;
+        is_present = refl;
         is = let z : p + 0 ≡ p = omega arith in
             ap (λ n. entry n r) z ∙ single (entry p r) e here;
       }
@@ -78,23 +78,23 @@ entry_in entry p (r ∷ all) e c = elim (contains_either (option_to_list (entry 
           record {
             place = suc w.place;
             it = w.it;
-            stands = w.stands;
+            is_present = w.is_present;
             is = let z : p + suc w.place ≡ (p + 1) + w.place =
                 omega arith in ap (λ n. entry n w.it) z ∙ w.is;
           }
     ]
 
-pub entry_stands : (entry : ℕ → Indexed → Option Entry) (p : ℕ) (all : List Indexed) (k : ℕ) (r : Indexed) (e : Entry)
+pub entry_is_present : (entry : ℕ → Indexed → Option Entry) (p : ℕ) (all : List Indexed) (k : ℕ) (r : Indexed) (e : Entry)
     → slice_get all k ≡ Some r → entry (p + k) r ≡ Some e → Contains (entries_from entry p all) e
-entry_stands entry p [] k r e at is = cc
-entry_stands entry p (x ∷ all) zero r e at is =
+entry_is_present entry p [] k r e at is = cc
+entry_is_present entry p (x ∷ all) zero r e at is =
     let same : x ≡ r = (cc) in
     let z : p + 0 ≡ p = omega arith in
     contains_left (option_to_list (entry p x)) (entries_from entry (p + 1) all) e (one_of (entry p x) e (ap (entry p)
     same ∙ (ap (λ n. entry n r) (sym z) ∙ is)))
-entry_stands entry p (x ∷ all) (suc k) r e at is =
+entry_is_present entry p (x ∷ all) (suc k) r e at is =
     let z : (p + 1) + k ≡ p + suc k = omega arith in
-    contains_right (option_to_list (entry p x)) (entries_from entry (p + 1) all) e (entry_stands entry (p + 1) all k r
+    contains_right (option_to_list (entry p x)) (entries_from entry (p + 1) all) e (entry_is_present entry (p + 1) all k r
     e at (ap (λ n. entry n r) z ∙ is))
 
 -- one more record
@@ -166,19 +166,19 @@ timed_at (x ∷ all) (suc k) r timed at = timed_at all k r (All-tail (λ (r : In
 pub record HasCaptureEntry (uri : List ℕ) (all : List Indexed) (q : ℕ) (r : Indexed) : Type 0 where
   pub instant : Instant
   pub has_instant : r.instant ≡ Some instant
-  pub stands : Contains (entries_from capture_entry 0 all) (entry_of uri (instant_mark instant) q)
+  pub is_present : Contains (entries_from capture_entry 0 all) (entry_of uri (instant_mark instant) q)
 
-pub capture_stands : (all : List Indexed) (uri : List ℕ) (q : ℕ) (r : Indexed) →
+pub capture_is_present : (all : List Indexed) (uri : List ℕ) (q : ℕ) (r : Indexed) →
     All (λ (r : Indexed). IsSome r.instant) all → slice_get all q ≡ Some r → is_capture_of uri r ≡ true →
     HasCaptureEntry uri all q r
-capture_stands all uri q r timed at hit =
+capture_is_present all uri q r timed at hit =
     let both = and_parts (is_capture r.kind) (is_text uri r.target) hit in
     let i = some_instant r.instant (timed_at all q r timed at) in
     let z : 0 + q ≡ q = omega arith in
     record {
       instant = i.0;
       has_instant = i.1;
-      stands = entry_stands capture_entry 0 all q r (entry_of uri (instant_mark i.0) q) at (ap (λ n. capture_entry n r)
+      is_present = entry_is_present capture_entry 0 all q r (entry_of uri (instant_mark i.0) q) at (ap (λ n. capture_entry n r)
           z ∙ capture_has q r uri i.0 both.0 (text_found uri r.target both.1) i.1);
     }
 
@@ -200,7 +200,7 @@ pub chosen : (all : List Indexed) (uri : List ℕ) (m : Instant) (e : Entry) →
     All (λ (r : Indexed). IsSome r.instant) all → IsLast (entries_from capture_entry 0 all) (IsUpTo uri (instant_mark
     m)) e → IsChosen all uri m e.position
 chosen all uri m e timed last =
-    let w : IsEntryOf capture_entry 0 all e = entry_in capture_entry 0 all e last.stands in
+    let w : IsEntryOf capture_entry 0 all e = entry_in capture_entry 0 all e last.is_present in
     let c : IsCaptureEntry (0 + w.place) w.it e = capture_is (0 + w.place) w.it e w.is in
     let z : 0 + w.place ≡ w.place = omega arith in
     let is : e ≡ entry_of c.target (instant_mark c.instant) w.place = c.is
@@ -211,17 +211,17 @@ chosen all uri m e timed last =
     sym (ap (λ (f : Entry). mark_lt (instant_mark m) f.mark) is) ∙ last.passes.up_to in
     subst (IsChosen all uri m) (sym there) record {
       it = w.it;
-      stands = w.stands;
+      is_present = w.is_present;
       capture = and_from (is_capture w.it.kind) (is_text uri w.it.target) c.kind (text_is uri w.it.target (c.has_target
           ∙ ap Some same));
       early = by_mark m w.it c.instant c.has_instant ∙ ap not early;
       last = λ q r at hit by1.
-          let h : HasCaptureEntry uri all q r = capture_stands all uri q r timed at hit in
+          let h : HasCaptureEntry uri all q r = capture_is_present all uri q r timed at hit in
           let up : mark_lt (instant_mark m) (instant_mark h.instant) ≡ false =
           not_true _ (sym (by_mark m r h.instant h.has_instant) ∙ by1) in
           later_same w.place q w.it r c.target uri c.instant h.instant c.has_instant h.has_instant
           ∙ (ap (λ f. comes_later (entry_of uri (instant_mark h.instant) q) f) (sym is)
-          ∙ last.last (entry_of uri (instant_mark h.instant) q) h.stands (record { text_is = refl; up_to = up }));
+          ∙ last.last (entry_of uri (instant_mark h.instant) q) h.is_present (record { text_is = refl; up_to = up }));
     }
 
 least_mark : (a : Mark) → mark_lt a (record { major = 0; minor = 0 }) ≡ false
@@ -233,8 +233,8 @@ pub no_capture : (all : List Indexed) (uri : List ℕ) → All (λ (r : Indexed)
     NonePasses (is_capture_of uri) all
 no_capture all uri timed none q r at = elim (cases_Bool (is_capture_of uri r)) [
   | inl hit ↦
-      let h : HasCaptureEntry uri all q r = capture_stands all uri q r timed at hit in
-      absurd (none (entry_of uri (instant_mark h.instant) q) h.stands (record {
+      let h : HasCaptureEntry uri all q r = capture_is_present all uri q r timed at hit in
+      absurd (none (entry_of uri (instant_mark h.instant) q) h.is_present (record {
         text_is = refl;
         from =
             least_mark (instant_mark h.instant);
@@ -246,12 +246,12 @@ no_capture all uri timed none q r at = elim (cases_Bool (is_capture_of uri r)) [
 pub some_capture : (all : List Indexed) (uri : List ℕ) (mark : Mark) (e : Entry) →
     IsFirst (entries_from capture_entry 0 all) (IsFrom uri mark) e → SomePasses (is_capture_of uri) all
 some_capture all uri mark e first =
-    let w : IsEntryOf capture_entry 0 all e = entry_in capture_entry 0 all e first.stands in
+    let w : IsEntryOf capture_entry 0 all e = entry_in capture_entry 0 all e first.is_present in
     let c : IsCaptureEntry (0 + w.place) w.it e = capture_is (0 + w.place) w.it e w.is in
     let same : c.target ≡ uri = sym (ap (λ (f : Entry). f.text) c.is) ∙ first.passes.text_is in (
       w.place,
       w.it,
-      w.stands,
+      w.is_present,
       and_from (is_capture w.it.kind) (is_text uri w.it.target) c.kind (text_is uri w.it.target
           (c.has_target ∙ ap Some same)),
     )
@@ -262,10 +262,10 @@ pub none_early : (all : List Indexed) (uri : List ℕ) (m : Instant) → All (λ
 none_early all uri m timed none q r at = elim (cases_Bool (is_capture_of uri r && is_by (Some m) r)) [
   | inl hit ↦
       let both = and_parts (is_capture_of uri r) (is_by (Some m) r) hit in
-      let h : HasCaptureEntry uri all q r = capture_stands all uri q r timed at both.0 in
+      let h : HasCaptureEntry uri all q r = capture_is_present all uri q r timed at both.0 in
       let up : mark_lt (instant_mark m) (instant_mark h.instant) ≡ false =
       not_true _ (sym (by_mark m r h.instant h.has_instant) ∙ both.1) in
-      absurd (none (entry_of uri (instant_mark h.instant) q) h.stands (record { text_is = refl; up_to = up }))
+      absurd (none (entry_of uri (instant_mark h.instant) q) h.is_present (record { text_is = refl; up_to = up }))
   | inr miss ↦ miss
 ]
 
@@ -458,12 +458,12 @@ others_mark : (r : Indexed) → is_capture r.kind ≡ false → kind_mark r.kind
 others_mark r e = ap (λ b. record { major = if b then 0 else 1; minor = 0 }) e
 
 -- a capture with an id has its entry
-key_stands : (all : List Indexed) (key : List ℕ) (q : ℕ) (r : Indexed) → slice_get all q ≡ Some r →
+key_is_present : (all : List Indexed) (key : List ℕ) (q : ℕ) (r : Indexed) → slice_get all q ≡ Some r →
     has_key key r ≡ true → Contains (entries_from id_entry 0 all) (entry_of key (record { major = 0; minor = 0 }) q)
-key_stands all key q r at hit =
+key_is_present all key q r at hit =
     let both = and_parts (is_capture r.kind) (is_text key r.id) hit in
     let z : 0 + q ≡ q = omega arith in
-    entry_stands id_entry 0 all q r (entry_of key (record { major = 0; minor = 0 }) q) at
+    entry_is_present id_entry 0 all q r (entry_of key (record { major = 0; minor = 0 }) q) at
     (ap (λ n. id_entry n r) z ∙ (ap (id_entry_of q (kind_mark r.kind)) (text_found key r.id both.1)
     ∙ ap (λ m. Some (entry_of key m q)) (captures_mark r both.0)))
 
@@ -485,7 +485,7 @@ pub first_key : (all : List Indexed) (key : List ℕ) (e : Entry) →
     IsFirst (entries_from id_entry 0 all) (IsFrom key (record { major = 0; minor = 0 })) e → e.mark.major ≡ 0 →
     by_key all key ≡ Some e.position
 first_key all key e first zero1 =
-    let w : IsEntryOf id_entry 0 all e = entry_in id_entry 0 all e first.stands in
+    let w : IsEntryOf id_entry 0 all e = entry_in id_entry 0 all e first.is_present in
     let c : IsIdEntry (0 + w.place) w.it e = id_is (0 + w.place) w.it e w.is in
     let z : 0 + w.place ≡ w.place = omega arith in
     let is : e ≡ entry_of c.key (kind_mark w.it.kind) w.place = c.is ∙ ap (entry_of c.key (kind_mark w.it.kind)) z in
@@ -495,16 +495,16 @@ first_key all key e first zero1 =
       | inl yes1 ↦
           let at : e ≡ entry_of c.key (record { major = 0; minor = 0 }) w.place = is
           ∙ ap (λ m. entry_of c.key m w.place) (captures_mark w.it yes1) in
-          position_at (has_key key) all w.place w.it w.stands
+          position_at (has_key key) all w.place w.it w.is_present
           (and_from (is_capture w.it.kind) (is_text key w.it.id) yes1 (text_is key w.it.id (c.has_id ∙ ap Some same)))
-          (λ j r h stands. elim (cases_Bool (has_key key r)) [
+          (λ j r h is_present. elim (cases_Bool (has_key key r)) [
             | inl hit ↦ absurd (true≢false (sym (later_there key c.key w.place j h)
                 ∙ (ap (λ f. comes_later f (entry_of key (record { major = 0; minor = 0 }) j)) (sym at)
                 ∙ first.first (entry_of key (record {
                   major = 0;
                   minor =
                       0;
-                }) j) (key_stands all key j r stands hit) (least_from key j))))
+                }) j) (key_is_present all key j r is_present hit) (least_from key j))))
             | inr miss ↦ miss
           ])
           ∙ ap Some (sym there)
@@ -524,14 +524,14 @@ pub other_key : (all : List Indexed) (key : List ℕ) (e : Entry) →
     IsFirst (entries_from id_entry 0 all) (IsFrom key (record { major = 0; minor = 0 })) e → (e.mark.major ≡ 0 → ⊥) →
     by_key all key ≡ None
 other_key all key e first some1 =
-    position_none (has_key key) all (λ j r stands. elim (cases_Bool (has_key key r)) [
+    position_none (has_key key) all (λ j r is_present. elim (cases_Bool (has_key key r)) [
       | inl hit ↦
           let quiet : comes_later e (entry_of key (record { major = 0; minor = 0 }) j) ≡ false =
           first.first (entry_of key (record {
             major = 0;
             minor =
                 0;
-          }) j) (key_stands all key j r stands hit) (least_from key j) in
+          }) j) (key_is_present all key j r is_present hit) (least_from key j) in
           absurd (true≢false (sym (above_zero key j e some1) ∙ quiet))
       | inr miss ↦ miss
     ])
@@ -542,23 +542,23 @@ pub no_key : (all : List Indexed) (key : List ℕ) → IsNone (entries_from id_e
   minor = 0;
 })) → by_key all key ≡ None
 no_key all key none =
-    position_none (has_key key) all (λ j r stands. elim (cases_Bool (has_key key r)) [
+    position_none (has_key key) all (λ j r is_present. elim (cases_Bool (has_key key r)) [
       | inl hit ↦ absurd (none (entry_of key (record {
         major = 0;
         minor =
             0;
-      }) j) (key_stands all key j r stands hit) (least_from key j))
+      }) j) (key_is_present all key j r is_present hit) (least_from key j))
       | inr miss ↦ miss
     ])
 
 -- ---- the first of any kind with an id
 
 -- a record with an id has its entry
-id_stands : (all : List Indexed) (key : List ℕ) (q : ℕ) (r : Indexed) → slice_get all q ≡ Some r →
+id_is_present : (all : List Indexed) (key : List ℕ) (q : ℕ) (r : Indexed) → slice_get all q ≡ Some r →
     is_text key r.id ≡ true → Contains (entries_from id_entry 0 all) (entry_of key (kind_mark r.kind) q)
-id_stands all key q r at hit =
+id_is_present all key q r at hit =
     let z : 0 + q ≡ q = omega arith in
-    entry_stands id_entry 0 all q r (entry_of key (kind_mark r.kind) q) at
+    entry_is_present id_entry 0 all q r (entry_of key (kind_mark r.kind) q) at
     (ap (λ n. id_entry n r) z ∙ ap (id_entry_of q (kind_mark r.kind)) (text_found key r.id hit))
 
 later_at : (key : List ℕ) (m : Mark) (j : ℕ) (e : Entry) → mark_lt e.mark m ≡ false → j < e.position →
@@ -577,7 +577,7 @@ before_first : (all : List Indexed) (key : List ℕ) (m : Mark) (e : Entry) →
     slice_get all j ≡ Some r → is_text key r.id ≡ true → kind_mark r.kind ≡ m → j < e.position → ⊥
 before_first all key m e first itself j r at hit same h =
     let there : Contains (entries_from id_entry 0 all) (entry_of key m j) =
-    subst (λ w. Contains (entries_from id_entry 0 all) (entry_of key w j)) same (id_stands all key j r at hit) in
+    subst (λ w. Contains (entries_from id_entry 0 all) (entry_of key w j)) same (id_is_present all key j r at hit) in
     true≢false (sym (later_at key m j e first.passes.from h) ∙ first.first (entry_of key m j) there (record {
       text_is =
           refl;
@@ -587,20 +587,20 @@ before_first all key m e first itself j r at hit same h =
 -- a record with the id stands at the position
 pub record HasIdAt (all : List Indexed) (key : List ℕ) (p : ℕ) : Type 0 where
   pub it : Indexed
-  pub stands : slice_get all p ≡ Some it
+  pub is_present : slice_get all p ≡ Some it
   pub hit : is_text key it.id ≡ true
 
 id_at : (all : List Indexed) (key : List ℕ) (m : Mark) (e : Entry) →
     IsFirst (entries_from id_entry 0 all) (IsFrom key m) e → HasIdAt all key e.position
 id_at all key m e first =
-    let w : IsEntryOf id_entry 0 all e = entry_in id_entry 0 all e first.stands in
+    let w : IsEntryOf id_entry 0 all e = entry_in id_entry 0 all e first.is_present in
     let c : IsIdEntry (0 + w.place) w.it e = id_is (0 + w.place) w.it e w.is in
     let z : 0 + w.place ≡ w.place = omega arith in
     let there : w.place ≡ e.position = sym (ap (λ (f : Entry). f.position) c.is ∙ z) in
     let same : c.key ≡ key = sym (ap (λ (f : Entry). f.text) c.is) ∙ first.passes.text_is in
     subst (HasIdAt all key) there record {
       it = w.it;
-      stands = w.stands;
+      is_present = w.is_present;
       hit = text_is key w.it.id (c.has_id
           ∙ ap Some same);
     }
@@ -611,7 +611,7 @@ pub first_of_both : (all : List Indexed) (key : List ℕ) (e f : Entry) →
     IsFirst (entries_from id_entry 0 all) (IsFrom key (record { major = 1; minor = 0 })) f → (p : ℕ) →
     p ≤ e.position → p ≤ f.position → HasIdAt all key p → first_with all key ≡ Some p
 first_of_both all key e f a b p le lf has =
-    position_at (λ r. is_text key r.id) all p has.it has.stands has.hit (λ j r h at. elim (cases_Bool (is_text key
+    position_at (λ r. is_text key r.id) all p has.it has.is_present has.hit (λ j r h at. elim (cases_Bool (is_text key
     r.id)) [
       | inl hit ↦ elim (cases_Bool (is_capture r.kind)) [
         | inl yes1 ↦ absurd (before_first all key (record {
@@ -651,7 +651,7 @@ pub first_alone : (all : List Indexed) (key : List ℕ) (e : Entry) →
     first_with all key ≡ Some e.position
 first_alone all key e a none =
     let has : HasIdAt all key e.position = id_at all key (record { major = 0; minor = 0 }) e a in
-    position_at (λ r. is_text key r.id) all e.position has.it has.stands has.hit (λ j r h at. elim (cases_Bool (is_text
+    position_at (λ r. is_text key r.id) all e.position has.it has.is_present has.hit (λ j r h at. elim (cases_Bool (is_text
     key r.id)) [
       | inl hit ↦ elim (cases_Bool (is_capture r.kind)) [
         | inl yes1 ↦ absurd (before_first all key (record {
@@ -661,7 +661,7 @@ first_alone all key e a none =
         }) e a refl j r at hit (captures_mark r yes1) h)
         | inr no1 ↦
             let there : Contains (entries_from id_entry 0 all) (entry_of key (record { major = 1; minor = 0 }) j) =
-            subst (λ w. Contains (entries_from id_entry 0 all) (entry_of key w j)) (others_mark r no1) (id_stands
+            subst (λ w. Contains (entries_from id_entry 0 all) (entry_of key w j)) (others_mark r no1) (id_is_present
             all key j r at hit) in
             absurd (none (entry_of key (record { major = 1; minor = 0 }) j) there (record {
               text_is = refl;
@@ -679,7 +679,7 @@ pub none_with : (all : List Indexed) (key : List ℕ) → IsNone (entries_from i
 })) → first_with all key ≡ None
 none_with all key none =
     position_none (λ r. is_text key r.id) all (λ j r at. elim (cases_Bool (is_text key r.id)) [
-      | inl hit ↦ absurd (none (entry_of key (kind_mark r.kind) j) (id_stands all key j r at hit) (record {
+      | inl hit ↦ absurd (none (entry_of key (kind_mark r.kind) j) (id_is_present all key j r at hit) (record {
         text_is =
             refl;
         from = least_mark (kind_mark r.kind);

@@ -17,7 +17,7 @@ NoneBelow test all i = (k : ℕ) (r : Indexed) → k < i → slice_get all k ≡
 pub record IsBestBelow (test : Indexed → Bool) (all : List Indexed) (i p : ℕ) : Type 0 where
   pub it : Indexed
   pub within : p < i
-  pub stands : slice_get all p ≡ Some it
+  pub is_present : slice_get all p ≡ Some it
   pub passes : test it ≡ true
   pub last : (k : ℕ) (r : Indexed) → k < i → slice_get all k ≡ Some r → test r ≡ true
       → is_later (k, r) (p, it) ≡ false
@@ -128,7 +128,7 @@ latest-best test all p best =
     ]) in
     let here : is_latest test entries (0 + p, best.it) ≡ true = grind (arith, quiet, best.passes) in
     let found : find (is_latest test entries) entries ≡ Some (0 + p, best.it) =
-    find_at (is_latest test entries) 0 all p best.it best.stands here (λ j s lt e. elim (cases_Bool (test s)) [
+    find_at (is_latest test entries) 0 all p best.it best.is_present here (λ j s lt e. elim (cases_Bool (test s)) [
       | inr miss ↦ and_left (test s) _ miss
       | inl hit ↦
           let ne : j ≢ p = omega arith in
@@ -139,7 +139,7 @@ latest-best test all p best =
           ap (λ (m : ℕ). is_later (m, best.it) (0 + j, s)) z
           ∙ (ap (λ (m : ℕ). is_later (p, best.it) (m, s)) zj ∙ after) in
           let some : list_any (λ (b : Numbered). test b.1 && is_later b (0 + j, s)) entries ≡ true =
-          any_at (λ b. test b.1 && is_later b (0 + j, s)) 0 all p best.it best.stands (grind
+          any_at (λ b. test b.1 && is_later b (0 + j, s)) 0 all p best.it best.is_present (grind
           (arith, after0, best.passes)) in
           grind (arith, some)
     ]) in
@@ -184,7 +184,7 @@ step-miss test all i None x none e miss = λ k r lt f. elim (cases_lt k i) [
 step-miss test all i (Some p) x best e miss = record {
   it = best.it;
   within = let h : p < i = best.within in omega arith;
-  stands = best.stands;
+  is_present = best.is_present;
   passes = best.passes;
   last = λ k r lt f hit. elim (cases_lt k i) [
     | inl low ↦ best.last k r low f hit
@@ -198,7 +198,7 @@ pub step-first : (test : Indexed → Bool) (all : List Indexed) (i : ℕ) (x : I
 step-first test all i x none e hit = record {
   it = x;
   within = omega arith;
-  stands = e;
+  is_present = e;
   passes = hit;
   last = λ k r lt f goes. elim (cases_lt k i) [
     | inl low ↦ absurd (true≢false (sym goes ∙ none k r low f))
@@ -217,11 +217,11 @@ pub step-later : (test : Indexed → Bool) (all : List Indexed) (i p : ℕ) (x y
 step-later test all i p x y best e f hit after = record {
   it = x;
   within = omega arith;
-  stands = e;
+  is_present = e;
   passes = hit;
   last = λ k r lt g goes. elim (cases_lt k i) [
     | inl low ↦
-        let same : best.it ≡ y = same_at all p p best.it y refl best.stands f in
+        let same : best.it ≡ y = same_at all p p best.it y refl best.is_present f in
         let old : is_later (k, r) (p, best.it) ≡ false = best.last k r low g goes in
         let quiet : is_earlier best.it.instant r.instant ≡ false = not_later_not_earlier k p r best.it old in
         not_later_from k i r x low (chain x.instant best.it.instant r.instant (ap (λ
@@ -241,14 +241,14 @@ pub step-stays : (test : Indexed → Bool) (all : List Indexed) (i p : ℕ) (x y
 step-stays test all i p x y best e f before = record {
   it = best.it;
   within = let h : p < i = best.within in omega arith;
-  stands = best.stands;
+  is_present = best.is_present;
   passes = best.passes;
   last = λ k r lt g goes. elim (cases_lt k i) [
     | inl low ↦ best.last k r low g goes
     | inr high ↦
         let z : k ≡ i = omega arith in
         let same : r ≡ x = same_at all k i r x z g e in
-        let there : best.it ≡ y = same_at all p p best.it y refl best.stands f in
+        let there : best.it ≡ y = same_at all p p best.it y refl best.is_present f in
         let first : is_earlier r.instant best.it.instant ≡ true =
         ap (λ (t : Indexed). is_earlier t.instant best.it.instant) same
         ∙ (ap (λ (t : Indexed). is_earlier x.instant t.instant) there ∙ before) in

@@ -23,7 +23,7 @@ use Rattle.warc_index.specs.Links.{is_same_mark, Link, link_at, bare_link, has_p
 use Rattle.warc_index.specs.Linked.{instant_mark, payload_link, revisit_link, named_link, unnamed_link, kind_link, link_of}
 use Rattle.warc_index.specs.Orders.{entries_from, capture_entry, ArePlacedOf}
 use Rattle.warc_index.proofs.ChoiceLemmas.{latest_is_last}
-use Rattle.warc_index.proofs.KeptLemmas.{IsEntryOf, entry_in, IsCaptureEntry, capture_is, HasCaptureEntry, capture_stands, text_found, text_is, by_mark, later_same, not_true, position_at, position_none}
+use Rattle.warc_index.proofs.KeptLemmas.{IsEntryOf, entry_in, IsCaptureEntry, capture_is, HasCaptureEntry, capture_is_present, text_found, text_is, by_mark, later_same, not_true, position_at, position_none}
 use Rattle.warc_index.proofs.PassLemmas.{forward, back, IsReached, IsMissed, tested}
 
 -- ---- roles
@@ -127,7 +127,7 @@ mark_itself a = and_from (a.major == a.major) (a.minor == a.minor) (eq-eqb a.maj
 -- the capture that an entry of the target stands for
 pub record IsCaptureAt (all : List Indexed) (uri : List ℕ) (e : Entry) : Type 0 where
   pub it : Indexed
-  pub stands : slice_get all e.position ≡ Some it
+  pub is_present : slice_get all e.position ≡ Some it
   pub kind : is_capture it.kind ≡ true
   pub target : is_text uri it.target ≡ true
   pub instant : Instant
@@ -144,7 +144,7 @@ capture_at all uri e at text =
     let same : c.target ≡ uri = sym (ap (λ (f : Entry). f.text) c.is) ∙ text in
     record {
       it = w.it;
-      stands = ap (slice_get all) there ∙ w.stands;
+      is_present = ap (slice_get all) there ∙ w.is_present;
       kind = c.kind;
       target = text_is uri w.it.target (c.has_target ∙ ap Some same);
       instant = c.instant;
@@ -187,7 +187,7 @@ pair_from uri m r a b c = three (has_payload r.kind) (is_text uri r.target) (is_
 
 -- a record of the pair has its entry, which passes the test
 record HasPairEntry (all : List Indexed) (uri : List ℕ) (m : Instant) (p : ℕ) : Type 0 where
-  stands : Contains (entries_from capture_entry 0 all) (entry_of uri (instant_mark m) p)
+  is_present : Contains (entries_from capture_entry 0 all) (entry_of uri (instant_mark m) p)
   passes : pair_test (instant_mark m) (map link_of all) (instant_mark m) p ≡ true
 
 role_test : (all : List Indexed) (p : ℕ) (r : Indexed) → slice_get all p ≡ Some r →
@@ -199,12 +199,12 @@ has_pair_entry : (all : List Indexed) (uri : List ℕ) (m : Instant) (p : ℕ) (
     HasPairEntry all uri m p
 has_pair_entry all uri m p r timed at hit =
     let parts = pair_parts uri m r hit in
-    let h : HasCaptureEntry uri all p r = capture_stands all uri p r timed at (and_from (is_capture r.kind) (is_text
+    let h : HasCaptureEntry uri all p r = capture_is_present all uri p r timed at (and_from (is_capture r.kind) (is_text
     uri r.target) (payload_captures r.kind parts.0) parts.1) in
     let same : instant_mark h.instant ≡ instant_mark m = same_marks (instant_mark h.instant) (instant_mark m)
     (sym (ap (is_instant m) h.has_instant) ∙ parts.2) in
     record {
-      stands = subst (λ w. Contains (entries_from capture_entry 0 all) (entry_of uri w p)) same h.stands;
+      is_present = subst (λ w. Contains (entries_from capture_entry 0 all) (entry_of uri w p)) same h.is_present;
       passes = and_from (is_same_mark (instant_mark m) (instant_mark m)) (has_payload_as (link_at (map link_of all)
           p).role) (mark_itself (instant_mark m)) (role_test all p r at ∙ parts.0);
     }
@@ -239,13 +239,13 @@ found_pair all uri m i timed reached hit =
     e.position).role) hit in
     let w : IsCaptureAt all uri e = capture_at all uri e (entry_contained es i reached.within) reached.passes.text_is in
     let same : e.mark ≡ instant_mark m = same_marks e.mark (instant_mark m) both.0 in
-    position_at (is_of_pair (uri, m)) all e.position w.it w.stands
-    (pair_from uri m w.it (sym (role_test all e.position w.it w.stands) ∙ both.1) w.target
+    position_at (is_of_pair (uri, m)) all e.position w.it w.is_present
+    (pair_from uri m w.it (sym (role_test all e.position w.it w.is_present) ∙ both.1) w.target
     (ap (is_instant m) w.has_instant ∙ (ap (λ k. is_same_mark k (instant_mark m)) (sym w.mark) ∙ both.0)))
     (λ j r lt at. elim (cases_Bool (is_of_pair (uri, m) r)) [
       | inl yes1 ↦
           let h : HasPairEntry all uri m j = has_pair_entry all uri m j r timed at yes1 in
-          absurd (true≢false (sym h.passes ∙ reached.before (entry_of uri (instant_mark m) j) h.stands (record {
+          absurd (true≢false (sym h.passes ∙ reached.before (entry_of uri (instant_mark m) j) h.is_present (record {
             text_is = refl;
             from = mark_not_below (instant_mark m);
           }) (later_by_position uri e.text e.mark (instant_mark m) e.position j same lt)))
@@ -259,7 +259,7 @@ missed_pair all uri m timed missed =
     position_none (is_of_pair (uri, m)) all (λ j r at. elim (cases_Bool (is_of_pair (uri, m) r)) [
       | inl yes1 ↦
           let h : HasPairEntry all uri m j = has_pair_entry all uri m j r timed at yes1 in
-          absurd (true≢false (sym h.passes ∙ missed (entry_of uri (instant_mark m) j) h.stands (record {
+          absurd (true≢false (sym h.passes ∙ missed (entry_of uri (instant_mark m) j) h.is_present (record {
             text_is = refl;
             from = mark_not_below (instant_mark m);
           })))
@@ -355,7 +355,7 @@ of_four false b c d w x y z = absurd (true≢false (sym w))
 record HasCandidateEntry (all : List Indexed) (uri digest : List ℕ) (m : Instant) (p : ℕ) (r : Indexed) : Type 0 where
   instant : Instant
   has_instant : r.instant ≡ Some instant
-  stands : Contains (entries_from capture_entry 0 all) (entry_of uri (instant_mark instant) p)
+  is_present : Contains (entries_from capture_entry 0 all) (entry_of uri (instant_mark instant) p)
   up_to : IsUpTo uri (instant_mark m) (entry_of uri (instant_mark instant) p)
   passes : states_digest digest (link_at (map link_of all) p) ≡ true
 
@@ -365,12 +365,12 @@ has_candidate_entry : (all : List Indexed) (uri digest : List ℕ) (m : Instant)
 has_candidate_entry all uri digest m revisit p r timed is at hit =
     let parts = all_four (has_payload r.kind) (is_text uri r.target) (is_text digest r.payload_digest) (is_by (Some m)
     r) (sym (candidate_is uri digest m revisit r is) ∙ hit) in
-    let h : HasCaptureEntry uri all p r = capture_stands all uri p r timed at (and_from (is_capture r.kind) (is_text
+    let h : HasCaptureEntry uri all p r = capture_is_present all uri p r timed at (and_from (is_capture r.kind) (is_text
     uri r.target) (payload_captures r.kind parts.0) parts.1) in
     record {
       instant = h.instant;
       has_instant = h.has_instant;
-      stands = h.stands;
+      is_present = h.is_present;
       up_to = record {
         text_is = refl;
         up_to = not_true _ (sym (by_mark m r h.instant h.has_instant) ∙ parts.3);
@@ -389,12 +389,12 @@ found_payload all uri digest m revisit i timed is reached hit =
     let e : Entry = entry_at es i in
     let w : IsCaptureAt all uri e = capture_at all uri e (entry_contained es i reached.within) reached.passes.text_is in
     let both = and_parts (has_payload w.it.kind) (is_text digest w.it.payload_digest) (sym (digest_role all digest
-    e.position w.it w.stands) ∙ hit) in
+    e.position w.it w.is_present) ∙ hit) in
     let early : is_by (Some m) w.it ≡ true = by_mark m w.it w.instant w.has_instant
     ∙ (ap (λ k. not (mark_lt (instant_mark m) k)) (sym w.mark) ∙ ap not reached.passes.up_to) in
     ((latest_is_last (is_candidate revisit) all).0 e.position).1 (record {
       it = w.it;
-      stands = w.stands;
+      is_present = w.is_present;
       passes = candidate_is uri digest m revisit w.it is ∙ of_four (has_payload w.it.kind) (is_text uri w.it.target)
           (is_text digest w.it.payload_digest) (is_by (Some m) w.it) both.0 w.target both.1 early;
       last = λ q r at passes.
@@ -404,7 +404,7 @@ found_payload all uri digest m revisit i timed is reached hit =
           later_same e.position q w.it r e.text uri w.instant h.instant w.has_instant h.has_instant
           ∙ (ap (λ k. comes_later f (entry_of e.text k e.position)) (sym w.mark)
           ∙ elim (cases_Bool (comes_later f e)) [
-            | inl later ↦ absurd (true≢false (sym h.passes ∙ reached.before f h.stands h.up_to later))
+            | inl later ↦ absurd (true≢false (sym h.passes ∙ reached.before f h.is_present h.up_to later))
             | inr off ↦ off
           ]);
     })
@@ -418,7 +418,7 @@ missed_payload all uri digest m revisit timed is missed =
       | inl yes1 ↦
           let h : HasCandidateEntry all uri digest m q r = has_candidate_entry all uri digest m revisit q r timed is at
           yes1 in
-          absurd (true≢false (sym h.passes ∙ missed (entry_of uri (instant_mark h.instant) q) h.stands h.up_to))
+          absurd (true≢false (sym h.passes ∙ missed (entry_of uri (instant_mark h.instant) q) h.is_present h.up_to))
       | inr no1 ↦ no1
     ])
 
@@ -479,8 +479,8 @@ pub target_there : (all : List Indexed) (es : List Entry) (links : List Link) (p
     ArePlacedOf all es links → slice_get all p ≡ Some r → IsTextAt es p text → r.target ≡ Some text
 target_there all es links p text r placed at found =
     let w : IsCaptureAt all text found.entry = capture_at all text found.entry (subst (λ us. Contains us found.entry)
-    placed.captures found.stands) found.text_is in
-    let one : Some w.it ≡ Some r = sym w.stands ∙ (ap (slice_get all) found.has_position.position_is ∙ at) in
+    placed.captures found.is_present) found.text_is in
+    let one : Some w.it ≡ Some r = sym w.is_present ∙ (ap (slice_get all) found.has_position.position_is ∙ at) in
     let same : w.it ≡ r = (cc) in
     ap (λ (x : Indexed). x.target) (sym same) ∙ text_found text w.it.target w.target
 
@@ -493,10 +493,10 @@ none_without_entry all es links p r placed at kind none = none_without_target al
     by_target : (t : Option (List ℕ)) → r.target ≡ t → r.target ≡ None
     by_target None e = e
     by_target (Some t) e =
-        let h : HasCaptureEntry t all p r = capture_stands all t p r placed.timed at (and_from (is_capture r.kind)
+        let h : HasCaptureEntry t all p r = capture_is_present all t p r placed.timed at (and_from (is_capture r.kind)
         (is_text t r.target) kind (text_is t r.target e)) in
         let f : Entry = entry_of t (instant_mark h.instant) p in
-        absurd (none f (subst (λ us. Contains us f) (sym placed.captures) h.stands) (record { position_is = refl }))
+        absurd (none f (subst (λ us. Contains us f) (sym placed.captures) h.is_present) (record { position_is = refl }))
 
 -- by the role of what is kept
 abbrev pub instant_in : Mark → Instant

@@ -127,7 +127,7 @@ pub record IsStart (ahead : Entry → Entry → Bool) (es : List Entry) (Passes 
   pub first : (q : Entry) → Contains es q → Passes q → ahead q e ≡ false
 
 pub record IsStep (ahead : Entry → Entry → Bool) (es : List Entry) (e f : Entry) : Type 0 where
-  pub stands : Contains es f
+  pub is_present : Contains es f
   pub text : f.text ≡ e.text
   pub further : ahead e f ≡ true
   pub first : (q : Entry) → Contains es q → q.text ≡ e.text → ahead e q ≡ true → ahead q f ≡ false
@@ -270,7 +270,7 @@ back_starts es text mark test (Some found) within last none =
 
 forward_step : (es : List Entry) (e f : Entry) → IsFirst es (IsAfter e) f → IsStep forward es e f
 forward_step es e f first = record {
-  stands = first.stands;
+  is_present = first.is_present;
   text = first.passes.text_is;
   further = first.passes.later;
   first = λ q at t h. first.first q at (record { text_is = t; later = h });
@@ -278,7 +278,7 @@ forward_step es e f first = record {
 
 back_step : (es : List Entry) (e f : Entry) → IsLast es (IsBefore e) f → IsStep back es e f
 back_step es e f last = record {
-  stands = last.stands;
+  is_present = last.is_present;
   text = last.passes.text_is;
   further = last.passes.later;
   first = λ q at t h. last.last q at (record { text_is = t; later = h });
@@ -315,7 +315,7 @@ forward_left es i None first = omega arith
 forward_left es i (Some found) first =
     let e : Entry = entry_at es i in
     let less : ahead_of forward (entry_at es found.index) es < ahead_of forward e es = falls forward e.text (IsFrom
-    e.text e.mark) (forward_way e.text e.mark) e (entry_at es found.index) es first.stands first.passes.later in
+    e.text e.mark) (forward_way e.text e.mark) e (entry_at es found.index) es first.is_present first.passes.later in
     omega arith
 
 pub back_left : (es : List Entry) (i : ℕ) (o : Option FoundEntry) →
@@ -325,5 +325,5 @@ back_left es i None last = omega arith
 back_left es i (Some found) last =
     let e : Entry = entry_at es i in
     let less : ahead_of back (entry_at es found.index) es < ahead_of back e es = falls back e.text (IsUpTo e.text
-    e.mark) (back_way e.text e.mark) e (entry_at es found.index) es last.stands last.passes.later in
+    e.mark) (back_way e.text e.mark) e (entry_at es found.index) es last.is_present last.passes.later in
     omega arith

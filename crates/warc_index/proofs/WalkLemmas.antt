@@ -76,9 +76,9 @@ below next n p (suc k) q h stays e =
     option_and_then_some next (walk next p k) q e (λ x was goes. stays x q (below next n p k x h stays was) goes)
 
 -- before it ends it stands somewhere
-stands : (next : ℕ → Option ℕ) (p k m : ℕ) → k ≤ m → IsSome (walk next p m)
+is_present : (next : ℕ → Option ℕ) (p k m : ℕ) → k ≤ m → IsSome (walk next p m)
     → walk next p k ≡ Some (unwrap_or (walk next p k) 0)
-stands next p k m le on = by_case (walk next p k) refl
+is_present next p k m le on = by_case (walk next p k) refl
   where
     by_case : (o : Option ℕ) → walk next p k ≡ o → walk next p k ≡ Some (unwrap_or (walk next p k) 0)
     by_case None e = let gone : walk next p m ≡ None = ended next p k m le e in
@@ -90,7 +90,7 @@ pub comes_back : (n p : ℕ) (next : ℕ → Option ℕ) → p < n → StaysBelo
 comes_back n p next h stays on =
     let place : ℕ → ℕ = λ k. unwrap_or (walk next p k) 0 in
     let r : Repeats place n = pigeonhole n place (λ k le. below next n p k (place k) h stays
-    (stands next p k n le on)) in
+    (is_present next p k n le on)) in
     let o : r.early < r.late = r.order in
     let w : r.late ≤ n = r.within in
     record {
@@ -98,8 +98,8 @@ comes_back n p next h stays on =
       late = r.late;
       place = place r.early;
       order = r.order;
-      before = stands next p r.early n (omega arith) on;
-      again = stands next p r.late n (omega arith) on ∙ ap Some (sym r.same);
+      before = is_present next p r.early n (omega arith) on;
+      again = is_present next p r.late n (omega arith) on ∙ ap Some (sym r.same);
     }
 
 -- what two walks at one place do next is the same

@@ -88,10 +88,10 @@ no_capture : chosen_of (row (codes "request") (codes "1") (codes "2020") a [] �
 unfolding on_literals
 no_capture = refl
 
-earlier_stands_later : chosen_of (resource (codes "1") (codes "2021") [] ∷ resource (codes "2") (codes "2020") []
+earlier_is_present_later : chosen_of (resource (codes "1") (codes "2021") [] ∷ resource (codes "2") (codes "2020") []
     ∷ []) a (moment (codes "2022")) ≡ Ok 0
 unfolding on_literals
-earlier_stands_later = refl
+earlier_is_present_later = refl
 
 -- look-ups: a request isn't found by key, and a revisit not by pair
 abbrev mixed : List Indexed

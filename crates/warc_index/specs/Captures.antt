@@ -80,7 +80,7 @@ chosen_of all uri moment =
 -- the record at p passes, and none that passes is later
 pub record IsLatest (test : Indexed → Bool) (all : List Indexed) (p : ℕ) : Type 0 where
   pub it : Indexed
-  pub stands : slice_get all p ≡ Some it
+  pub is_present : slice_get all p ≡ Some it
   pub passes : IsTrue (test it)
   pub last : (q : ℕ) (r : Indexed) → slice_get all q ≡ Some r → IsTrue (test r) → IsFalse (is_later (q, r) (p, it))
 
@@ -101,7 +101,7 @@ LatestIsLast =
 -- the record at p is a capture of the target by the moment, and no such capture is later
 pub record IsChosen (all : List Indexed) (uri : List ℕ) (moment : Instant) (p : ℕ) : Type 0 where
   pub it : Indexed
-  pub stands : slice_get all p ≡ Some it
+  pub is_present : slice_get all p ≡ Some it
   pub capture : IsTrue (is_capture_of uri it)
   pub early : IsTrue (is_by (Some moment) it)
   pub last : (q : ℕ) (r : Indexed) → slice_get all q ≡ Some r → IsTrue (is_capture_of uri r)

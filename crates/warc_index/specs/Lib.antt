@@ -5,5 +5,5 @@ pub mod Referents
 pub mod Links
 pub mod Linked
 pub mod Orders
-pub mod Kept
+pub mod Addition
 pub mod Texts

@@ -61,11 +61,11 @@ states_digest digest l = states_as l.role && bytes_eq digest l.first
 abbrev pub at_start : ℕ → ℕ
 at_start i = 0
 
-abbrev pub told : Role → ℕ → Entry → Link
-told role middle e = link role (take middle e.text) (drop middle e.text) e.mark
+abbrev pub reported : Role → ℕ → Entry → Link
+reported role middle e = link role (take middle e.text) (drop middle e.text) e.mark
 
 abbrev pub links_in : List Role → List ℕ → List Entry → List Link
-links_in (role ∷ roles) (middle ∷ middles) (e ∷ es) = told role middle e ∷ links_in roles middles es
+links_in (role ∷ roles) (middle ∷ middles) (e ∷ es) = reported role middle e ∷ links_in roles middles es
 links_in _ _ _ = []
 
 -- there is the same number of each

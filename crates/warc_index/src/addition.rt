@@ -4,7 +4,7 @@ ghost use Rattle.std.specs.Prelude.{◌≡◌, ◌<◌, [], ◌∷◌, ◌++◌,
 ghost use Rattle.std.specs.Option.{option_to_list};
 ghost use Rattle.warc_record.specs.Seen.{said};
 ghost use Rattle.warc_index.specs.Captures.{indexed_of};
-ghost use Rattle.warc_index.specs.Kept.{IsPutOf, key_entry};
+ghost use Rattle.warc_index.specs.Addition.{IsPutOf, key_entry};
 ghost use Rattle.warc_index.specs.Links.{link_seen};
 
 use crate::key::{Key, capture_key, id_key};
@@ -17,17 +17,17 @@ use warc_record::Typed;
 /// What is kept of a record: its entry by id, its entry by target and instant if it is a capture with a target, and
 /// what leads from it to another record.
 #[derive(Clone, Copy)]
-pub(crate) struct Kept<'a> {
+pub(crate) struct Addition<'a> {
     pub(crate) id: Key<'a>,
     pub(crate) capture: Option<Key<'a>>,
     pub(crate) link: Link<'a>,
 }
 
 /// What is kept of a record whose head says this.
-pub(crate) fn kept_of<'t>(typed: &'t Typed<'_>) -> Kept<'t>
+pub(crate) fn kept_of<'t>(typed: &'t Typed<'_>) -> Addition<'t>
     ensures { IsPutOf (indexed_of (said typed.now)) result }
 {
-    Kept {
+    Addition {
         id: id_key(typed),
         capture: capture_key(typed),
         link: link_of(typed),
@@ -56,7 +56,7 @@ fn add_entries<O: EntryList>(
     by_id: &mut O,
     by_target: &mut O,
     position: usize,
-    kept: &Kept<'_>,
+    kept: &Addition<'_>,
 ) -> Result<(), AllocError>
     requires ids { All (λ e. e.position < position) (O.entries by_id.old) }
     requires captures { All (λ e. e.position < position) (O.entries by_target.old) }
@@ -84,7 +84,7 @@ pub(crate) fn add_record<O: EntryList, A: Allocator + Copy>(
     by_target: &mut O,
     links: &mut Links<A>,
     position: usize,
-    kept: &Kept<'_>,
+    kept: &Addition<'_>,
 ) -> Result<(), AllocError>
     requires ids { All (λ e. e.position < position) (O.entries by_id.old) }
     requires captures { All (λ e. e.position < position) (O.entries by_target.old) }

@@ -7,7 +7,7 @@ ghost use Rattle.std.specs.Option.{option_to_list};
 ghost use Rattle.warc_value.specs.Dates.{Instant};
 ghost use Rattle.warc_record.specs.Seen.{said};
 ghost use Rattle.warc_index.specs.declared.unfound.Unfound.TheVariants.{NoReference, Unresolved};
-ghost use Rattle.warc_index.specs.Kept.{IsPutOf};
+ghost use Rattle.warc_index.specs.Addition.{IsPutOf};
 ghost use Rattle.warc_index.specs.Captures.{AreCapturesOf, Indexed, indexed_of, is_capture, chosen_of};
 ghost use Rattle.warc_index.specs.Referents.{by_key, by_pair, by_payload, first_with, is_revisit_at};
 ghost use Rattle.warc_index.specs.Referents.{next_of, referent_of, origin_of};
@@ -16,7 +16,7 @@ ghost use Rattle.warc_index.specs.Linked.{instant_mark, revisit_link};
 ghost use Rattle.warc_index.specs.Orders.{IsIndexOf, IsBelow, id_entry, capture_entry, text_bytes};
 ghost use Rattle.warc_index.specs.Orders.{step_of};
 
-use crate::addition::{Kept, add_record, kept_of, truncate_all};
+use crate::addition::{Addition, add_record, kept_of, truncate_all};
 use crate::key::OTHERS;
 use crate::link::{FIRST, Link, Links, Role};
 use crate::linked::mark_at;
@@ -67,7 +67,7 @@ impl<O: HasEntries, A: Allocator> Model for RecordIndex<O, A> {
 
 impl<O: EntryList, A: Allocator + Copy> RecordIndex<O, A> {
     /// Adds what is kept of the next record. `Err`: no memory for it; then nothing changes.
-    fn put(&mut self, kept: &Kept<'_>) -> Result<(), AllocError>
+    fn put(&mut self, kept: &Addition<'_>) -> Result<(), AllocError>
         ensures ok { (all : List Indexed) (r : Indexed) → IsIndexOf all self.old → IsPutOf r kept.now →
             OnOk result (IsIndexOf (all ++ r ∷ []) self.new) }
         ensures err { OnErr result (self.new ≡ self.old) }

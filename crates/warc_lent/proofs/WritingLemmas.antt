@@ -36,14 +36,14 @@ never_read (outs.Memory sent) old new first last is = refl
 -- a front of a text went out, and no read failed
 cut_for : (text : List ℕ) (before after : Seen) (fault : OutFault) (problem : Problem) (sent : ℕ) → is_read fault ≡ false
     → problem ≡ problem_of_sent fault → sent ≡ sent_of fault → after.faults ≡ failed_with fault before.faults
-    → WentOut before.tells text after.tells (sent_of fault) → IsCutOffFor text before after problem sent
+    → WentOut before.reports text after.reports (sent_of fault) → IsCutOffFor text before after problem sent
 cut_for text before after fault problem sent unread why number failed out = record {
   fault = fault;
   unread = unread;
   problem_is = why;
   sent_is = number;
   failed = failed;
-  front = record { count = out.count; within = out.within; told = out.told; number = number ∙ out.number };
+  front = record { count = out.count; within = out.within; reported = out.reported; number = number ∙ out.number };
 }
 
 -- a write failed while a text was sent

@@ -37,12 +37,12 @@ pub record IsCutOffFor (text : List ℕ) (before after : Seen) (problem : Proble
   pub problem_is : problem ≡ problem_of_sent fault
   pub sent_is : sent ≡ sent_of fault
   pub failed : after.faults ≡ failed_with fault before.faults
-  pub front : WentOut before.tells text after.tells sent
+  pub front : WentOut before.reports text after.reports sent
 
 -- a text went out, or a front of it
 abbrev pub WritesText : List ℕ → Seen → Seen → Result (Unit {0}) Problem → ℕ → ℕ → Type 0
 WritesText text before after (Ok u) was sent =
-    (after.tells ≡ append_known before.tells text) × (after.faults ≡ before.faults) × (sent ≡ was)
+    (after.reports ≡ append_known before.reports text) × (after.faults ≡ before.faults) × (sent ≡ was)
 WritesText text before after (Err problem) was sent = IsCutOffFor text before after problem sent
 
 -- nothing was written, and this is why

@@ -229,8 +229,8 @@ pub slot_in_order : (es : List Entry) (ss : List Slot) (s : Slot) → IsOrderOf 
     IsSlotOf es (length es) s
 slot_in_order es ss s it c = All-contains (IsSlotOf es (length es)) ss s it.within c
 
-pub entry_stands : (es : List Entry) (i : ℕ) → i < length es → Contains es (entry_at es i)
-entry_stands es i h = (i, h, get_or_default es i (entry_at es i) no_entry h)
+pub entry_is_present : (es : List Entry) (i : ℕ) → i < length es → Contains es (entry_at es i)
+entry_is_present es i h = (i, h, get_or_default es i (entry_at es i) no_entry h)
 
 -- what holds of every entry that has a slot holds of every entry
 by_index : (es : List Entry) (P : Entry → Type 0) → ((k : ℕ) → k < length es → P (entry_at es k)) → (q : Entry) →
@@ -265,9 +265,9 @@ pub last_up_to : (es : List Entry) (ss : List Slot) (text : List ℕ) (mark : Ma
     IsLastOf (slot_order es) (λ f. is_le (key_cmp (key_at es f) (key_for text mark))) ss s →
     (entry_at es s.index).text ≡ text → IsLast es (IsUpTo text mark) (entry_at es s.index)
 last_up_to es ss text mark s it last same =
-    let here : IsSlotOf es (length es) s = slot_in_order es ss s it.order last.stands in
+    let here : IsSlotOf es (length es) s = slot_in_order es ss s it.order last.is_present in
     record {
-      stands = entry_stands es s.index here.index;
+      is_present = entry_is_present es s.index here.index;
       passes = record {
         text_is = same;
         up_to = not_true _ (sym (mark_le (entry_at es s.index).mark mark)
@@ -314,9 +314,9 @@ pub first_from : (es : List Entry) (ss : List Slot) (text : List ℕ) (mark : Ma
     IsFirstOf (slot_order es) (λ f. is_lt (key_cmp (key_at es f) (key_for text mark))) ss s →
     (entry_at es s.index).text ≡ text → IsFirst es (IsFrom text mark) (entry_at es s.index)
 first_from es ss text mark s it first same =
-    let here : IsSlotOf es (length es) s = slot_in_order es ss s it.order first.stands in
+    let here : IsSlotOf es (length es) s = slot_in_order es ss s it.order first.is_present in
     record {
-      stands = entry_stands es s.index here.index;
+      is_present = entry_is_present es s.index here.index;
       passes = record {
         text_is = same;
         from = sym (mark_less (entry_at es s.index).mark mark)
@@ -356,9 +356,9 @@ pub next_entry : (es : List Entry) (ss : List Slot) (i : ℕ) (s : Slot) → IsO
     IsFirstOf (slot_order es) (λ f. is_le (slot_order es f (slot_for es i))) ss s →
     (entry_at es s.index).text ≡ (entry_at es i).text → IsFirst es (IsAfter (entry_at es i)) (entry_at es s.index)
 next_entry es ss i s it h first same =
-    let here : IsSlotOf es (length es) s = slot_in_order es ss s it.order first.stands in
+    let here : IsSlotOf es (length es) s = slot_in_order es ss s it.order first.is_present in
     record {
-      stands = entry_stands es s.index here.index;
+      is_present = entry_is_present es s.index here.index;
       passes = record {
         text_is = same;
         later = sym (later_is es s (slot_for es i) it.growing here (one_slot es i h)
@@ -399,9 +399,9 @@ pub previous_entry : (es : List Entry) (ss : List Slot) (i : ℕ) (s : Slot) →
     IsLastOf (slot_order es) (λ f. is_lt (slot_order es f (slot_for es i))) ss s →
     (entry_at es s.index).text ≡ (entry_at es i).text → IsLast es (IsBefore (entry_at es i)) (entry_at es s.index)
 previous_entry es ss i s it h last same =
-    let here : IsSlotOf es (length es) s = slot_in_order es ss s it.order last.stands in
+    let here : IsSlotOf es (length es) s = slot_in_order es ss s it.order last.is_present in
     record {
-      stands = entry_stands es s.index here.index;
+      is_present = entry_is_present es s.index here.index;
       passes = record {
         text_is = same;
         later = sym (later_is es (slot_for es i) s it.growing (one_slot es i h) here

@@ -128,7 +128,7 @@ All-placed compare P [] q all one = All-cons P q [] one all
 All-placed compare P (x ∷ xs) q all one = elim (cases_Bool (is_lt (compare x q))) [
   | inl before ↦ rw before (All-cons P x (placed compare xs q) (All-head P x xs all) (All-placed compare P xs q
       (All-tail P x xs all) one))
-  | inr behind ↦ rw behind (All-cons P q (x ∷ xs) one all)
+  | inr following ↦ rw following (All-cons P q (x ∷ xs) one all)
 ]
 
 -- they stay in the order
@@ -141,9 +141,9 @@ ranked_placed compare total (x ∷ xs) q ranked = elim (cases_Bool (is_lt (compa
       (All-placed compare (λ y. is_gt (compare x y) ≡ false) xs q (ranked_head compare x xs ranked) (not_both (compare
       x q) before))
       (ranked_placed compare total xs q (ranked_tail compare x xs ranked)))
-  | inr behind ↦
-      let first : is_gt (compare q x) ≡ false = sym (lt_is_gt compare total x q) ∙ behind in
-      rw behind (AllPairs-cons (λ a b. is_gt (compare a b) ≡ false) q (x ∷ xs)
+  | inr following ↦
+      let first : is_gt (compare q x) ≡ false = sym (lt_is_gt compare total x q) ∙ following in
+      rw following (AllPairs-cons (λ a b. is_gt (compare a b) ≡ false) q (x ∷ xs)
       (All-cons (λ y. is_gt (compare q y) ≡ false) x xs first (All-weaker (λ y. is_gt (compare x y) ≡ false) (λ y.
       is_gt (compare q y) ≡ false) (λ y h. upto total q x y first h) xs (ranked_head compare x xs ranked)))
       ranked)
@@ -158,7 +158,7 @@ placed_members compare (x ∷ xs) q = elim (cases_Bool (is_lt (compare x q))) [
       rw before (IsPermutation-trans (q ∷ x ∷ xs) (x ∷ q ∷ xs) (x ∷ placed compare xs q)
       (IsPermutation-sym (x ∷ q ∷ xs) (q ∷ x ∷ xs) (IsPermutation-middle (x ∷ []) q xs))
       (IsPermutation-cons x (q ∷ xs) (placed compare xs q) (placed_members compare xs q)))
-  | inr behind ↦ rw behind (IsPermutation-refl (q ∷ x ∷ xs))
+  | inr following ↦ rw following (IsPermutation-refl (q ∷ x ∷ xs))
 ]
 
 -- ---- what is found
@@ -184,7 +184,7 @@ contains_tail x xs q (k, lt, e) = (suc k, omega arith, e)
 first_at_head : (compare : Slot → Slot → Ordering) → IsTotalOrder compare → (t : Slot →
     Bool) (x : Slot) (xs : List Slot) → IsRanked compare (x ∷ xs) → t x ≡ false → IsFirstOf compare t (x ∷ xs) x
 first_at_head compare total t x xs ranked miss = record {
-  stands = contains_head x xs;
+  is_present = contains_head x xs;
   fails = miss;
   first = λ q c f. elim (contains_cons x xs q c) [
     | inl e ↦ ap (λ r. is_gt (compare x r)) (sym e) ∙ not_itself compare total x
@@ -192,10 +192,10 @@ first_at_head compare total t x xs ranked miss = record {
   ];
 }
 
-first_behind : (compare : Slot → Slot → Ordering) (t : Slot → Bool) (x : Slot) (xs : List Slot) (p : Slot) →
+first_after : (compare : Slot → Slot → Ordering) (t : Slot → Bool) (x : Slot) (xs : List Slot) (p : Slot) →
     t x ≡ true → IsFirstOf compare t xs p → IsFirstOf compare t (x ∷ xs) p
-first_behind compare t x xs p hit it = record {
-  stands = contains_tail x xs p it.stands;
+first_after compare t x xs p hit it = record {
+  is_present = contains_tail x xs p it.is_present;
   fails = it.fails;
   first = λ q c f. elim (contains_cons x xs q c) [
     | inl e ↦ absurd (true≢false (sym hit ∙ (ap t e ∙ f)))
@@ -210,7 +210,7 @@ first_found compare total t (x ∷ xs) ranked p e = elim (cases_Bool (t x)) [
   | inl hit ↦
       let f : find (λ x. not (t x)) xs ≡ Some p = sym (ap (λ b. cond (not b) (Some x) (find (λ x. not (t x)) xs)) hit)
       ∙ e in
-      first_behind compare t x xs p hit (first_found compare total t xs (ranked_tail compare x xs ranked) p f)
+      first_after compare t x xs p hit (first_found compare total t xs (ranked_tail compare x xs ranked) p f)
   | inr miss ↦
       let f : Some x ≡ Some p = sym (ap (λ b. cond (not b) (Some x) (find (λ x. not (t x)) xs)) miss) ∙ e in
       let same : x ≡ p = (cc) in
@@ -236,7 +236,7 @@ last_with : (compare : Slot → Slot → Ordering) → IsTotalOrder compare → 
 last_with compare total t f [] ranked hit p e =
     let same : f ≡ p = (cc) in
     subst (IsLastOf compare t (f ∷ [])) same record {
-      stands = contains_head f [];
+      is_present = contains_head f [];
       passes = hit;
       last = λ q c g. elim (contains_cons f [] q c) [
         | inl e ↦ ap (λ r. is_gt (compare r f)) (sym e) ∙ not_itself compare total f
@@ -249,11 +249,11 @@ last_with compare total t f (x ∷ xs) ranked hit p e = elim (cases_Bool (t x)) 
       let it : IsLastOf compare t (x ∷ xs) p = last_with compare total t x xs (ranked_tail compare f (x ∷ xs) ranked)
       more p g in
       record {
-        stands = contains_tail f (x ∷ xs) p it.stands;
+        is_present = contains_tail f (x ∷ xs) p it.is_present;
         passes = it.passes;
         last = λ q c h. elim (contains_cons f (x ∷ xs) q c) [
           | inl e ↦ ap (λ r. is_gt (compare r p)) (sym e) ∙ All-contains (λ y. is_gt (compare f y) ≡ false) (x ∷ xs) p
-              (ranked_head compare f (x ∷ xs) ranked) it.stands
+              (ranked_head compare f (x ∷ xs) ranked) it.is_present
           | inr c' ↦ it.last q c' h
         ];
       }
@@ -264,7 +264,7 @@ last_with compare total t f (x ∷ xs) ranked hit p e = elim (cases_Bool (t x)) 
       (ranked_head compare f (x ∷ xs) ranked)) (ranked_tail compare x xs (ranked_tail compare f (x ∷ xs) ranked)) in
       let it : IsLastOf compare t (f ∷ xs) p = last_with compare total t f xs fewer hit p g in
       record {
-        stands = elim (contains_cons f xs p it.stands) [
+        is_present = elim (contains_cons f xs p it.is_present) [
           | inl e ↦ subst (Contains (f ∷ x ∷ xs)) e (contains_head f (x ∷ xs))
           | inr c ↦ contains_tail f (x ∷ xs) p (contains_tail x xs p c)
         ];
@@ -290,7 +290,7 @@ last_found compare total t (x ∷ xs) ranked p e = elim (cases_Bool (t x)) [
       let g : find_last t xs ≡ Some p = sym (ap (λ b. last_from t (cond b (Some x) None) xs) miss) ∙ e in
       let it : IsLastOf compare t xs p = last_found compare total t xs (ranked_tail compare x xs ranked) p g in
       record {
-        stands = contains_tail x xs p it.stands;
+        is_present = contains_tail x xs p it.is_present;
         passes = it.passes;
         last = λ q c h. elim (contains_cons x xs q c) [
           | inl e ↦ absurd (true≢false (sym h ∙ (ap t (sym e) ∙ miss)))

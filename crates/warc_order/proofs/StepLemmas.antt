@@ -7,7 +7,7 @@ use Rattle.std.specs.Ordering.{is_lt, is_gt, is_le}
 use Rattle.std.specs.declared.cmp.Ordering.{Ordering}
 use Rattle.std.specs.declared.cmp.Ordering.TheVariants.{Less, Equal, Greater}
 use Rattle.warc_order.specs.declared.slot.Slot.{Slot}
-use Rattle.warc_order.specs.declared.ranked.Standing.{Standing}
+use Rattle.warc_order.specs.declared.ranked.PlacedSlot.{PlacedSlot}
 use Rattle.std.proofs.lemmas.List.{get_or_default}
 use Rattle.warc_order.specs.Ranking.{blank, flattened, start_of, IsRanked, IsStrict, IsFirstOf, IsLastOf, find_last, before_in, slot_in}
 use Rattle.warc_order.proofs.BlockLemmas.{at_place, start_of-more, start_of-within}
@@ -37,10 +37,10 @@ pub ranked_of_strict : (compare : Slot → Slot → Ordering) (xs : List Slot) �
 ranked_of_strict compare xs strict i j d h k = lt_not_gt _ (strict i j d h k)
 
 -- the test of not coming behind the p-th ends behind it
-pub ends_behind : (compare : Slot → Slot → Ordering) → IsTotalOrder compare → (xs : List Slot) (p : ℕ) (s : Slot) →
+pub ends_after : (compare : Slot → Slot → Ordering) → IsTotalOrder compare → (xs : List Slot) (p : ℕ) (s : Slot) →
     IsStrict compare xs → p < length xs → ((d : Slot) → get_or xs p d ≡ s) →
     EndsAt (λ q. is_le (compare q s)) xs (p + 1)
-ends_behind compare total xs p s strict lt is = (
+ends_after compare total xs p s strict lt is = (
   λ k d low h. elim (cases_lt k p) [
     | inl less ↦ ap (λ x. is_le (compare (get_or xs k d) x)) (sym (is d)) ∙ lt_le _ (strict k p d less lt)
     | inr same ↦
@@ -73,33 +73,33 @@ before_is xs (suc c) = refl
 
 -- ---- as clauses
 
-pub some_first : (t : Slot → Bool) (xs : List Slot) (r : Option Standing) → slot_in r ≡ find (λ x. not (t x)) xs →
+pub some_first : (t : Slot → Bool) (xs : List Slot) (r : Option PlacedSlot) → slot_in r ≡ find (λ x. not (t x)) xs →
     (compare : Slot → Slot → Ordering) → IsTotalOrder compare → IsRanked compare xs →
     IfSome r (λ s. IsFirstOf compare t xs s.slot)
 some_first t xs None e compare total ranked = tt
 some_first t xs (Some p) e compare total ranked = first_found compare total t xs ranked p.slot (sym e)
 
-pub none_first : (t : Slot → Bool) (xs : List Slot) (r : Option Standing) → slot_in r ≡ find (λ x. not (t x)) xs →
+pub none_first : (t : Slot → Bool) (xs : List Slot) (r : Option PlacedSlot) → slot_in r ≡ find (λ x. not (t x)) xs →
     IfNone r (All (λ x. t x ≡ true) xs)
 none_first t xs None e = none_found t xs (sym e)
 none_first t xs (Some p) e = tt
 
-pub some_last : (t : Slot → Bool) (xs : List Slot) (r : Option Standing) → slot_in r ≡ find_last t xs →
+pub some_last : (t : Slot → Bool) (xs : List Slot) (r : Option PlacedSlot) → slot_in r ≡ find_last t xs →
     (compare : Slot → Slot → Ordering) → IsTotalOrder compare → IsRanked compare xs →
     IfSome r (λ s. IsLastOf compare t xs s.slot)
 some_last t xs None e compare total ranked = tt
 some_last t xs (Some p) e compare total ranked = last_found compare total t xs ranked p.slot (sym e)
 
-pub none_past : (t : Slot → Bool) (xs : List Slot) (r : Option Standing) → slot_in r ≡ find_last t xs →
+pub none_past : (t : Slot → Bool) (xs : List Slot) (r : Option PlacedSlot) → slot_in r ≡ find_last t xs →
     IfNone r (All (λ x. t x ≡ false) xs)
 none_past t xs None e = none_last t xs (sym e)
 none_past t xs (Some p) e = tt
 
 -- ---- places
 
-pub stands_there : (ls : List (List Slot)) (b o : ℕ) (s : Slot) → b < length ls → o < length (get_or ls b []) →
+pub is_present_there : (ls : List (List Slot)) (b o : ℕ) (s : Slot) → b < length ls → o < length (get_or ls b []) →
     get_or (get_or ls b []) o blank ≡ s → (d : Slot) → get_or (flattened ls) (start_of ls b + o) d ≡ s
-stands_there ls b o s h k is d = at_place ls b o d h k ∙ (get_or_default (get_or ls b []) o d blank k ∙ is)
+is_present_there ls b o s h k is d = at_place ls b o d h k ∙ (get_or_default (get_or ls b []) o d blank k ∙ is)
 
 pub place_inside : (ls : List (List Slot)) (b o : ℕ) → b < length ls → o < length (get_or ls b []) →
     start_of ls b + o < length (flattened ls)
@@ -126,7 +126,7 @@ pub next_found : (compare : Slot → Slot → Ordering) → IsTotalOrder compare
 next_found compare total ls b o s strict h k is =
     ap (slice_get (flattened ls)) (omega arith)
     ∙ sym (find-end (λ p. is_le (compare p s)) (flattened ls) ((start_of ls b + o) + 1)
-    (ends_behind compare total (flattened ls) (start_of ls b + o) s strict (place_inside ls b o h k) (stands_there ls b o
+    (ends_after compare total (flattened ls) (start_of ls b + o) s strict (place_inside ls b o h k) (is_present_there ls b o
     s h k is)))
 
 pub previous_found : (compare : Slot → Slot → Ordering) → IsTotalOrder compare →
@@ -136,5 +136,5 @@ pub previous_found : (compare : Slot → Slot → Ordering) → IsTotalOrder com
 previous_found compare total ls b o s strict h k is =
     let lt : start_of ls b + o < length (flattened ls) = place_inside ls b o h k in
     sym (last_from-end (λ p. is_lt (compare p s)) None (flattened ls) (start_of ls b + o) (omega arith)
-    (ends_before compare total (flattened ls) (start_of ls b + o) s strict lt (stands_there ls b o s h k is))
+    (ends_before compare total (flattened ls) (start_of ls b + o) s strict lt (is_present_there ls b o s h k is))
     ∙ before_is (flattened ls) (start_of ls b + o))

@@ -47,13 +47,13 @@ pub record IsBefore (one e : Entry) : Type 0 where
 
 -- an entry that passes and is later than no other that does
 pub record IsFirst (es : List Entry) (Passes : Entry → Type 0) (e : Entry) : Type 0 where
-  pub stands : Contains es e
+  pub is_present : Contains es e
   pub passes : Passes e
   pub first : (q : Entry) → Contains es q → Passes q → comes_later e q ≡ false
 
 -- an entry that passes, and no other that does is later
 pub record IsLast (es : List Entry) (Passes : Entry → Type 0) (e : Entry) : Type 0 where
-  pub stands : Contains es e
+  pub is_present : Contains es e
   pub passes : Passes e
   pub last : (q : Entry) → Contains es q → Passes q → comes_later q e ≡ false
 
@@ -64,7 +64,7 @@ pub record HasPosition (position : ℕ) (e : Entry) : Type 0 where
 -- the text of an entry of a position
 pub record IsTextAt (es : List Entry) (position : ℕ) (text : List ℕ) : Type 0 where
   pub entry : Entry
-  pub stands : Contains es entry
+  pub is_present : Contains es entry
   pub has_position : HasPosition position entry
   pub text_is : entry.text ≡ text
 

@@ -4,7 +4,7 @@ use Rattle.std.specs.List.{AllPairs, Contains}
 use Rattle.std.specs.Ordering.{is_lt, is_gt}
 use Rattle.std.specs.declared.cmp.Ordering.{Ordering}
 use Rattle.warc_order.specs.declared.slot.Slot.{Slot}
-use Rattle.warc_order.specs.declared.ranked.Standing.{Standing}
+use Rattle.warc_order.specs.declared.ranked.PlacedSlot.{PlacedSlot}
 
 -- the slot past the end of a list
 abbrev pub blank : Slot
@@ -43,19 +43,19 @@ before_in xs zero = None
 before_in xs (suc c) = slice_get xs c
 
 -- the slot at a place
-abbrev pub slot_in : Option Standing → Option Slot
+abbrev pub slot_in : Option PlacedSlot → Option Slot
 slot_in None = None
-slot_in (Some standing) = Some standing.slot
+slot_in (Some held) = Some held.slot
 
 -- p fails a test, and none that fails compares less
 pub record IsFirstOf (compare : Slot → Slot → Ordering) (test : Slot → Bool) (xs : List Slot) (p : Slot) : Type 0 where
-  pub stands : Contains xs p
+  pub is_present : Contains xs p
   pub fails : test p ≡ false
   pub first : (q : Slot) → Contains xs q → test q ≡ false → is_gt (compare p q) ≡ false
 
 -- p passes a test, and none that passes compares greater
 pub record IsLastOf (compare : Slot → Slot → Ordering) (test : Slot → Bool) (xs : List Slot) (p : Slot) : Type 0 where
-  pub stands : Contains xs p
+  pub is_present : Contains xs p
   pub passes : test p ≡ true
   pub last : (q : Slot) → Contains xs q → test q ≡ true → is_gt (compare q p) ≡ false
 

@@ -42,7 +42,7 @@ pub use entries::Entries;
 pub use entry_list::{EntryList, HasEntries};
 pub use lookup::narrow;
 pub use mark::Mark;
-use ranked::{Place, Ranked};
+use ranked::{Ranked, SlotPlace};
 use std::alloc::{AllocError, Allocator, Global};
 use std::marker::Model;
 use unsorted::Waiting;
@@ -52,7 +52,7 @@ use unsorted::Waiting;
 #[derive(Clone, Copy, Debug)]
 pub struct FoundEntry {
     pub index: u32,
-    place: Place,
+    place: SlotPlace,
 }
 
 /// Entries that wait to be put in order.

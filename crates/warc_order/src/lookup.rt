@@ -12,7 +12,7 @@ use crate::compare::{Below, ByText, NotAbove};
 use crate::entries::Entries;
 use crate::hash::hash_of;
 use crate::mark::Mark;
-use crate::ranked::{Place, Ranked, Standing};
+use crate::ranked::{PlacedSlot, Ranked, SlotPlace};
 use crate::slot::Slot;
 use crate::unsorted::Waiting;
 use std::alloc::{AllocError, Allocator};
@@ -40,12 +40,12 @@ pub(crate) fn slot_of<A: Allocator + Copy>(entries: &Entries<A>, index: u32) -> 
 }
 
 /// What was found, as callers see it.
-fn found_at(standing: Standing) -> FoundEntry
-    ensures { result.index ≡ standing.slot.index }
+fn found_at(held: PlacedSlot) -> FoundEntry
+    ensures { result.index ≡ held.slot.index }
 {
     FoundEntry {
-        index: standing.slot.index,
-        place: standing.place,
+        index: held.slot.index,
+        place: held.place,
     }
 }
 
@@ -127,7 +127,7 @@ pub(crate) fn next<A: Allocator + Copy>(
     entries: &Entries<A>,
     ranked: &Ranked<A>,
     index: u32,
-    place: Place,
+    place: SlotPlace,
 ) -> Option<FoundEntry>
     requires order { IsOrdered entries.now ranked.now.list }
     requires index { index < length entries.now }
@@ -149,7 +149,7 @@ pub(crate) fn previous<A: Allocator + Copy>(
     entries: &Entries<A>,
     ranked: &Ranked<A>,
     index: u32,
-    place: Place,
+    place: SlotPlace,
 ) -> Option<FoundEntry>
     requires order { IsOrdered entries.now ranked.now.list }
     requires index { index < length entries.now }

@@ -111,32 +111,32 @@ fn cut_blocks<T: SlotTest, A: Allocator>(blocks: &[Block<A>], test: &T) -> usize
 
 /// A place between slots: before the one at an offset of a block, or at the block's end.
 #[derive(Clone, Copy, Debug)]
-pub(crate) struct Place {
+pub(crate) struct SlotPlace {
     block: usize,
     offset: usize,
 }
 
 /// A slot and its place: the place before it.
 #[derive(Clone, Copy, Debug)]
-pub(crate) struct Standing {
+pub(crate) struct PlacedSlot {
     pub(crate) slot: Slot,
-    pub(crate) place: Place,
+    pub(crate) place: SlotPlace,
 }
 
 /// The slot at an offset of a block.
-fn standing_at<A: Allocator>(blocks: &[Block<A>], block: usize, offset: usize) -> Standing
+fn slot_at<A: Allocator>(blocks: &[Block<A>], block: usize, offset: usize) -> PlacedSlot
     requires block { block < length blocks.now }
     requires offset { offset < length (slice_index_or (lists_of blocks.now) block []) }
     ensures { result.slot ≡ slice_index_or (slice_index_or (lists_of blocks.now) block []) offset blank }
 {
-    Standing {
+    PlacedSlot {
         slot: at(blocks, block, offset),
-        place: Place { block, offset },
+        place: SlotPlace { block, offset },
     }
 }
 
 /// The slot after a place.
-fn slot_behind<A: Allocator>(blocks: &[Block<A>], place: Place) -> Option<Standing>
+fn next_slot<A: Allocator>(blocks: &[Block<A>], place: SlotPlace) -> Option<PlacedSlot>
     requires blocks { All HoldsSome blocks.now }
     requires block { place.block < length blocks.now }
     requires within { place.offset ≤ length (slice_index_or (lists_of blocks.now) place.block []) }
@@ -144,16 +144,16 @@ fn slot_behind<A: Allocator>(blocks: &[Block<A>], place: Place) -> Option<Standi
         (lists_of blocks.now) place.block + place.offset) }
 {
     if place.offset < length_of(blocks, place.block) {
-        Some(standing_at(blocks, place.block, place.offset))
+        Some(slot_at(blocks, place.block, place.offset))
     } else if place.block + 1 < blocks.len() {
-        Some(standing_at(blocks, place.block + 1, 0))
+        Some(slot_at(blocks, place.block + 1, 0))
     } else {
         None
     }
 }
 
 /// The slot before a place.
-fn slot_before<A: Allocator>(blocks: &[Block<A>], place: Place) -> Option<Standing>
+fn slot_before<A: Allocator>(blocks: &[Block<A>], place: SlotPlace) -> Option<PlacedSlot>
     requires blocks { All HoldsSome blocks.now }
     requires block { place.block < length blocks.now }
     requires within { place.offset ≤ length (slice_index_or (lists_of blocks.now) place.block []) }
@@ -161,18 +161,18 @@ fn slot_before<A: Allocator>(blocks: &[Block<A>], place: Place) -> Option<Standi
         (lists_of blocks.now) place.block + place.offset) }
 {
     if place.offset > 0 {
-        Some(standing_at(blocks, place.block, place.offset - 1))
+        Some(slot_at(blocks, place.block, place.offset - 1))
     } else if place.block > 0 {
         let block = place.block - 1;
         let offset = length_of(blocks, block) - 1;
-        Some(standing_at(blocks, block, offset))
+        Some(slot_at(blocks, block, offset))
     } else {
         None
     }
 }
 
 /// Whether there is a slot after a place.
-fn stands_at<A: Allocator>(blocks: &[Block<A>], place: Place, slot: Slot) -> bool
+fn is_slot_at<A: Allocator>(blocks: &[Block<A>], place: SlotPlace, slot: Slot) -> bool
     ensures block { IsTrue result → place.block < length blocks.now }
     ensures offset { IsTrue result → place.offset < length (slice_index_or (lists_of blocks.now) place.block []) }
     ensures fits { IsTrue result → place.offset + 1 < 2 ^ 64 }
@@ -185,7 +185,7 @@ fn stands_at<A: Allocator>(blocks: &[Block<A>], place: Place, slot: Slot) -> boo
 }
 
 /// The place where the indices that pass end.
-fn find_place<T: SlotTest, A: Allocator>(blocks: &[Block<A>], test: &T) -> Place
+fn find_place<T: SlotTest, A: Allocator>(blocks: &[Block<A>], test: &T) -> SlotPlace
     requires any { 0 < length blocks.now }
     requires blocks { All HoldsSome blocks.now }
     requires order { IsPartitionedBy (T.passes test.now) (flattened (lists_of blocks.now)) }
@@ -198,11 +198,11 @@ fn find_place<T: SlotTest, A: Allocator>(blocks: &[Block<A>], test: &T) -> Place
     let count = cut_blocks(blocks, test);
     let block = count.saturating_sub(1);
     let offset = cut_within(blocks, block, test);
-    Place { block, offset }
+    SlotPlace { block, offset }
 }
 
 /// The first slot that fails a test.
-fn first_in<T: SlotTest, A: Allocator>(blocks: &[Block<A>], test: &T) -> Option<Standing>
+fn first_in<T: SlotTest, A: Allocator>(blocks: &[Block<A>], test: &T) -> Option<PlacedSlot>
     requires blocks { All HoldsSome blocks.now }
     requires order { IsPartitionedBy (T.passes test.now) (flattened (lists_of blocks.now)) }
     ensures { slot_in result ≡ find (λ p. not (T.passes test.now p)) (flattened (lists_of blocks.now)) }
@@ -211,11 +211,11 @@ fn first_in<T: SlotTest, A: Allocator>(blocks: &[Block<A>], test: &T) -> Option<
         return None;
     }
     let place = find_place(blocks, test);
-    slot_behind(blocks, place)
+    next_slot(blocks, place)
 }
 
 /// The last slot that passes a test.
-fn last_in<T: SlotTest, A: Allocator>(blocks: &[Block<A>], test: &T) -> Option<Standing>
+fn last_in<T: SlotTest, A: Allocator>(blocks: &[Block<A>], test: &T) -> Option<PlacedSlot>
     requires blocks { All HoldsSome blocks.now }
     requires order { IsPartitionedBy (T.passes test.now) (flattened (lists_of blocks.now)) }
     ensures { slot_in result ≡ find_last (T.passes test.now) (flattened (lists_of blocks.now)) }
@@ -232,18 +232,18 @@ fn next_in<O: SlotOrder, A: Allocator>(
     blocks: &[Block<A>],
     order: &O,
     slot: Slot,
-    place: Place,
-) -> Option<Standing>
+    place: SlotPlace,
+) -> Option<PlacedSlot>
     requires blocks { All HoldsSome blocks.now }
     requires strict { IsStrict (O.compare order.now) (flattened (lists_of blocks.now)) }
     ensures { slot_in result ≡ find (λ p. not (is_le (O.compare order.now p slot))) (flattened (lists_of blocks.now)) }
 {
-    if stands_at(blocks, place, slot) {
-        let behind = Place {
+    if is_slot_at(blocks, place, slot) {
+        let following = SlotPlace {
             block: place.block,
             offset: place.offset + 1,
         };
-        slot_behind(blocks, behind)
+        next_slot(blocks, following)
     } else {
         let test = UpTo { order, slot };
         first_in(blocks, &test)
@@ -255,13 +255,13 @@ fn previous_in<O: SlotOrder, A: Allocator>(
     blocks: &[Block<A>],
     order: &O,
     slot: Slot,
-    place: Place,
-) -> Option<Standing>
+    place: SlotPlace,
+) -> Option<PlacedSlot>
     requires blocks { All HoldsSome blocks.now }
     requires strict { IsStrict (O.compare order.now) (flattened (lists_of blocks.now)) }
     ensures { slot_in result ≡ find_last (λ p. is_lt (O.compare order.now p slot)) (flattened (lists_of blocks.now)) }
 {
-    if stands_at(blocks, place, slot) {
+    if is_slot_at(blocks, place, slot) {
         slot_before(blocks, place)
     } else {
         let test = Before { order, slot };
@@ -283,7 +283,7 @@ fn middle_of(last: bool, offset: usize) -> usize
 /// Puts an index at a place. A block that is full then is cut in two.
 fn insert_at<A: Allocator + Copy>(
     blocks: &mut Vec<Block<A>, A>,
-    place: Place,
+    place: SlotPlace,
     slot: Slot,
     spare: &mut Block<A>,
 )
@@ -315,7 +315,7 @@ fn insert_at<A: Allocator + Copy>(
 }
 
 /// The place where an index goes: after those that come before it.
-fn place_for<O: SlotOrder, A: Allocator>(blocks: &[Block<A>], order: &O, slot: Slot) -> Place
+fn place_for<O: SlotOrder, A: Allocator>(blocks: &[Block<A>], order: &O, slot: Slot) -> SlotPlace
     requires any { 0 < length blocks.now }
     requires blocks { All HoldsSome blocks.now }
     requires ranked { IsRanked (O.compare order.now) (flattened (lists_of blocks.now)) }
@@ -519,7 +519,7 @@ impl<A: Allocator + Copy> Ranked<A> {
     }
 
     /// The first slot that fails a test, which those after it fail too.
-    pub fn first_failing<T: SlotTest>(&self, test: &T) -> Option<Standing>
+    pub fn first_failing<T: SlotTest>(&self, test: &T) -> Option<PlacedSlot>
         requires { IsPartitionedBy (T.passes test.now) self.now.list }
         ensures some { (compare : Slot → Slot → Ordering) → IsTotalOrder compare → IsRanked compare self.now.list →
             IfSome result (λ s. IsFirstOf compare (T.passes test.now) self.now.list s.slot) }
@@ -529,7 +529,7 @@ impl<A: Allocator + Copy> Ranked<A> {
     }
 
     /// The last slot that passes a test, which those before it pass too.
-    pub fn last_passing<T: SlotTest>(&self, test: &T) -> Option<Standing>
+    pub fn last_passing<T: SlotTest>(&self, test: &T) -> Option<PlacedSlot>
         requires { IsPartitionedBy (T.passes test.now) self.now.list }
         ensures some { (compare : Slot → Slot → Ordering) → IsTotalOrder compare → IsRanked compare self.now.list →
             IfSome result (λ s. IsLastOf compare (T.passes test.now) self.now.list s.slot) }
@@ -539,7 +539,12 @@ impl<A: Allocator + Copy> Ranked<A> {
     }
 
     /// The first slot that is after one in the order.
-    pub fn next_after<O: SlotOrder>(&self, order: &O, slot: Slot, place: Place) -> Option<Standing>
+    pub fn next_after<O: SlotOrder>(
+        &self,
+        order: &O,
+        slot: Slot,
+        place: SlotPlace,
+    ) -> Option<PlacedSlot>
         requires { IsStrict (O.compare order.now) self.now.list }
         ensures some { IfSome result (λ s. IsFirstOf (O.compare order.now) (λ p. is_le
             (O.compare order.now p slot)) self.now.list s.slot) }
@@ -549,7 +554,12 @@ impl<A: Allocator + Copy> Ranked<A> {
     }
 
     /// The last slot that is before one in the order.
-    pub fn last_before<O: SlotOrder>(&self, order: &O, slot: Slot, place: Place) -> Option<Standing>
+    pub fn last_before<O: SlotOrder>(
+        &self,
+        order: &O,
+        slot: Slot,
+        place: SlotPlace,
+    ) -> Option<PlacedSlot>
         requires { IsStrict (O.compare order.now) self.now.list }
         ensures some { IfSome result (λ s. IsLastOf (O.compare order.now) (λ p. is_lt
             (O.compare order.now p slot)) self.now.list s.slot) }

@@ -27,8 +27,8 @@ handle_val p b = vstruct (vcons (ptr_val p) (vcons (vbool b) vnil))
 abbrev pub handle_fields : Ptr → Bool → List Val → Fml
 handle_fields p b = (Struct (record { name = []; args = []; types = []; fields = RawPtr ∷ bool ∷ [] })).own_val (p, (b, tt))
 
-pub handle_told : (p : Ptr) (b : Bool) (vs : List Val) → shadow (handle_fields p b vs) → vs ≡ handle_val p b ∷ []
-handle_told p b vs s = s.1.0 ∙ (λ i. vstruct (of_list (s.1.1.0 i ++ (s.1.1.1.0 i ++ []))) ∷ [])
+pub handle_reported : (p : Ptr) (b : Bool) (vs : List Val) → shadow (handle_fields p b vs) → vs ≡ handle_val p b ∷ []
+handle_reported p b vs s = s.1.0 ∙ (λ i. vstruct (of_list (s.1.1.0 i ++ (s.1.1.1.0 i ++ []))) ∷ [])
 
 pub handle_made : {M : Type 1} {𝓤 : Ura M} (𝓛 : Logic 𝓤) (p : Ptr) (b : Bool)
     → ent 𝓤 (emp 𝓤) (sem 𝓛 (handle_fields p b (handle_val p b ∷ [])))

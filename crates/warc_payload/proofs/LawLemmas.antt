@@ -26,10 +26,10 @@ info_of_head : (text : List ℕ) (info : HeadInfo) (head : ResponseHead) → IsI
 info_of_head text info head x = info_parts info ∙ rw (x.status, x.head_len, x.coded, x.transfer_coded) refl
 
 pub at_most_one_info : AtMostOneInfo
-at_most_one_info text info told head other x y =
+at_most_one_info text info reported head other x y =
     let same : head ≡ other = (at_most_one_head text head other _ _ x.front y.front).0 in
     info_of_head text info head x
-    ∙ (ap (λ h. info_by (status_code h) (length (print_response h)) (is_coded h) (is_transfer_coded h)) same ∙ sym (info_of_head text told other y))
+    ∙ (ap (λ h. info_by (status_code h) (length (print_response h)) (is_coded h) (is_transfer_coded h)) same ∙ sym (info_of_head text reported other y))
 
 -- a head of a front is a head of the whole
 head_of_whole : (n : ℕ) (block : List ℕ) (head : ResponseHead) (rest : List ℕ)

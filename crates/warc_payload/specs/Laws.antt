@@ -12,8 +12,8 @@ AtMostOneHead = (text : List ℕ) (head other : ResponseHead) (rest more : List 
 
 -- what is said of a text is said once
 abbrev pub AtMostOneInfo : Type 0
-AtMostOneInfo = (text : List ℕ) (info told : HeadInfo) (head other : ResponseHead)
-    → IsInfoOf text info head → IsInfoOf text told other → info ≡ told
+AtMostOneInfo = (text : List ℕ) (info reported : HeadInfo) (head other : ResponseHead)
+    → IsInfoOf text info head → IsInfoOf text reported other → info ≡ reported
 
 -- a block's front has the head of the whole block
 abbrev pub FrontHasHead : Type 0

@@ -1,6 +1,6 @@
 -- The record at an offset, by what a window shows and by what closes it.
 use Rattle.std.proofs.Common.{◌≡◌, ◌≢◌, ℕ, ◌+◌, ◌-◌, ◌*◌, ◌<◌, ◌≤◌, Bool, true, false, List, length, drop, Result, Ok, Err, ◌⊎◌, refl, sym, ap, subst, ◌∙◌, arith, length-drop}
-use Rattle.warc_frame.specs.Faults.{behind}
+use Rattle.warc_frame.specs.Faults.{following}
 use Rattle.warc_frame.specs.Reading.{head_of, record_of}
 use Rattle.warc_frame.specs.Record.{Record, max_head}
 use Rattle.warc_frame.specs.Seen.{SeenSource}
@@ -26,7 +26,7 @@ good_close bytes shown at end w is h before there shows closed =
 
 -- one that isn't closed
 pub fault_close : (bytes shown : List ℕ) (at end : ℕ) (w : Shown) (f : Fault) → shown ≡ drop (at - w.begin) w.bytes → HasBlockEnd (drop (at - w.begin) w.bytes) end → w.begin ≤ at → at ≤ length (near bytes) → Shows bytes w → closed_at end shown ≡ Err f
-    → (f.kind ≢ Truncated) ⊎ (w.is_last ≡ true) → MissesBy f.kind at bytes (behind at f)
+    → (f.kind ≢ Truncated) ⊎ (w.is_last ≡ true) → MissesBy f.kind at bytes (following at f)
 fault_close bytes shown at end w f is h before there shows bad settled =
     let seen = drop (at - w.begin) w.bytes in
     let kinds = closed_fault_kind end shown f bad in
@@ -105,7 +105,7 @@ pub room_for : (shown : List ℕ) (at : ℕ) (w : Shown) (f : Fault) → shown �
 room_for shown at w f is before bad cut = omega (arith, (cut_head shown f bad cut).short, ap length is, length-drop (at - w.begin) w.bytes, before)
 
 pub seen_misses : (bytes shown : List ℕ) (at : ℕ) (w : Shown) (f : Fault) → shown ≡ drop (at - w.begin) w.bytes → w.begin ≤ at → at ≤ length (near bytes) → Shows bytes w → HeadMisses f.kind shown f → (f.kind ≢ Truncated) ⊎ (w.is_last ≡ true)
-    → MissesBy f.kind at bytes (behind at f)
+    → MissesBy f.kind at bytes (following at f)
 seen_misses bytes shown at w f is before there shows bad settled = misses_head bytes at w f before there shows (subst (λ xs. HeadMisses f.kind xs f) is bad) settled
 
 pub slack_most : (b : Bool) → slack b ≤ 1

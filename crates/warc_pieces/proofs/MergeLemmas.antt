@@ -2,7 +2,7 @@
 use Rattle.std.proofs.Common.{◌≡◌, ℕ, ◌+◌, ◌<◌, ◌≤◌, List, [], ◌∷◌, ◌++◌, length, length-append, map, drop, append_assoc, Option, None, Some, refl, sym, ap, subst, ◌∙◌, arith}
 use Rattle.std.specs.Prelude.{option_map}
 use Rattle.std.proofs.Math.Seq.{drop-append_seam, drop-append-add}
-use Rattle.warc_frame.specs.Faults.{AllAccepted, HasFault, ReadsAs, behind}
+use Rattle.warc_frame.specs.Faults.{AllAccepted, HasFault, ReadsAs, following}
 use Rattle.warc_frame.specs.Reading.{Judgement, fault}
 use Rattle.warc_frame.specs.Record.{Record, max_archive}
 use Rattle.warc_frame.specs.declared.fault.Fault.{Fault}
@@ -21,16 +21,16 @@ use Rattle.warc_pieces.proofs.SalvageLemmas.{spells_both}
 
 -- ---- the same text at a later offset
 
-later_fault : (judge : Judgement) (n q : ℕ) (text : List ℕ) (found : Option Fault) → HasFault judge q text found → HasFault judge (n + q) text (option_map (behind n) found)
+later_fault : (judge : Judgement) (n q : ℕ) (text : List ℕ) (found : Option Fault) → HasFault judge q text found → HasFault judge (n + q) text (option_map (following n) found)
 later_fault judge n q text None is = is
 later_fault judge n q text (Some f) (some, g, reads, is) =
     let place : n + (q + g.offset) ≡ (n + q) + g.offset = omega arith in
-    (some, g, reads, ap (behind n) is ∙ ap (fault g.kind) place)
+    (some, g, reads, ap (following n) is ∙ ap (fault g.kind) place)
 
-later_reads : (judge : Judgement) (n q : ℕ) (text : List ℕ) (rs : List Record) (found : Option Fault) → ReadsAs judge q text rs found → ReadsAs judge (n + q) text rs (option_map (behind n) found)
+later_reads : (judge : Judgement) (n q : ℕ) (text : List ℕ) (rs : List Record) (found : Option Fault) → ReadsAs judge q text rs found → ReadsAs judge (n + q) text rs (option_map (following n) found)
 later_reads judge n q text rs found reads =
     let place : n + (q + length reads.front) ≡ (n + q) + length reads.front = omega arith in
-    let P : ℕ → Type 0 = λ k. HasFault judge k reads.rest (option_map (behind n) found) in
+    let P : ℕ → Type 0 = λ k. HasFault judge k reads.rest (option_map (following n) found) in
     record {
       front = reads.front;
       rest = reads.rest;
@@ -40,7 +40,7 @@ later_reads judge n q text rs found reads =
       fault_is = subst P place (later_fault judge n (q + length reads.front) reads.rest found reads.fault_is);
     }
 
-later_run : (n at : ℕ) (text : List ℕ) (count len : ℕ) (found : Option Fault) → IsRun at text count len found → IsRun (n + at) text count len (option_map (behind n) found)
+later_run : (n at : ℕ) (text : List ℕ) (count len : ℕ) (found : Option Fault) → IsRun at text count len found → IsRun (n + at) text count len (option_map (following n) found)
 unfolding later_reads
 later_run n at text count len found run = record {
   records = run.records;
@@ -49,7 +49,7 @@ later_run n at text count len found run = record {
   len_is = run.len_is;
 }
 
-later_damage : (n at : ℕ) (text : List ℕ) (len : ℕ) (f : Fault) → IsDamage at text len f → IsDamage (n + at) text len (behind n f)
+later_damage : (n at : ℕ) (text : List ℕ) (len : ℕ) (f : Fault) → IsDamage at text len f → IsDamage (n + at) text len (following n f)
 later_damage n at text len f damage = record {
   fault_is = later_reads head_fault n at text [] (Some f) damage.fault_is;
   some = damage.some;
@@ -63,12 +63,12 @@ later_pieces n at text [] is = is
 later_pieces n at text (Records offset len count ∷ pieces) ((is, some, found, run), more) =
     let P : ℕ → Type 0 = λ k. ArePiecesFrom k (drop len text) (map (moved n) pieces) in
     let place : n + (at + len) ≡ (n + at) + len = omega arith in
-    let one : IsPiece (n + at) text (Records (n + offset) len count) = (ap (λ k. n + k) is, some, option_map (behind n) found, later_run n at text count len found run) in
+    let one : IsPiece (n + at) text (Records (n + offset) len count) = (ap (λ k. n + k) is, some, option_map (following n) found, later_run n at text count len found run) in
     (one, subst P place (later_pieces n (at + len) (drop len text) pieces more))
 later_pieces n at text (Damage offset len f ∷ pieces) ((is, damage), more) =
     let P : ℕ → Type 0 = λ k. ArePiecesFrom k (drop len text) (map (moved n) pieces) in
     let place : n + (at + len) ≡ (n + at) + len = omega arith in
-    let one : IsPiece (n + at) text (Damage (n + offset) len (behind n f)) = (ap (λ k. n + k) is, later_damage n at text len f damage) in
+    let one : IsPiece (n + at) text (Damage (n + offset) len (following n f)) = (ap (λ k. n + k) is, later_damage n at text len f damage) in
     (one, subst P place (later_pieces n (at + len) (drop len text) pieces more))
 
 -- ---- an archive before a run
@@ -128,24 +128,24 @@ module _ (archive bytes : List ℕ) (rows : List Row) (is : IsArchiveOf archive 
       let n = length archive in
       let damage = later_damage n 0 bytes len f are.0.1 in
       let place : n + 0 ≡ n = omega arith in
-      let D : ℕ → Type 0 = λ k. IsDamage k bytes len (behind n f) in
-      let run = whole_run archive bytes rows is (Some (behind n f)) (damage_run n bytes len (behind n f) (subst D place damage)) in
+      let D : ℕ → Type 0 = λ k. IsDamage k bytes len (following n f) in
+      let run = whole_run archive bytes rows is (Some (following n f)) (damage_run n bytes len (following n f) (subst D place damage)) in
       let P : List ℕ → Type 0 = λ t. ArePiecesFrom (0 + n) t (map (moved n) (Damage offset len f ∷ pieces)) in
       let begin : 0 + n ≡ n + 0 = omega arith in
       let rest = others_later (0 + n) (Damage offset len f ∷ pieces) begin are in
-      ((refl, some, Some (behind n f), run), subst P (sym (drop-append_seam archive bytes)) rest)
+      ((refl, some, Some (following n f), run), subst P (sym (drop-append_seam archive bytes)) rest)
   before_pieces (Records offset len count ∷ pieces) are =
       let n = length archive in
       let (here, more, found, run) = are.0 in
       let place : n + 0 ≡ n = omega arith in
-      let R : ℕ → Type 0 = λ k. IsRun k bytes count len (option_map (behind n) found) in
+      let R : ℕ → Type 0 = λ k. IsRun k bytes count len (option_map (following n) found) in
       let later = subst R place (later_run n 0 bytes count len found run) in
       let both : 0 < length rows + count = omega (arith, some) in
       let P : ℕ → Type 0 = λ k. ArePiecesFrom k (drop len bytes) (map (moved n) pieces) in
       let Q : List ℕ → Type 0 = λ t. ArePiecesFrom (0 + (n + len)) t (map (moved n) pieces) in
       let rest = later_pieces n (0 + len) (drop len bytes) pieces are.1 in
       let sum : n + (0 + len) ≡ 0 + (n + len) = omega arith in (
-        (refl, both, option_map (behind n) found, longer_run archive bytes rows is count len (option_map (behind n) found) later),
+        (refl, both, option_map (following n) found, longer_run archive bytes rows is count len (option_map (following n) found) later),
         subst Q (sym (drop-append-add archive bytes len)) (subst P sum rest),
       )
 

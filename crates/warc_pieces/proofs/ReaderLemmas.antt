@@ -13,7 +13,7 @@ use Rattle.warc_frame.specs.declared.fault.FaultKind.TheVariants as kinds
 use Rattle.warc_record.specs.Heads.{head_fault}
 use Rattle.warc_reading.specs.Fronts.{BeginsWithNone, reach_by}
 use Rattle.warc_pieces.specs.Pieces.{AreFirst, BeginsWithOne, IsDamage, IsPiece, IsRun, near}
-use Rattle.warc_pieces.specs.Reader.{Advances, ReadsFew, lines_between, GoesBy, GivesMore, GivesOf, AreGiven, IsPieceAt, IsStoppedBy, StandsBefore, StopsBy, faults_after_stop}
+use Rattle.warc_pieces.specs.Reader.{Advances, ReadsFew, lines_between, GoesBy, GivesMore, GivesOf, AreGiven, IsPieceAt, IsStoppedBy, IsWalkBefore, StopsBy, faults_after_stop}
 use Rattle.warc_pieces.specs.Run.{RunEndsBy, IsRead, answer_of}
 use Rattle.warc_pieces.specs.Search.{IsNextRecord, lines_in}
 use Rattle.warc_pieces.specs.Window.{ReadsBy, Shown, Shows, failures_after}
@@ -220,7 +220,7 @@ found_inside bytes at f low found =
 -- damage was found, and the next good record
 pub damage_given : (bytes : List ℕ) (at next : ℕ) (f : Fault) (failure : Option Fault) (w : Shown) → failure ≡ None → Shows bytes w → at ≤ length (near bytes)
     → ReadsAs head_fault at (drop at (near bytes)) [] (Some f) → IsNextRecord bytes (at + 1) next
-    → StandsBefore bytes w next None failure × IsPieceAt bytes at next failure (Damage at (next - at) f)
+    → IsWalkBefore bytes w next None failure × IsPieceAt bytes at next failure (Damage at (next - at) f)
 damage_given bytes at next f failure w none shows low found is =
     let P : Option Fault → Type 0 = λ o. IsPieceAt bytes at next o (Damage at (next - at) f) in
     (record { shows = shows; within = is.within; found = tt; stopped = stopped_none bytes next failure none }, subst P (sym none) (damage_piece bytes at next f low found is))
@@ -246,7 +246,7 @@ run_or_end bytes at count len (Some piece) below low run empty none (is, some) =
 -- a run was read to the end of the bytes
 pub end_given : (bytes : List ℕ) (at count len : ℕ) (end failure : Option Fault) (w : Shown) (piece : Option Piece) → failure ≡ None → end ≡ None → Shows bytes w
     → at < max_archive → at ≤ length (near bytes) → IsRead at bytes count len end → (count ≡ 0 → len ≡ 0) → (piece ≡ None → count ≡ 0)
-    → IfSome piece (λ p. (p ≡ Records at len count) × (0 < count)) → StandsBefore bytes w (at + len) None failure × GivesOf bytes at (at + len) failure (Ok piece)
+    → IfSome piece (λ p. (p ≡ Records at len count) × (0 < count)) → IsWalkBefore bytes w (at + len) None failure × GivesOf bytes at (at + len) failure (Ok piece)
 end_given bytes at count len end failure w piece none is shows below low read empty absent some =
     let R : Option Fault → Type 0 = λ o. IsRead at bytes count len o in
     let run = subst R is read in
@@ -277,7 +277,7 @@ reach_inside bytes at count len x f is low ends =
     is
 
 pub failure_given : (bytes : List ℕ) (at count len : ℕ) (end : Option Fault) (f : Fault) (w : Shown) → end ≡ Some f → (f.kind ≡ kinds.Read) ⊎ (f.kind ≡ kinds.Memory)
-    → Shows bytes w → at ≤ length (near bytes) → IsRead at bytes count len end → StandsBefore bytes w (at + len) None (Some f) × Fails bytes at count len (at + len) f f.kind
+    → Shows bytes w → at ≤ length (near bytes) → IsRead at bytes count len end → IsWalkBefore bytes w (at + len) None (Some f) × Fails bytes at count len (at + len) f f.kind
 failure_given bytes at count len end f w is fails shows low read =
     let R : Option Fault → Type 0 = λ o. IsRead at bytes count len o in
     let ends : RunEndsBy f.kind at bytes count len f = subst R is read in
@@ -287,7 +287,7 @@ failure_given bytes at count len end f w is fails shows low read =
 -- a run was read to damage
 pub found_given : (bytes : List ℕ) (at count len : ℕ) (end failure : Option Fault) (f : Fault) (w : Shown) → end ≡ Some f → failure ≡ None → f.kind ≢ kinds.Read
     → f.kind ≢ kinds.Memory → Shows bytes w → at ≤ length (near bytes) → IsRead at bytes count len end
-    → StandsBefore bytes w (at + len) (Some f) failure × IsRun at (drop at (near bytes)) count len (Some f)
+    → IsWalkBefore bytes w (at + len) (Some f) failure × IsRun at (drop at (near bytes)) count len (Some f)
 found_given bytes at count len end failure f w is none no_read no_memory shows low read =
     let R : Option Fault → Type 0 = λ o. IsRead at bytes count len o in
     let run = run_to_damage bytes at count len f f.kind no_read no_memory (subst R is read) in (

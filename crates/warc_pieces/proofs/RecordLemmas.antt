@@ -5,7 +5,7 @@ use Rattle.std.proofs.lemmas.Bool.{le-leb, leb-false, lt-leb, cases_lt}
 use Rattle.std.proofs.lemmas.List.{append-nil, drop-drop, drop-take, drop_all, length-take, length-take-le, take-append-drop, take-take}
 use Rattle.warc_field.specs.Area.{Pair, area_of, count_of, first_value}
 use Rattle.warc_field.specs.Lines.{crlf}
-use Rattle.warc_frame.specs.Faults.{behind}
+use Rattle.warc_frame.specs.Faults.{following}
 use Rattle.warc_frame.specs.Names.{content_length}
 use Rattle.warc_frame.specs.Reading.{◌>>=◌, Head, OrMemory, accepts, any_fields, at_front, begins, block_at, fault, fields_or_line, head_len, head_of, needs, record_of, refuses, version_of}
 use Rattle.warc_frame.specs.Record.{Record, block_len, block_number, canonical_len, head_text, max_head, or_length}
@@ -112,9 +112,9 @@ closed_cases end t f bad = by_tests (not (begins (drop end t) (crlf ++ crlf))) (
 -- the same, of what begins at an offset
 abbrev moved_by : ℕ → Result (Unit {0}) Fault → Result (Unit {0}) Fault
 moved_by at (Ok u) = Ok u
-moved_by at (Err f) = Err (behind at f)
+moved_by at (Err f) = Err (following at f)
 
-by_moved : (first second : Bool) (at : ℕ) (a b c d : Fault) → c ≡ behind at a → d ≡ behind at b → (refuses first c >>= λ _. refuses second d) ≡ moved_by at (refuses first a >>= λ _. refuses second b)
+by_moved : (first second : Bool) (at : ℕ) (a b c d : Fault) → c ≡ following at a → d ≡ following at b → (refuses first c >>= λ _. refuses second d) ≡ moved_by at (refuses first a >>= λ _. refuses second b)
 by_moved true second at a b c d first_is second_is = ap Err first_is
 by_moved false true at a b c d first_is second_is = ap Err second_is
 by_moved false false at a b c d first_is second_is = refl
@@ -137,14 +137,14 @@ moved_ok : (at : ℕ) (r : Result (Unit {0}) Fault) → moved_by at r ≡ Ok tt 
 moved_ok at (Ok u) is = refl
 moved_ok at (Err f) is = absurd (cc is)
 
-moved_err : (at : ℕ) (r : Result (Unit {0}) Fault) (f : Fault) → moved_by at r ≡ Err f → (g : Fault) × (r ≡ Err g) × (f ≡ behind at g)
+moved_err : (at : ℕ) (r : Result (Unit {0}) Fault) (f : Fault) → moved_by at r ≡ Err f → (g : Fault) × (r ≡ Err g) × (f ≡ following at g)
 moved_err at (Ok u) f is = absurd (cc is)
-moved_err at (Err g) f is = (g, refl, let e : behind at g ≡ f = cc is in sym e)
+moved_err at (Err g) f is = (g, refl, let e : following at g ≡ f = cc is in sym e)
 
 pub closed_from : (at end : ℕ) (t : List ℕ) → at ≤ length t → closed_at (at + end) t ≡ Ok tt → closed_at end (drop at t) ≡ Ok tt
 closed_from at end t within is = moved_ok at (closed_at end (drop at t)) (sym (closed_moved at end t within) ∙ is)
 
-pub unclosed_from : (at end : ℕ) (t : List ℕ) (f : Fault) → at ≤ length t → closed_at (at + end) t ≡ Err f → (g : Fault) × (closed_at end (drop at t) ≡ Err g) × (f ≡ behind at g)
+pub unclosed_from : (at end : ℕ) (t : List ℕ) (f : Fault) → at ≤ length t → closed_at (at + end) t ≡ Err f → (g : Fault) × (closed_at end (drop at t) ≡ Err g) × (f ≡ following at g)
 unclosed_from at end t f within is = moved_err at (closed_at end (drop at t)) f (sym (closed_moved at end t within) ∙ is)
 
 -- what the four bytes after a block say
@@ -295,8 +295,8 @@ misses kind at bytes f read memory is = is
 
 -- the fault of the record at an offset, by what is shown of it
 pub shown_fault : (bytes : List ℕ) (at : ℕ) (w : Shown) (f : Fault) → w.begin ≤ at → at ≤ length (near bytes) → Shows bytes w → record_of head_fault (drop (at - w.begin) w.bytes) ≡ Err f → (f.kind ≢ Truncated) ⊎ (w.is_last ≡ true)
-    → f.kind ≢ Read → f.kind ≢ Memory → MissesBy f.kind at bytes (behind at f)
-shown_fault bytes at w f before there shows bad settled read memory = misses f.kind at bytes (behind at f) read memory (
+    → f.kind ≢ Read → f.kind ≢ Memory → MissesBy f.kind at bytes (following at f)
+shown_fault bytes at w f before there shows bad settled read memory = misses f.kind at bytes (following at f) read memory (
   f,
   ⊎_elim
       (λ other. ap (record_of head_fault) (shown_front bytes at w before there shows) ∙ faults_are_stable-record head_fault (drop (at - w.begin) w.bytes) (drop (length (drop (at - w.begin) w.bytes)) (drop at (near bytes))) f bad other)
@@ -307,15 +307,15 @@ shown_fault bytes at w f before there shows bad settled read memory = misses f.k
 
 -- why no head was read
 head_misses : (kind : FaultKind) (bytes : List ℕ) (at : ℕ) (w : Shown) (f : Fault) → f.kind ≡ kind → w.begin ≤ at → at ≤ length (near bytes) → Shows bytes w → HeadMisses kind (drop (at - w.begin) w.bytes) f → (f.kind ≢ Truncated) ⊎ (w.is_last ≡ true)
-    → MissesBy kind at bytes (behind at f)
+    → MissesBy kind at bytes (following at f)
 head_misses Memory bytes at w f is before there shows (front, some) settled = (ap (λ n. at + n) front ∙ (let e : at + 0 ≡ at = omega arith in e), omega (arith, shown_within bytes at w before there shows, some))
 head_misses Read bytes at w f is before there shows bad settled = absurd ((head_not_read (drop (at - w.begin) w.bytes) f bad.reads).0 is)
 head_misses kind bytes at w f is before there shows bad settled =
     let not_these = head_not_read (drop (at - w.begin) w.bytes) f bad.reads in
-    subst (λ k. MissesBy k at bytes (behind at f)) is (shown_fault bytes at w f before there shows (headless (drop (at - w.begin) w.bytes) f bad.reads) settled not_these.0 not_these.1)
+    subst (λ k. MissesBy k at bytes (following at f)) is (shown_fault bytes at w f before there shows (headless (drop (at - w.begin) w.bytes) f bad.reads) settled not_these.0 not_these.1)
 
 pub misses_head : (bytes : List ℕ) (at : ℕ) (w : Shown) (f : Fault) → w.begin ≤ at → at ≤ length (near bytes) → Shows bytes w → HeadMisses f.kind (drop (at - w.begin) w.bytes) f → (f.kind ≢ Truncated) ⊎ (w.is_last ≡ true)
-    → MissesBy f.kind at bytes (behind at f)
+    → MissesBy f.kind at bytes (following at f)
 misses_head bytes at w f before there shows bad settled = head_misses f.kind bytes at w f refl before there shows bad settled
 
 -- a head that is cut

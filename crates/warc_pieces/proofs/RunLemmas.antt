@@ -2,7 +2,7 @@
 use Rattle.std.proofs.Common.{◌≡◌, ◌≢◌, ℕ, ◌+◌, ◌-◌, ◌<◌, ◌≤◌, List, [], ◌∷◌, ◌++◌, length, take, drop, Option, Some, None, IfSome, Result, Ok, Err, refl, sym, ap, subst, ◌∙◌, arith, inl, inr, length-append}
 use Rattle.std.proofs.Math.Seq.{take-add}
 use Rattle.std.proofs.lemmas.List.{drop-drop, drop-take, drop_all, length-drop, length-take, length-take-le, take-append-drop, take-take}
-use Rattle.warc_frame.specs.Faults.{AllAccepted, HasFault, behind}
+use Rattle.warc_frame.specs.Faults.{AllAccepted, HasFault, following}
 use Rattle.warc_frame.specs.Reading.{empty_line, fault, head_front, head_len, head_of, record_of, version_of}
 use Rattle.warc_frame.specs.Record.{Record}
 use Rattle.warc_frame.specs.Spelling.{SpellsAll}
@@ -110,7 +110,7 @@ has_cut p [] is = (None, refl, tt)
 has_cut p (b ∷ bs) is =
     let g = fault Truncated (length (b ∷ bs)) in
     let some : b ∷ bs ≢ [] = λ e. cc in
-    (Some (behind p g), (some, g, is, refl), refl)
+    (Some (following p g), (some, g, is, refl), refl)
 
 only_cut : (at : ℕ) (text : List ℕ) (count len : ℕ) → GoesOver text count len → IsTorn (drop len text) → (found : Option Fault) × IsRun at text count len found × EndsEarly found
 only_cut at text count len over (inl none) = (None, goes_run at text count len None over none, tt)
@@ -124,11 +124,11 @@ unfolding record_of head_of version_of head_len head_front empty_line
 nothing_read = refl
 
 -- where a fault is, and not the end, a byte is there
-some_rest : (p : ℕ) (rest : List ℕ) (f g : Fault) → record_of head_fault rest ≡ Err g → f ≡ behind p g → (f.kind ≡ Truncated → f.offset ≢ p) → rest ≢ []
+some_rest : (p : ℕ) (rest : List ℕ) (f g : Fault) → record_of head_fault rest ≡ Err g → f ≡ following p g → (f.kind ≡ Truncated → f.offset ≢ p) → rest ≢ []
 some_rest p rest f g is same other none =
     let both : ◌≡◌ {A = Result (Record × ℕ) Fault} (Err g) (Err (fault Truncated 0)) = sym is ∙ ap (record_of head_fault) none ∙ nothing_read in
     let g_is : g ≡ fault Truncated 0 = cc in
-    let f_is : f ≡ behind p (fault Truncated 0) = same ∙ ap (behind p) g_is in
+    let f_is : f ≡ following p (fault Truncated 0) = same ∙ ap (following p) g_is in
     other (ap (λ (x : Fault). x.kind) f_is) (omega (arith, ap (λ (x : Fault). x.offset) f_is))
 
 -- a run ends where no good record follows

@@ -125,10 +125,10 @@ module _ (bytes : List ℕ) (w : Shown) (from at : ℕ) (shows : Shows bytes w) 
   before_shown : (n : ℕ) → ((j : ℕ) → j < n → OccursAt (near bytes) line_start (at + j) → ⊥) → NoLine (near bytes) from (at + n)
   before_shown n absent k first last occurs = ⊎_elim
       (λ (before : k < at). none k first before occurs)
-      (λ (behind : at ≤ k).
-      let sum : k ≡ at + (k - at) = omega (arith, behind) in
+      (λ (following : at ≤ k).
+      let sum : k ≡ at + (k - at) = omega (arith, following) in
       let P : ℕ → Type 0 = λ q. OccursAt (near bytes) line_start q in
-      absent (k - at) (omega (arith, behind, last)) (subst P sum occurs))
+      absent (k - at) (omega (arith, following, last)) (subst P sum occurs))
       (cases_lt k at)
 
   -- the first version line that is shown is the next one
@@ -164,15 +164,15 @@ module _ (bytes : List ℕ) (w : Shown) (from at : ℕ) (shows : Shows bytes w) 
   pub none_left : FindsNeedle (drop (at - w.begin) w.bytes) line_start 0 None → reached w ≡ length (near bytes) → NoLine (near bytes) from (length (near bytes))
   none_left finds last k first within occurs = ⊎_elim
       (λ (before : k < at). none k first before occurs)
-      (λ (behind : at ≤ k).
+      (λ (following : at ≤ k).
       let t = near bytes in
       let m : ℕ = reached w - at in
       let P : List ℕ → Type 0 = λ x. FindsNeedle x line_start 0 None in
       let found = subst P (shown_is bytes w at shows low) finds in
-      let sum : k ≡ at + (k - at) = omega (arith, behind) in
+      let sum : k ≡ at + (k - at) = omega (arith, following) in
       let Q : ℕ → Type 0 = λ q. OccursAt t line_start q in
       let whole : k + 7 ≤ length t = occurs.fits in
-      let part = line_in_part t at m (k - at) (omega (arith, behind, whole, last)) (subst Q sum occurs) in
+      let part = line_in_part t at m (k - at) (omega (arith, following, whole, last)) (subst Q sum occurs) in
       let in_part : k - at + 7 ≤ length (take m (drop at t)) = part.fits in
       found (k - at) (omega arith) (omega (arith, in_part)) part)
       (cases_lt k at)
@@ -205,7 +205,7 @@ module _ (bytes : List ℕ) (w : Shown) (from at : ℕ) (shows : Shows bytes w) 
       let size = length-take offset t in
       ⊎_elim
       (λ (before : k < next). none_further finds next is k first before (line_of_take t offset k occurs))
-      (λ (behind : next ≤ k). absurd (omega (arith, fits, size, behind, is, end)))
+      (λ (following : next ≤ k). absurd (omega (arith, fits, size, following, is, end)))
       (cases_lt k next)
 
 -- ---- how many version lines
@@ -262,7 +262,7 @@ pub record ComesTo (bytes : List ℕ) (from at tries : ℕ) (w : Shown) : Type 0
 none_to : (bytes : List ℕ) (from at line : ℕ) → ((q : ℕ) → from ≤ q → q < at → BeginsWithNone (drop q (near bytes))) → NoLine (near bytes) at line → (q : ℕ) → from ≤ q → q < line → BeginsWithNone (drop q (near bytes))
 none_to bytes from at line none absent q first last = ⊎_elim
     (λ (before : q < at). none q first before)
-    (λ (behind : at ≤ q). none_without_line (near bytes) q (absent q behind last))
+    (λ (following : at ≤ q). none_without_line (near bytes) q (absent q following last))
     (cases_lt q at)
 
 -- the bytes end before another version line
@@ -362,7 +362,7 @@ search_stops bytes from at tries f w low comes read (after, within, absent) =
       after = omega (arith, low, after);
       none = λ q first last. ⊎_elim
           (λ (before : q < at). none_in_part t q f.offset (omega (arith, last)) (comes.none q first before))
-          (λ (behind : at ≤ q). none_without_line part q (absent q behind last))
+          (λ (following : at ≤ q). none_without_line part q (absent q following last))
           (cases_lt q at);
       misses = subst P (sym read) unread;
     }

@@ -14,7 +14,7 @@ use Rattle.warc_frame.specs.declared.version.Version.{Version}
 use Rattle.warc_frame.proofs.EmptyLineLemmas.{crlf_bytes, empty_line-first, empty_line-more}
 use Rattle.warc_frame.proofs.HeadLemmas.{head-place}
 use Rattle.warc_frame.proofs.RowLemmas.{option_cases}
-use Rattle.warc_frame.proofs.StableLemmas.{behind_head, no_version, record_of-is, take-more}
+use Rattle.warc_frame.proofs.StableLemmas.{after_head, no_version, record_of-is, take-more}
 use Rattle.warc_record.specs.Heads.{head_fault}
 use Rattle.warc_pieces.specs.Skip.{IsShared, NoneWithin}
 use Rattle.warc_pieces.proofs.WithinLemmas.{field_place, none_before_line, none_shared}
@@ -80,7 +80,7 @@ head_len_more t more len is =
 version_there : (t : List ℕ) (f : Fault) → record_of head_fault t ≡ Err f → f.kind ≢ NoVersion → (v : Version) × (version_of t ≡ Some v)
 version_there t f is other = ⊎_elim
     (λ (none : version_of t ≡ None).
-    let same : ◌≡◌ {A = Result (Record × ℕ) Fault} (Err f) (Err (fault NoVersion 0)) = sym is ∙ record_of-is head_fault t ∙ ap (λ r. r >>= behind_head t) (no_version head_fault t none) in
+    let same : ◌≡◌ {A = Result (Record × ℕ) Fault} (Err f) (Err (fault NoVersion 0)) = sym is ∙ record_of-is head_fault t ∙ ap (λ r. r >>= after_head t) (no_version head_fault t none) in
     let e : f ≡ fault NoVersion 0 = cc in
     absurd (other (ap (λ (x : Fault). x.kind) e)))
     (λ some. some)

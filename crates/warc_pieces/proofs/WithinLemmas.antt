@@ -16,7 +16,7 @@ use Rattle.warc_frame.specs.declared.version.Version.{Version}
 use Rattle.warc_frame.proofs.CanonicalLemmas.{head_size}
 use Rattle.warc_frame.proofs.HeadLemmas.{head_within}
 use Rattle.warc_frame.proofs.SpellLemmas.{block-read}
-use Rattle.warc_frame.proofs.StableLemmas.{record_of-is, behind_head}
+use Rattle.warc_frame.proofs.StableLemmas.{record_of-is, after_head}
 use Rattle.warc_reading.specs.Fronts.{BeginsWithNone}
 use Rattle.warc_reading.proofs.KindLemmas.{head_kind, is_of_head}
 use Rattle.warc_pieces.specs.Skip.{IsShared}
@@ -44,10 +44,10 @@ unfolding head_of after_fields
 head_is t v len version ends = rw (version, ends) refl
 
 record_by : (t : List ℕ) (v : Version) (len : ℕ) (area : Result (List Pair) ℕ) → version_of t ≡ Some v → head_len t ≡ Some len → area_of (slice_range t 10 (len - 2)) ≡ area
-    → record_of head_fault t ≡ ((fields_or_line area >>= after_fields v len) >>= behind_head t)
+    → record_of head_fault t ≡ ((fields_or_line area >>= after_fields v len) >>= after_head t)
 record_by t v len area version ends is =
-    record_of-is head_fault t ∙ ap (λ r. r >>= behind_head t) (head_is t v len version ends)
-    ∙ ap (λ r. (fields_or_line r >>= after_fields v len) >>= behind_head t) is
+    record_of-is head_fault t ∙ ap (λ r. r >>= after_head t) (head_is t v len version ends)
+    ∙ ap (λ r. (fields_or_line r >>= after_fields v len) >>= after_head t) is
 
 pub unshared_at : {X : Type 0} (kind : FaultKind) (offset : ℕ) (g : Fault) (r : Result X Fault) → r ≡ Err g → r ≡ Err (fault kind offset) → IsShared g.kind → IsShared kind
 unshared_at {X} kind offset g r one two shared =
@@ -69,8 +69,8 @@ closed_inside t len k r text more spelled within size whole =
     ap (block_at len (length r.block)) parts ∙ block-read len (length r.block) head r.block more long refl
 
 record_ok : (t : List ℕ) (head : Head) (block : List ℕ) → block_at head.len head.block_len t ≡ Ok block
-    → behind_head t head ≡ Ok (record { version = head.version; fields = head.fields; block = block }, head.len + head.block_len + 4)
-unfolding behind_head
+    → after_head t head ≡ Ok (record { version = head.version; fields = head.fields; block = block }, head.len + head.block_len + 4)
+unfolding after_head
 record_ok t head block is = rw is refl
 
 ok_or_err : {X : Type 0} (r : Result X Fault) (x : X) (g : Fault) → r ≡ Err g → r ≡ Ok x → ⊥
@@ -78,7 +78,7 @@ ok_or_err {X} r x g one two = let no : ◌≡◌ {A = Result X Fault} (Err g) (O
 
 module _ (t : List ℕ) (v : Version) (len n : ℕ) (fs : List Pair) (block : List ℕ) (g : Fault)
     (shared : IsShared g.kind)
-    (bad : (((fields_or_line (Ok fs)) >>= after_fields v len) >>= behind_head t) ≡ Err g)
+    (bad : (((fields_or_line (Ok fs)) >>= after_fields v len) >>= after_head t) ≡ Err g)
     (closed : block_at len n t ≡ Ok block) where
   -- its number and its fields are good too, or one of the four is repeated
   refuted : (block_len fs ≡ Ok n) ⊎ (block_len fs ≡ Err (Repeated ContentLength)) → (head_fault fs ≡ None) ⊎ IsRepeated (head_fault fs) → ⊥
@@ -88,7 +88,7 @@ module _ (t : List ℕ) (v : Version) (len n : ℕ) (fs : List Pair) (block : Li
       (λ (short : nat_lt max_head (canonical_len v fs) ≡ false). ⊎_elim
       (λ (is : block_len fs ≡ Ok n). ⊎_elim
       (λ (none : head_fault fs ≡ None).
-      ok_or_err (((fields_or_line (Ok fs)) >>= after_fields v len) >>= behind_head t) (record { version = v; fields = fs; block = block }, len + n + 4) g bad
+      ok_or_err (((fields_or_line (Ok fs)) >>= after_fields v len) >>= after_head t) (record { version = v; fields = fs; block = block }, len + n + 4) g bad
       (rw (short, is, none) (record_ok t (record { version = v; fields = fs; len = len; block_len = n }) block closed)))
       (λ (some : IsRepeated (head_fault fs)). unshared (Repeated some.0) g _ bad (rw (short, is, some.1) refl) shared)
       judged)
@@ -167,9 +167,9 @@ after_other v len fields =
     then_err {A = ℕ} {B = Head} IsOfNoLine (at_front (block_len fields)) _ (at_front_other (block_len fields) (block_len_other fields)) (λ n.
     then_err {A = Unit {0}} {B = Head} IsOfNoLine (accepts (head_fault fields)) _ (accepts_other (head_fault fields) (head_kind fields)) (λ w. tt)))
 
-behind_other : (t : List ℕ) (head : Head) → IfErr (behind_head t head) IsOfNoLine
-unfolding behind_head block_at
-behind_other t head =
+following_other : (t : List ℕ) (head : Head) → IfErr (after_head t head) IsOfNoLine
+unfolding after_head block_at
+following_other t head =
     let P = IsOfNoLine in
     let place = head.len in
     let n = head.block_len in
@@ -194,8 +194,8 @@ line_by t v len g version ends bad kind (Err at) read =
     let e : g ≡ fault Field (10 + at) = cc in
     (at, refl, ap (λ (f : Fault). f.offset) e)
 line_by t v len g version ends bad kind (Ok fs) read =
-    let rest = then_err {A = Head} {B = Record × ℕ} IsOfNoLine (after_fields v len fs) (behind_head t) (after_other v len fs) (behind_other t) in
-    let other = by_other {X = Record × ℕ} (after_fields v len fs >>= behind_head t) g rest (sym (record_by t v len (Ok fs) version ends read) ∙ bad) in
+    let rest = then_err {A = Head} {B = Record × ℕ} IsOfNoLine (after_fields v len fs) (after_head t) (after_other v len fs) (following_other t) in
+    let other = by_other {X = Record × ℕ} (after_fields v len fs >>= after_head t) g rest (sym (record_by t v len (Ok fs) version ends read) ∙ bad) in
     absurd (subst IsNoLine kind other)
 
 -- where the first line is that is no field

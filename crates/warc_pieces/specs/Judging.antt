@@ -1,6 +1,6 @@
 -- What judging the record at an offset of a source finds.
 use Rattle.std.specs.Prelude.{◌≡◌, ℕ, ◌<◌, ◌≤◌, ◌⊎◌, List, [], length, take, drop, Result, Ok, Err}
-use Rattle.warc_frame.specs.Faults.{behind}
+use Rattle.warc_frame.specs.Faults.{following}
 use Rattle.warc_frame.specs.Reading.{fault, record_of}
 use Rattle.warc_frame.specs.Record.{Record}
 use Rattle.warc_frame.specs.declared.fault.Fault.{Fault}
@@ -11,7 +11,7 @@ use Rattle.warc_pieces.specs.Pieces.{near}
 
 -- the fault of a text at offset `at`, which begins with no good record
 abbrev pub IsFaultAt : ℕ → List ℕ → Fault → Type 0
-IsFaultAt at text f = (g : Fault) × (record_of head_fault text ≡ Err g) × (f ≡ behind at g)
+IsFaultAt at text f = (g : Fault) × (record_of head_fault text ≡ Err g) × (f ≡ following at g)
 
 -- a text has no byte, or ends before the record at its front does
 abbrev pub IsTorn : List ℕ → Type 0

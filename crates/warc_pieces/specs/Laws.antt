@@ -1,7 +1,7 @@
 -- The laws of pieces.
 use Rattle.std.specs.Prelude.{◌≡◌, ◌≢◌, ℕ, zero, ◌+◌, ◌<◌, ◌≤◌, Bool, true, false, List, [], ◌∷◌, ◌++◌, length, map, take, drop}
 use Rattle.std.specs.List.{AllByRecursion, sum_by}
-use Rattle.warc_frame.specs.Faults.{behind}
+use Rattle.warc_frame.specs.Faults.{following}
 use Rattle.warc_frame.specs.Record.{Record, max_archive}
 use Rattle.warc_frame.specs.Spelling.{SpellsAll}
 use Rattle.warc_reading.specs.Archive.{IsArchiveOf, contents}
@@ -105,7 +105,7 @@ SalvagedIsAnArchive = (bytes : List ℕ) (pieces : List Piece) → ArePieces byt
 -- a piece, if `n` bytes are put before the bytes
 abbrev pub moved : ℕ → Piece → Piece
 moved n (Records offset len count) = Records (n + offset) len count
-moved n (Damage offset len fault) = Damage (n + offset) len (behind n fault)
+moved n (Damage offset len fault) = Damage (n + offset) len (following n fault)
 
 -- a piece and those after it: two runs that meet are one piece
 abbrev pub meets : Piece → List Piece → List Piece

@@ -41,15 +41,15 @@ IsStoppedBy bytes at None = Unit {0}
 IsStoppedBy bytes at (Some f) = StopsBy f.kind bytes at f
 
 -- a reader stands before a piece of these bytes. A state of the code
-pub record StandsBefore (bytes : List ℕ) (w : Shown) (at : ℕ) (damage failure : Option Fault) : Type 0 where
+pub record IsWalkBefore (bytes : List ℕ) (w : Shown) (at : ℕ) (damage failure : Option Fault) : Type 0 where
   pub shows : Shows bytes w
   pub within : at ≤ length (near bytes)
   pub found : IsDamagedAt at bytes damage
   pub stopped : IsStoppedBy bytes at failure
 
 -- a walk along a source stands before a piece of these bytes
-abbrev pub StandsAt : {A : Type 0} → List ℕ → Walk A → Type 0
-StandsAt bytes walk = StandsBefore bytes walk.window walk.at walk.damage walk.failure
+abbrev pub IsWalkAt : {A : Type 0} → List ℕ → Walk A → Type 0
+IsWalkAt bytes walk = IsWalkBefore bytes walk.window walk.at walk.damage walk.failure
 
 -- it may go on by its window, unless a failure ended it
 pub record MayGoOn {A : Type 0} (walk : Walk A) : Type 0 where

@@ -9,7 +9,7 @@ ghost use Rattle.warc_frame.specs.declared.fault.Fault.{Fault as FaultOf};
 ghost use Rattle.warc_frame.specs.declared.fault.FaultKind.TheVariants.{Memory};
 ghost use Rattle.warc_record.specs.Heads.{head_fault};
 ghost use Rattle.warc_pieces.specs.Pieces.{near};
-ghost use Rattle.warc_pieces.specs.Reader.{Advances, GivesMore, GivesOf, AreGiven, MayGoOn, ReadsFew, StandsAt};
+ghost use Rattle.warc_pieces.specs.Reader.{Advances, GivesMore, GivesOf, AreGiven, MayGoOn, ReadsFew, IsWalkAt};
 ghost use Rattle.warc_pieces.specs.Window.{reached};
 ghost use Rattle.warc_pieces.specs.declared.piece.Piece.{Piece as Given};
 ghost use Rattle.warc_pieces.specs.declared.piece.Piece.TheVariants.{Records};
@@ -44,12 +44,12 @@ fn next_damage<S: Source, A: Allocator + Copy>(
     requires sound { walk.old.failure ≡ None }
     requires inside { walk.old.at < max_archive }
     ensures may { MayGoOn walk.new }
-    ensures gives { IfHeld (S.seen source.old).holds (λ bytes. StandsAt bytes walk.old →
+    ensures gives { IfHeld (S.seen source.old).holds (λ bytes. IsWalkAt bytes walk.old →
         ReadsAs head_fault walk.old.at (drop walk.old.at (near bytes)) [] (Some fault) →
-        StandsAt bytes walk.new × GivesOf bytes walk.old.at walk.new.at walk.new.failure result) }
+        IsWalkAt bytes walk.new × GivesOf bytes walk.old.at walk.new.at walk.new.failure result) }
     ensures advances { Advances (S.seen source.old) (S.seen source.new) walk.old.at walk.new.at walk.new.failure
         result }
-    ensures few { IfHeld (S.seen source.old).holds (λ bytes. StandsAt bytes walk.old →
+    ensures few { IfHeld (S.seen source.old).holds (λ bytes. IsWalkAt bytes walk.old →
         ReadsAs head_fault walk.old.at (drop walk.old.at (near bytes)) [] (Some fault) →
         ReadsFew bytes walk.old.at result 1 (reached walk.old.window) (reached walk.new.window) (S.seen source.old)
         (S.seen source.new)) }
@@ -93,11 +93,11 @@ fn next_run<S: Source, A: Allocator + Copy>(
     requires sound { walk.old.failure ≡ None }
     requires inside { walk.old.at < max_archive }
     ensures may { MayGoOn walk.new }
-    ensures gives { IfHeld (S.seen source.old).holds (λ bytes. StandsAt bytes walk.old →
-        StandsAt bytes walk.new × GivesOf bytes walk.old.at walk.new.at walk.new.failure result) }
+    ensures gives { IfHeld (S.seen source.old).holds (λ bytes. IsWalkAt bytes walk.old →
+        IsWalkAt bytes walk.new × GivesOf bytes walk.old.at walk.new.at walk.new.failure result) }
     ensures advances { Advances (S.seen source.old) (S.seen source.new) walk.old.at walk.new.at walk.new.failure
         result }
-    ensures few { IfHeld (S.seen source.old).holds (λ bytes. StandsAt bytes walk.old →
+    ensures few { IfHeld (S.seen source.old).holds (λ bytes. IsWalkAt bytes walk.old →
         ReadsFew bytes walk.old.at result 2 (reached walk.old.window) (reached walk.new.window) (S.seen source.old)
         (S.seen source.new)) }
 {
@@ -129,11 +129,11 @@ fn end<S: Source, A: Allocator>(source: &mut S, walk: &mut Walk<A>) -> Result<Op
     requires sound { walk.old.failure ≡ None }
     requires limit { walk.old.at ≡ max_archive }
     ensures may { MayGoOn walk.new }
-    ensures gives { IfHeld (S.seen source.old).holds (λ bytes. StandsAt bytes walk.old →
-        StandsAt bytes walk.new × GivesOf bytes walk.old.at walk.new.at walk.new.failure result) }
+    ensures gives { IfHeld (S.seen source.old).holds (λ bytes. IsWalkAt bytes walk.old →
+        IsWalkAt bytes walk.new × GivesOf bytes walk.old.at walk.new.at walk.new.failure result) }
     ensures advances { Advances (S.seen source.old) (S.seen source.new) walk.old.at walk.new.at walk.new.failure
         result }
-    ensures few { IfHeld (S.seen source.old).holds (λ bytes. StandsAt bytes walk.old →
+    ensures few { IfHeld (S.seen source.old).holds (λ bytes. IsWalkAt bytes walk.old →
         ReadsFew bytes walk.old.at result 2 (reached walk.old.window) (reached walk.new.window) (S.seen source.old)
         (S.seen source.new)) }
 {
@@ -158,12 +158,12 @@ fn step<S: Source, A: Allocator + Copy>(
     requires may { MayGoOn walk.old }
     ensures may { MayGoOn walk.new }
     ensures kept { (S.seen source.new).holds ≡ (S.seen source.old).holds }
-    ensures stands { IfHeld (S.seen source.old).holds (λ bytes. StandsAt bytes walk.old → StandsAt bytes walk.new) }
-    ensures gives { walk.old.failure ≡ None → IfHeld (S.seen source.old).holds (λ bytes. StandsAt bytes walk.old →
+    ensures is_present { IfHeld (S.seen source.old).holds (λ bytes. IsWalkAt bytes walk.old → IsWalkAt bytes walk.new) }
+    ensures gives { walk.old.failure ≡ None → IfHeld (S.seen source.old).holds (λ bytes. IsWalkAt bytes walk.old →
         GivesOf bytes walk.old.at walk.new.at walk.new.failure result) }
     ensures advances { walk.old.failure ≡ None → Advances (S.seen source.old) (S.seen source.new) walk.old.at
         walk.new.at walk.new.failure result }
-    ensures few { walk.old.failure ≡ None → IfHeld (S.seen source.old).holds (λ bytes. StandsAt bytes walk.old →
+    ensures few { walk.old.failure ≡ None → IfHeld (S.seen source.old).holds (λ bytes. IsWalkAt bytes walk.old →
         ReadsFew bytes walk.old.at result 2 (reached walk.old.window) (reached walk.new.window) (S.seen source.old)
         (S.seen source.new)) }
     ensures failed { (f : FaultOf) → walk.old.failure ≡ Some f → (result ≡ Err f) × (walk.new ≡ walk.old)
@@ -192,7 +192,7 @@ pub struct Pieces<S: Source, A: Allocator = Global> {
 
 impl<S: Source, A: Allocator> Model for Pieces<S, A> {
     ghost use Rattle.warc_frame.specs.Seen.{IfHeld};
-    ghost use Rattle.warc_pieces.specs.Reader.{MayGoOn, Reader, StandsAt};
+    ghost use Rattle.warc_pieces.specs.Reader.{MayGoOn, Reader, IsWalkAt};
     ghost use Rattle.warc_pieces.specs.Window.{reached};
 
     ghost Value = { Reader S };
@@ -204,7 +204,7 @@ impl<S: Source, A: Allocator> Model for Pieces<S, A> {
       reached = reached p.walk.window;
     } };
 
-    ghost invariant = { λ p. MayGoOn p.walk × IfHeld (S.seen p.source).holds (λ bytes. StandsAt bytes p.walk) };
+    ghost invariant = { λ p. MayGoOn p.walk × IfHeld (S.seen p.source).holds (λ bytes. IsWalkAt bytes p.walk) };
 }
 
 impl<S: Source, A: Allocator + Copy> Pieces<S, A> {

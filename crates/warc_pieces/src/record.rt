@@ -14,7 +14,7 @@ use crate::window::{Window, after, read_near};
 use std::alloc::Allocator;
 use warc_frame::{Fault, FaultKind, MAX_ARCHIVE, ReadFault, Source, read_head};
 use warc_quick::quick_record;
-use warc_record::judge_head;
+use warc_record::good_head_of;
 
 /// How many bytes close a record: CRLF CRLF.
 const CLOSING: u64 = 4;
@@ -159,7 +159,7 @@ fn read_block_end<A: Allocator + Copy>(alloc: A, text: &[u8]) -> Result<u64, Fau
     }
     let head = read_head(alloc, text)?;
     let end = head.len as u64 + head.block_len;
-    let _good = match judge_head(head.fields) {
+    let _good = match good_head_of(head.fields) {
         Ok(good) => good,
         Err(kind) => return Err(kind.at(0)),
     };
@@ -252,7 +252,7 @@ fn quick_len<A: Allocator>(window: &Window<A>, at: u64) -> Option<u64>
 }
 
 /// The same as `record_len`, for any head.
-fn judged_len<S: Source, A: Allocator + Copy>(
+fn record_len_by_fields<S: Source, A: Allocator + Copy>(
     alloc: A,
     source: &mut S,
     window: &mut Window<A>,
@@ -291,6 +291,6 @@ pub(crate) fn record_len<S: Source, A: Allocator + Copy>(
 {
     match quick_len(window, at) {
         Some(len) => Ok(len),
-        None => judged_len(alloc, source, window, at),
+        None => record_len_by_fields(alloc, source, window, at),
     }
 }

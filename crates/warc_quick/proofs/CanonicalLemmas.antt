@@ -53,10 +53,10 @@ front_more {text} {rest} {more} front (field, is, line) = record {
 area_in : (version : Version) (area : List ℕ) → take (length area) (drop 10 (head_text version area)) ≡ area
 area_in version area =
     let line = version_line version in
-    let behind : drop 10 (head_text version area) ≡ area ++ crlf =
+    let following : drop 10 (head_text version area) ≡ area ++ crlf =
     ap (drop 10) (append_assoc line area crlf) ∙ ap (λ n. drop n (line ++ (area ++ crlf))) (sym (version_size version))
     ∙ drop-append_seam line (area ++ crlf) in
-    ap (take (length area)) behind ∙ take-append_seam area crlf
+    ap (take (length area)) following ∙ take-append_seam area crlf
 
 -- what is read of such a head is what it is written from
 pub canonical_head : (text : List ℕ) (block_len : ℕ) (found : QuickHead) → IsQuickHead text found → found.len ≡ length text

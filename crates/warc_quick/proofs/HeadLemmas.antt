@@ -99,9 +99,9 @@ module _ (fields : List Pair) (found : QuickHead) (size : Bor (List ℕ)) (are :
   says target digest mark payload alone findings = record {
     values = are;
     good = (good_heads_have_no_fault fields).0 (record {
-      type_is = record { value = found.texts.kind.now; stands = sym of_type.first; alone = of_type.alone refl; reads = token };
-      id_is = record { value = found.texts.id.now; stands = sym of_id.first; alone = of_id.alone refl; reads = id };
-      date_is = record { value = found.texts.date.now; stands = sym of_date.first; alone = of_date.alone refl; reads = date };
+      type_is = record { value = found.texts.kind.now; is_present = sym of_type.first; alone = of_type.alone refl; reads = token };
+      id_is = record { value = found.texts.id.now; is_present = sym of_id.first; alone = of_id.alone refl; reads = id };
+      date_is = record { value = found.texts.date.now; is_present = sym of_date.first; alone = of_date.alone refl; reads = date };
     });
     block = block_is fields size found.block_len of_size number;
     texts = record {

@@ -12,7 +12,7 @@ use Rattle.warc_frame.specs.Names.{warc_target_uri}
 use Rattle.warc_record.specs.declared.table.FieldRule.{FieldRule}
 use Rattle.warc_record.specs.declared.checks.TableCheck.TheVariants.{Lacks, HasForbidden, Repeats}
 use Rattle.warc_record.specs.declared.types.Kind.{Kind}
-use Rattle.warc_record.specs.Findings.{SeenFinding, by_table, stands}
+use Rattle.warc_record.specs.Findings.{SeenFinding, by_table, is_present}
 use Rattle.warc_record.specs.Kinds.{is_known}
 use Rattle.warc_record.specs.Ids.{bare_text}
 use Rattle.warc_record.specs.Readings.{bare_present, unless_empty}
@@ -57,8 +57,8 @@ is_target IdentifiedPayloadType = refl
 is_target ContentType = refl
 
 -- a target's value stands if its bare text isn't empty, another's if it isn't empty itself
-abbrev value_stands : Bool → Option (List ℕ) → Bool
-value_stands target value = if target then is_some (bare_present value) else is_some (option_and_then unless_empty value)
+abbrev value_is_present : Bool → Option (List ℕ) → Bool
+value_is_present target value = if target then is_some (bare_present value) else is_some (option_and_then unless_empty value)
 
 nothing_bare : bare_text [] ≡ []
 unfolding bare_text trimmed
@@ -73,14 +73,14 @@ some_bare [] = ap (λ (t : List ℕ). not (length t == 0)) (sym nothing_bare)
 some_bare (b ∷ bs) = rw (some_bytes b bs) (some_text (bare_text (b ∷ bs)))
 
 -- a target whose bare text isn't empty
-pub target_stands : (fields : List Pair) (values : List (Option (Bor (List ℕ)))) (name : FieldName) (place : ℕ) → AreValues fields values
+pub target_is_present : (fields : List Pair) (values : List (Option (Bor (List ℕ)))) (name : FieldName) (place : ℕ) → AreValues fields values
     → name_place name ≡ place → place ≡ 4 → (value : Bor (List ℕ)) → Some value ≡ get_or values place None
-    → not (length (bare_text value.now) == 0) ≡ stands (name_text name) fields
-target_stands fields values name place are at four value is =
+    → not (length (bare_text value.now) == 0) ≡ is_present (name_text name) fields
+target_is_present fields values name place are at four value is =
     let of : IsValueOf name fields (Some value) =
     subst (λ found. IsValueOf name fields found) (ap (λ k. get_or values k None) at ∙ sym is) (are.each name) in
     sym (some_bare value.now) ∙ ap (λ found. is_some (bare_present found)) of.first
-    ∙ ap (λ b. value_stands b (first_value (name_text name) fields)) (sym (is_target name ∙ eq-eqb _ _ (at ∙ four)))
+    ∙ ap (λ b. value_is_present b (first_value (name_text name) fields)) (sym (is_target name ∙ eq-eqb _ _ (at ∙ four)))
 
 -- the names of the field table, in its order
 abbrev pub ruled_names : List FieldName
@@ -134,12 +134,12 @@ module _ (rows : List FieldRule) (are : map rule_seen rows ≡ rules) where
       (ap (λ xs. get_or xs k no_rule) (sym are) ∙ get_or-map rule_seen rows k d no_rule (omega (arith, inside, row_count))) (rule_is k no_rule inside)
 
 -- a test that no item passes selects none
-pub none_selected : {X Y : Type 0} (P : X → Type 0) (told : X → Y) (test : X → Bool) → ((x : X) → P x → test x ≡ false) → (xs : List X) → All P xs
-    → map told (filter test xs) ≡ []
-none_selected P told test never [] all = refl
-none_selected P told test never (x ∷ xs) all =
-    ap (λ b. map told (cond b (x ∷ filter test xs) (filter test xs))) (never x (all 0 x (omega arith)))
-    ∙ none_selected P told test never xs (λ k d inside. all (suc k) d (omega (arith, inside)))
+pub none_selected : {X Y : Type 0} (P : X → Type 0) (reported : X → Y) (test : X → Bool) → ((x : X) → P x → test x ≡ false) → (xs : List X) → All P xs
+    → map reported (filter test xs) ≡ []
+none_selected P reported test never [] all = refl
+none_selected P reported test never (x ∷ xs) all =
+    ap (λ b. map reported (cond b (x ∷ filter test xs) (filter test xs))) (never x (all 0 x (omega arith)))
+    ∙ none_selected P reported test never xs (λ k d inside. all (suc k) d (omega (arith, inside)))
 
 and_none : (b : Bool) → (b && false) ≡ false
 and_none true = refl
@@ -147,15 +147,15 @@ and_none false = refl
 
 -- the rules that a record keeps give no finding of any check
 module _ (kind : Kind) (fields : List Pair) where
-  not_lacking : (row : Rule) → IsKept kind fields row → (is_among kind row.required && not (stands row.name fields)) ≡ false
-  not_lacking row is = by (is_among kind row.required) (stands row.name fields) is.required
+  not_lacking : (row : Rule) → IsKept kind fields row → (is_among kind row.required && not (is_present row.name fields)) ≡ false
+  not_lacking row is = by (is_among kind row.required) (is_present row.name fields) is.required
     where
       by : (asked there : Bool) → (asked ≡ true → there ≡ true) → (asked && not there) ≡ false
       by true there has = ap not (has refl)
       by false there has = refl
 
-  not_forbidden : (row : Rule) → IsKept kind fields row → (is_among kind row.forbidden && stands row.name fields) ≡ false
-  not_forbidden row is = by (is_among kind row.forbidden) (stands row.name fields) is.forbidden
+  not_forbidden : (row : Rule) → IsKept kind fields row → (is_among kind row.forbidden && is_present row.name fields) ≡ false
+  not_forbidden row is = by (is_among kind row.forbidden) (is_present row.name fields) is.forbidden
     where
       by : (barred there : Bool) → (there ≡ true → barred ≡ false) → (barred && there) ≡ false
       by barred true free = rw (free refl) refl

@@ -4,7 +4,7 @@ use Rattle.warc_field.specs.Area.{Pair}
 use Rattle.warc_record.specs.declared.checks.TableCheck.{TableCheck}
 use Rattle.warc_record.specs.declared.checks.TableCheck.TheVariants as table
 use Rattle.warc_record.specs.declared.types.Kind.{Kind}
-use Rattle.warc_record.specs.Findings.{stands}
+use Rattle.warc_record.specs.Findings.{is_present}
 use Rattle.warc_record.specs.Kinds.{is_known, is_continuation}
 use Rattle.warc_record.specs.Table.{Rule, is_among}
 use Rattle.warc_frame.specs.FieldNames.{name_text}
@@ -15,8 +15,8 @@ use Rattle.warc_quick.specs.declared.table.RuleCheck.TheVariants.{Lacks, HasForb
 
 -- a record keeps a rule of the field table: N1 and N2 aren't found of its field
 pub record IsKept (kind : Kind) (fields : List Pair) (rule : Rule) : Type 0 where
-  pub required : is_among kind rule.required ≡ true → stands rule.name fields ≡ true
-  pub forbidden : stands rule.name fields ≡ true → is_among kind rule.forbidden ≡ false
+  pub required : is_among kind rule.required ≡ true → is_present rule.name fields ≡ true
+  pub forbidden : is_present rule.name fields ≡ true → is_among kind rule.forbidden ≡ false
 
 -- a rule is about the fields of a name
 pub record IsRuleOf (name : FieldName) (rule : Rule) : Type 0 where

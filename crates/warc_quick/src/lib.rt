@@ -21,6 +21,6 @@ mod values;
 pub use alone::{AloneHead, alone_head};
 pub use canonical::is_canonical_head;
 pub use head::{QuickHead, quick_head};
-pub use plain::{QuickRecord, judged_record, quick_record};
+pub use plain::{QuickRecord, quick_record, record_with_findings};
 pub use plain_findings::{PlainFinding, PlainFindings};
-pub use record_findings::judged_text;
+pub use record_findings::text_findings;

@@ -6,7 +6,7 @@ ghost use Rattle.warc_field.specs.Lines.{crlf};
 ghost use Rattle.warc_field.specs.Text.{is_value_byte};
 ghost use Rattle.warc_quick.specs.Fronts.{BeginsWithLine};
 
-use crate::names::{Naming, judge_name};
+use crate::names::{Naming, naming_of};
 use crate::runs::{find_colon, value_len};
 use warc_field::trim;
 use warc_frame::laws::are_field_names;
@@ -47,7 +47,7 @@ pub(crate) fn first_line(text: &[u8]) -> Option<Line<'_>>
     are_field_names();
     let colon = find_colon(text)?;
     let name = &text[..colon];
-    let naming = judge_name(name)?;
+    let naming = naming_of(name)?;
     let (rest, more) = split_crlf(&text[colon + 1..])?;
     Some(Line {
         name,

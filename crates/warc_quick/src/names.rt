@@ -98,7 +98,7 @@ fn other_name(text: &[u8]) -> Option<Naming>
 }
 
 /// Which name a text is, unless it is no name, or one of these names in another case.
-pub(crate) fn judge_name(text: &[u8]) -> Option<Naming>
+pub(crate) fn naming_of(text: &[u8]) -> Option<Naming>
     ensures { IfSome result (IsNaming text.now) }
 {
     let Some(known) = FieldName::candidate(text) else {

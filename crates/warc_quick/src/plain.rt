@@ -5,7 +5,7 @@ ghost use Rattle.warc_frame.specs.Record.{max_block};
 ghost use Rattle.warc_quick.specs.Quick.{IsQuickHead, IsQuickRecord};
 
 use crate::head::{QuickHead, quick_head};
-use crate::record_findings::judged_head;
+use crate::record_findings::head_with_findings;
 
 /// What closes a record.
 const CLOSING: &[u8] = b"\r\n\r\n";
@@ -73,8 +73,8 @@ pub fn quick_record(text: &[u8]) -> Option<QuickRecord<'_>>
 }
 
 /// The same record, with its findings, if they are known.
-pub fn judged_record(text: &[u8]) -> Option<QuickRecord<'_>>
+pub fn record_with_findings(text: &[u8]) -> Option<QuickRecord<'_>>
     ensures { IfSome result (IsQuickRecord text.now) }
 {
-    with_block(text, judged_head(text)?)
+    with_block(text, head_with_findings(text)?)
 }

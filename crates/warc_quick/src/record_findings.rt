@@ -77,7 +77,7 @@ fn findings_of(text: &[u8], head: &QuickHead<'_>, values: &Values<'_>) -> Option
 
 /// Reads the good head at the front of a text as `quick_head` does, with the findings of its record, if they are known.
 #[inline(always)]
-pub(crate) fn judged_head(text: &[u8]) -> Option<QuickHead<'_>>
+pub(crate) fn head_with_findings(text: &[u8]) -> Option<QuickHead<'_>>
     ensures head { IfSome result (IsQuickHead text.now) }
     ensures block { IfSome result (λ head. head.block_len ≤ max_block) }
 {
@@ -89,10 +89,10 @@ pub(crate) fn judged_head(text: &[u8]) -> Option<QuickHead<'_>>
 
 /// The digest that a head asks for of its block, and all findings of its record but N4 and N6, if the text is a plain,
 /// good head of a block of `block_len` bytes, and they are known. `None` says nothing of the text.
-pub fn judged_text(text: &[u8], block_len: u64) -> Option<(Wanted, PlainFindings)>
+pub fn text_findings(text: &[u8], block_len: u64) -> Option<(Wanted, PlainFindings)>
     ensures { IfSome result (λ judged. IsJudgedHead text.now block_len judged.0 judged.1) }
 {
-    let head = judged_head(text)?;
+    let head = head_with_findings(text)?;
     if head.len != text.len() || head.block_len != block_len {
         return None;
     }

@@ -5,7 +5,7 @@ ghost use Rattle.warc_field.specs.Area.{Pair};
 ghost use Rattle.warc_frame.specs.declared.field_name.FieldName.{FieldName};
 ghost use Rattle.warc_frame.specs.FieldNames.{name_count, name_place, name_text};
 ghost use Rattle.warc_record.specs.declared.checks.TableCheck.TheVariants.{Lacks, HasForbidden};
-ghost use Rattle.warc_record.specs.Findings.{broken_rule, by_table, is_broken, stands};
+ghost use Rattle.warc_record.specs.Findings.{broken_rule, by_table, is_broken, is_present};
 ghost use Rattle.warc_record.specs.Table.{rule_seen, rules};
 ghost use Rattle.warc_quick.specs.Fronts.{AreValues};
 ghost use Rattle.warc_quick.specs.PlainFindings.{all_plain, plain_seen};
@@ -21,10 +21,10 @@ const FIRST_RULED: usize = FieldName::TargetUri as usize;
 
 /// Whether the field whose name has this place is there. An empty value counts as absent, and so does a target whose
 /// bare text is empty.
-fn is_present(values: &Values<'_>, place: usize) -> bool
+fn is_given(values: &Values<'_>, place: usize) -> bool
     requires { place < name_count }
     ensures { (fields : List Pair) (name : FieldName) → AreValues fields values.now.values → name_place name ≡ place
-        → result ≡ stands (name_text name) fields }
+        → result ≡ is_present (name_text name) fields }
 {
     let Some(value) = values.at(place) else {
         return false;
@@ -42,7 +42,7 @@ fn keeps_rule(kind: Kind, rule: &FieldRule, values: &Values<'_>, place: usize) -
     ensures { result ≡ true → (fields : List Pair) (name : FieldName) → AreValues fields values.now.values
         → name_place name ≡ place → IsRuleOf name (rule_seen rule.now) → IsKept kind fields (rule_seen rule.now) }
 {
-    if is_present(values, place) {
+    if is_given(values, place) {
         !is_among(kind, rule.forbidden)
     } else {
         !is_among(kind, rule.required)
@@ -90,7 +90,7 @@ fn is_broken(check: RuleCheck, kind: Kind, values: &Values<'_>, rule: &FieldRule
     ensures { (fields : List Pair) → AreValues fields values.now.values
         → result ≡ is_broken (check_of check) kind fields (rule_seen rule.now) }
 {
-    let is_there = is_present(values, rule.field.place());
+    let is_there = is_given(values, rule.field.place());
     match check {
         RuleCheck::Lacks => is_among(kind, rule.required) && !is_there,
         RuleCheck::HasForbidden => is_among(kind, rule.forbidden) && is_there,

@@ -52,7 +52,7 @@ texts_short p area is =
     )
 
 -- a record's row, and how long its texts are
-module _ (q k : ℕ) (p : Placed) (front : List ℕ) (is : Spells p.content front) (at : p.offset ≡ q) (behind : p.block_start + length p.content.block + 4 ≡ q + length front) where
+module _ (q k : ℕ) (p : Placed) (front : List ℕ) (is : Spells p.content front) (at : p.offset ≡ q) (following : p.block_start + length p.content.block + 4 ≡ q + length front) where
   head_size : length (head_text p.content.version is.area) ≡ length (version_line p.content.version) + length is.area + 2
   head_size = simp length-append (omega arith)
 
@@ -70,8 +70,8 @@ module _ (q k : ℕ) (p : Placed) (front : List ℕ) (is : Spells p.content fron
 
   fits_one : q + length front ≤ max_archive → k ≤ q → Fits k (row_of p)
   fits_one short low = record {
-    order = omega (arith, at, behind, front_size);
-    head = omega (arith, at, behind, front_size, is.head);
+    order = omega (arith, at, following, front_size);
+    head = omega (arith, at, following, front_size, is.head);
     offset = omega (arith, at, front_size, short);
     block = omega (arith, front_size, short);
     begin = omega (arith, front_size, short, low);
@@ -85,18 +85,18 @@ fits_from : (q k : ℕ) (ps : List Placed) (text : List ℕ) (rows more : List R
     → Fits (k + sum_by texts_len rows) row
 fits_from q k [] text [] more row spelled same short low = absurd (cc same)
 fits_from q k [] text (r ∷ rows) more row spelled same short low = absurd (cc same)
-fits_from q k (p ∷ ps) text [] more row (front, rest, one, at, behind, whole, on) same short low =
+fits_from q k (p ∷ ps) text [] more row (front, rest, one, at, following, whole, on) same short low =
     let row_is : row_of p ≡ row = cc same in
     let size = ap length whole ∙ length-append front rest in
     let n : k ≡ k + sum_by texts_len [] = omega arith in
     let P : ℕ → Type 0 = λ m. Fits m row in
     let Q : Row → Type 0 = λ r. Fits k r in
-    subst P n (subst Q row_is (fits_one q k p front one at behind (omega (arith, size, short)) low))
-fits_from q k (p ∷ ps) text (r ∷ rows) more row (front, rest, one, at, behind, whole, on) same short low =
+    subst P n (subst Q row_is (fits_one q k p front one at following (omega (arith, size, short)) low))
+fits_from q k (p ∷ ps) text (r ∷ rows) more row (front, rest, one, at, following, whole, on) same short low =
     let row_is : row_of p ≡ r = cc same in
     let others : map row_of ps ≡ rows ++ row ∷ more = cc same in
     let size = ap length whole ∙ length-append front rest in
-    let texts : texts_len r ≤ length front = omega (arith, texts_front q k p front one at behind, ap texts_len row_is) in
+    let texts : texts_len r ≤ length front = omega (arith, texts_front q k p front one at following, ap texts_len row_is) in
     let n : (k + texts_len r) + sum_by texts_len rows ≡ k + sum_by texts_len (r ∷ rows) = omega (arith, sum_by-cons texts_len r rows) in
     let P : ℕ → Type 0 = λ m. Fits m row in
     subst P n (fits_from (q + length front) (k + texts_len r) ps rest rows more row on others (omega (arith, size, short)) (omega (arith, texts, low)))

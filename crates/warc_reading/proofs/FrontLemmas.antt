@@ -9,7 +9,7 @@ use Rattle.warc_frame.specs.Faults.{AllAccepted, HasFault, goes_on, limited, wit
 use Rattle.warc_frame.specs.Reading.{Head, any_fields, fault, head_of, record_of}
 use Rattle.warc_frame.specs.Record.{Record, head_text, max_archive}
 use Rattle.warc_frame.specs.Spelling.{Spells}
-use Rattle.warc_frame.specs.Told.{IsExact, Lies, Refuses, RefusesAs, Refutes, Told, Unclosed}
+use Rattle.warc_frame.specs.Reported.{IsExact, Lies, Refuses, RefusesAs, Refutes, Reported, Unclosed}
 use Rattle.warc_frame.specs.declared.fault.Fault.{Fault}
 use Rattle.warc_frame.specs.declared.fault.FaultKind.{FaultKind}
 use Rattle.warc_frame.specs.declared.fault.FaultKind.TheVariants.{Memory, Read, Truncated}
@@ -20,7 +20,7 @@ use Rattle.warc_reading.specs.Archive.{contents}
 use Rattle.warc_reading.specs.Fronts.{BeginsWithNone, IsLongestFront, reach_by, reach_of}
 use Rattle.warc_reading.specs.Row.{Placed, Row}
 use Rattle.warc_reading.specs.Stream.{HasRead, Stops}
-use Rattle.warc_reading.specs.declared.stream.Reading.{Reading}
+use Rattle.warc_reading.specs.declared.stream.StreamState.{StreamState}
 use Rattle.warc_reading.proofs.GoodLemmas.{are_good}
 use Rattle.warc_reading.proofs.KindLemmas.{head_kind, is_of_head, limited_kind}
 use Rattle.warc_reading.proofs.StreamLemmas.{same_front, spells_all}
@@ -76,7 +76,7 @@ head_none u head bytes more kind bytes_are read found = λ r text rest whole spe
 
 -- ---- the front that was read
 
-module _ {A B L : Type 0} {Sees : B → List Pair → List ℕ → Type 0} {K : L → List Placed → Type 0} (text : List ℕ) (told : Told) (r : Reading A L B) (has : HasRead Sees K text told r) (rows : List Row) (same : rows ≡ r.rows)
+module _ {A B L : Type 0} {Sees : B → List Pair → List ℕ → Type 0} {K : L → List Placed → Type 0} (text : List ℕ) (reported : Reported) (r : StreamState A L B) (has : HasRead Sees K text reported r) (rows : List Row) (same : rows ≡ r.rows)
     (low : length text ≤ max_archive) where
   front_at : (bytes rest : List ℕ) → bytes ≡ has.front ++ rest → BeginsWithNone rest → IsLongestFront bytes rows
   front_at bytes rest is none =
@@ -90,7 +90,7 @@ module _ {A B L : Type 0} {Sees : B → List Pair → List ℕ → Type 0} {K : 
           are = record {
             records = has.records;
             spelled = has.spelled;
-            good = are_good (contents has.records) has.front (spells_all 0 has.records has.front has.spelled) (subst Q has.told_is has.good);
+            good = are_good (contents has.records) has.front (spells_all 0 has.records has.front has.spelled) (subst Q has.reported_is has.good);
             rows_are = same ∙ has.rows_are;
           };
         };
@@ -98,9 +98,9 @@ module _ {A B L : Type 0} {Sees : B → List Pair → List ℕ → Type 0} {K : 
       }
 
   -- less than a record lies behind it
-  pub longest_cut : Lies text told → IsLongestFront text rows
+  pub longest_cut : Lies text reported → IsLongestFront text rows
   longest_cut lies =
-      let front = (same_front text [] lies.front lies.rest told r has (append-nil text ∙ lies.text_is) lies.spelled).0 in
+      let front = (same_front text [] lies.front lies.rest reported r has (append-nil text ∙ lies.text_is) lies.spelled).0 in
       front_at text lies.rest (lies.text_is ∙ ap (λ f. f ++ lies.rest) (sym front)) (reads_none lies.rest (fault Truncated (length lies.rest)) lies.cut)
 
   -- memory was wanted for the record behind it
@@ -118,12 +118,12 @@ module _ {A B L : Type 0} {Sees : B → List Pair → List ℕ → Type 0} {K : 
       let sum : max_archive ≡ length t + (max_archive - length t) = omega (arith, short) in
       ap (λ n. take n (t ++ more)) sum ∙ take-append-add t more (max_archive - length t)
 
-  pub longest_head : (piece more : List ℕ) (u : Unclosed) (kind : FaultKind) → told.unclosed ≡ None → IsExact (text ++ piece) (record { records = told.records; unclosed = Some u }) → head_fault u.fields ≡ Some kind
+  pub longest_head : (piece more : List ℕ) (u : Unclosed) (kind : FaultKind) → reported.unclosed ≡ None → IsExact (text ++ piece) (record { records = reported.records; unclosed = Some u }) → head_fault u.fields ≡ Some kind
       → length (text ++ piece) ≤ max_archive → IsLongestFront (take max_archive ((text ++ piece) ++ more)) rows
   longest_head piece more u kind none exact found short =
       let (head, head_is, rest_is) = exact.ends in
       let m : List ℕ = take (max_archive - length (text ++ piece)) more in
-      let front = (same_front text piece exact.front exact.rest told r has exact.text_is exact.spelled).0 in
+      let front = (same_front text piece exact.front exact.rest reported r has exact.text_is exact.spelled).0 in
       let cut : take max_archive ((text ++ piece) ++ more) ≡ has.front ++ (exact.rest ++ m) =
       within (text ++ piece) more short ∙ ap (λ t. t ++ m) exact.text_is ∙ append_assoc exact.front exact.rest m ∙ ap (λ f. f ++ (exact.rest ++ m)) (sym front) in
       front_at (take max_archive ((text ++ piece) ++ more)) (exact.rest ++ m) cut
@@ -140,7 +140,7 @@ module _ {A B L : Type 0} {Sees : B → List Pair → List ℕ → Type 0} {K : 
       let kind : g.kind ≡ f.kind = sym (ap (λ (x : Fault). x.kind) at) ∙ ap (λ (x : Fault). x.kind) e in
       reads_none (rest ++ more) g (faults_are_stable-record any_fields rest more g read (λ (cut : g.kind ≡ Truncated). settled (sym kind ∙ cut)))
 
-  refuted_by : (piece more : List ℕ) (f : Fault) (is : Refutes 0 (text ++ piece) told f) (goes : Bool) → goes_on 0 (text ++ piece) ≡ goes → IsLongestFront (take max_archive ((text ++ piece) ++ more)) rows
+  refuted_by : (piece more : List ℕ) (f : Fault) (is : Refutes 0 (text ++ piece) reported f) (goes : Bool) → goes_on 0 (text ++ piece) ≡ goes → IsLongestFront (take max_archive ((text ++ piece) ++ more)) rows
   unfolding within_limit goes_on
   refuted_by piece more f is true on =
       let t : List ℕ = text ++ piece in
@@ -148,7 +148,7 @@ module _ {A B L : Type 0} {Sees : B → List Pair → List ℕ → Type 0} {K : 
       let long : max_archive - 0 < length t = ltb-true _ _ on in
       let whole : t ≡ is.reads.front ++ (is.reads.rest ++ beyond) =
       sym (take-append-drop (max_archive - 0) t) ∙ ap (λ x. x ++ beyond) is.reads.text ∙ append_assoc is.reads.front is.reads.rest beyond in
-      let front = (same_front text piece is.reads.front (is.reads.rest ++ beyond) told r has whole is.reads.spelled).0 in
+      let front = (same_front text piece is.reads.front (is.reads.rest ++ beyond) reported r has whole is.reads.spelled).0 in
       let cut : take max_archive (t ++ more) ≡ has.front ++ is.reads.rest =
       take-append-le max_archive t more (omega (arith, long)) ∙ is.reads.text ∙ ap (λ x. x ++ is.reads.rest) (sym front) in
       front_at (take max_archive (t ++ more)) is.reads.rest cut (found_none _ is.reads.rest is.found is.reads.fault_is)
@@ -157,26 +157,26 @@ module _ {A B L : Type 0} {Sees : B → List Pair → List ℕ → Type 0} {K : 
       let short : length t ≤ max_archive - 0 = ltb-false _ _ on in
       let m : List ℕ = take (max_archive - length t) more in
       let whole : t ≡ is.reads.front ++ is.reads.rest = sym (take_all (max_archive - 0) t short) ∙ is.reads.text in
-      let front = (same_front text piece is.reads.front is.reads.rest told r has whole is.reads.spelled).0 in
+      let front = (same_front text piece is.reads.front is.reads.rest reported r has whole is.reads.spelled).0 in
       let found : is.found ≡ Some f = ap (λ b. limited b is.found) (sym on) ∙ is.limit in
       let cut : take max_archive (t ++ more) ≡ has.front ++ (is.reads.rest ++ m) =
       within t more (omega (arith, short)) ∙ ap (λ x. x ++ m) whole ∙ append_assoc is.reads.front is.reads.rest m ∙ ap (λ x. x ++ (is.reads.rest ++ m)) (sym front) in
       front_at (take max_archive (t ++ more)) (is.reads.rest ++ m) cut (stays_none _ is.reads.rest m is.found f is.reads.fault_is found is.settled)
 
-  step_by : (kind : FaultKind) (offset : ℕ) (piece more : List ℕ) → RefusesAs kind 0 (text ++ piece) told (fault kind offset) → IsLongestFront (take (reach_by kind offset) ((text ++ piece) ++ more)) rows
+  step_by : (kind : FaultKind) (offset : ℕ) (piece more : List ℕ) → RefusesAs kind 0 (text ++ piece) reported (fault kind offset) → IsLongestFront (take (reach_by kind offset) ((text ++ piece) ++ more)) rows
   unfolding within_limit
   step_by Memory offset piece more is =
       let t : List ℕ = text ++ piece in
       let beyond : List ℕ = drop (max_archive - 0) t in
       let whole : t ≡ is.front ++ (is.rest ++ beyond) =
       sym (take-append-drop (max_archive - 0) t) ∙ ap (λ x. x ++ beyond) is.text_is ∙ append_assoc is.front is.rest beyond in
-      let front = (same_front text piece is.front (is.rest ++ beyond) told r has whole is.spelled).0 in
+      let front = (same_front text piece is.front (is.rest ++ beyond) reported r has whole is.spelled).0 in
       longest_before piece more offset (omega (arith, is.offset_is, ap length front))
   step_by Read offset piece more is = absurd (limited_kind _ is.found is.reads.rest _ (fault Read offset) is.reads.fault_is is.limit refl)
   step_by kind offset piece more is = refuted_by piece more (fault kind offset) is (goes_on 0 (text ++ piece)) refl
 
   -- a step of the decoder failed
-  pub step_stops : (piece : List ℕ) (f : Fault) → Refuses 0 (text ++ piece) told f → Stops (text ++ piece) rows f
+  pub step_stops : (piece : List ℕ) (f : Fault) → Refuses 0 (text ++ piece) reported f → Stops (text ++ piece) rows f
   step_stops piece f is = λ more. step_by f.kind f.offset piece more is
 
   -- memory was wanted for what is kept of a record
@@ -196,8 +196,8 @@ stops_more text more rows f is = λ rest.
     subst P (sym (append_assoc text more rest)) (is (more ++ rest))
 
 -- a head was refused
-pub head_stops_at : {A B L : Type 0} {Sees : B → List Pair → List ℕ → Type 0} {K : L → List Placed → Type 0} (text piece : List ℕ) (told : Told) (r : Reading A L B) (has : HasRead Sees K text told r) (rows : List Row) → rows ≡ r.rows → length text ≤ max_archive → (u : Unclosed) (kind : FaultKind) (offset : ℕ)
-    → told.unclosed ≡ None → IsExact (text ++ piece) (record { records = told.records; unclosed = Some u }) → head_fault u.fields ≡ Some kind → length (text ++ piece) ≤ max_archive → Stops (text ++ piece) rows (fault kind offset)
-head_stops_at text piece told r has rows same low u kind offset none exact found short = λ more.
+pub head_stops_at : {A B L : Type 0} {Sees : B → List Pair → List ℕ → Type 0} {K : L → List Placed → Type 0} (text piece : List ℕ) (reported : Reported) (r : StreamState A L B) (has : HasRead Sees K text reported r) (rows : List Row) → rows ≡ r.rows → length text ≤ max_archive → (u : Unclosed) (kind : FaultKind) (offset : ℕ)
+    → reported.unclosed ≡ None → IsExact (text ++ piece) (record { records = reported.records; unclosed = Some u }) → head_fault u.fields ≡ Some kind → length (text ++ piece) ≤ max_archive → Stops (text ++ piece) rows (fault kind offset)
+head_stops_at text piece reported r has rows same low u kind offset none exact found short = λ more.
     let P : ℕ → Type 0 = λ n. IsLongestFront (take n ((text ++ piece) ++ more)) rows in
-    subst P (sym (head_reach kind offset (head_kind u.fields kind found))) (longest_head text told r has rows same low piece more u kind none exact found short)
+    subst P (sym (head_reach kind offset (head_kind u.fields kind found))) (longest_head text reported r has rows same low piece more u kind none exact found short)

@@ -12,7 +12,7 @@ use Rattle.warc_frame.specs.Reading.{fault}
 use Rattle.warc_frame.specs.Record.{Record, max_archive}
 use Rattle.warc_frame.specs.Spelling.{SpellsAll}
 use Rattle.warc_frame.specs.Seen.{GoesOn, InOrder, SeenSource}
-use Rattle.warc_frame.specs.Told.{Lies, Told, nothing}
+use Rattle.warc_frame.specs.Reported.{Lies, Reported, nothing}
 use Rattle.warc_frame.specs.declared.fault.Fault.{Fault}
 use Rattle.warc_frame.specs.declared.fault.FaultKind.TheVariants.{Memory, Read, Truncated}
 use Rattle.warc_frame.proofs.JudgedLemmas.{judged_cut}
@@ -23,15 +23,15 @@ use Rattle.warc_reading.specs.Fronts.{AreFrontRows, IsLongestFront, reach_of}
 use Rattle.warc_reading.specs.Growing.{Grows, IsDeviceFault, grown}
 use Rattle.warc_reading.specs.Opening.{Opens, OpensFrom, faults_after, without_source}
 use Rattle.warc_reading.specs.Row.{Placed, Row, row_of}
-use Rattle.warc_reading.specs.Stream.{BeginsSince, Extends, Follows, HasGiven, HasGivenFrom, HasRead, IsKeptOf, IsLeft, Matches, Since, Stands, StaysRefused, Stops, WantsSince}
+use Rattle.warc_reading.specs.Stream.{BeginsSince, Extends, Follows, HasGiven, HasGivenFrom, HasRead, IsKeptOf, IsLeft, Matches, Since, IsReadSoFar, StaysRefused, Stops, WantsSince}
 use Rattle.warc_reading.specs.declared.stream.Current.{Current}
-use Rattle.warc_reading.specs.declared.stream.Reading.{Reading}
+use Rattle.warc_reading.specs.declared.stream.StreamState.{StreamState}
 use Rattle.warc_reading.proofs.FrontLemmas.{longest_cut, none_read}
 use Rattle.warc_reading.proofs.GoodLemmas.{accepted}
 use Rattle.warc_reading.proofs.IndexedLemmas.{opens_with, refuses_with}
 use Rattle.warc_reading.proofs.OpeningLemmas.{near_more, opens_ended, opens_refused, opens_unread, read_there}
 use Rattle.warc_reading.proofs.SourceLemmas.{ends, front_grows, not_raised, raised_by_one}
-use Rattle.warc_reading.proofs.StreamLemmas.{accepts_told, kept_whole, spells_all}
+use Rattle.warc_reading.proofs.StreamLemmas.{accepts_reported, kept_whole, spells_all}
 
 -- ---- lists that go on
 
@@ -77,23 +77,23 @@ shorter q (p ∷ ps) more a b (front, rest, one, at, start, is, tail) (front2, r
     omega (arith, shorter (q + length front) ps more rest rest2 tail (subst P same tail2), same, ap length is ∙ length-append front rest, ap length is2 ∙ length-append front2 rest2)
 
 -- the record that is being read begins behind those that were kept
-begins_after : {A B L : Type 0} {Sees : B → List Pair → List ℕ → Type 0} (K : L → List Placed → Type 0) (bytes text : List ℕ) (was : List Row × L) (is : IsKeptOf K bytes was) (told : Told) (r : Reading A L B) → HasRead Sees (Since K is.listed.are.records) text told r
+begins_after : {A B L : Type 0} {Sees : B → List Pair → List ℕ → Type 0} (K : L → List Placed → Type 0) (bytes text : List ℕ) (was : List Row × L) (is : IsKeptOf K bytes was) (reported : Reported) (r : StreamState A L B) → HasRead Sees (Since K is.listed.are.records) text reported r
     → length bytes ≤ r.begin
-begins_after K bytes text was is told r has =
+begins_after K bytes text was is reported r has =
     let on = has.beside.1 in
     let P : List Placed → Type 0 = λ rs. SpellsFrom 0 rs has.front in
     omega (arith, has.begin_is, shorter 0 is.listed.are.records on.0 bytes has.front is.listed.are.spelled (subst P on.1 has.spelled))
 
 -- so memory is wanted behind them
-wants_after : {A B L : Type 0} {Sees : B → List Pair → List ℕ → Type 0} (K : L → List Placed → Type 0) (bytes taken : List ℕ) (was : List Row × L) (is : IsKeptOf K bytes was) (told : Told) (r : Reading A L B) (offset : ℕ)
-    → HasRead Sees (Since K is.listed.are.records) (bytes ++ taken) told r → BeginsSince (bytes ++ taken) r.begin offset → length bytes ≤ offset
-wants_after K bytes taken was is told r offset has (inl same) = omega (arith, same, begins_after K bytes (bytes ++ taken) was is told r has)
-wants_after K bytes taken was is told r offset has (inr after) = omega (arith, after, length-append bytes taken)
+wants_after : {A B L : Type 0} {Sees : B → List Pair → List ℕ → Type 0} (K : L → List Placed → Type 0) (bytes taken : List ℕ) (was : List Row × L) (is : IsKeptOf K bytes was) (reported : Reported) (r : StreamState A L B) (offset : ℕ)
+    → HasRead Sees (Since K is.listed.are.records) (bytes ++ taken) reported r → BeginsSince (bytes ++ taken) r.begin offset → length bytes ≤ offset
+wants_after K bytes taken was is reported r offset has (inl same) = omega (arith, same, begins_after K bytes (bytes ++ taken) was is reported r has)
+wants_after K bytes taken was is reported r offset has (inr after) = omega (arith, after, length-append bytes taken)
 
 -- a decoder that begins behind records might have taken them
-pub at_behind : (at start : ℕ) (bytes : List ℕ) (records : List Record) (d : State) → SpellsAll records bytes → start ≡ at + length bytes
+pub at_after : (at start : ℕ) (bytes : List ℕ) (records : List Record) (d : State) → SpellsAll records bytes → start ≡ at + length bytes
     → IsAt start [] nothing d → IsAt at bytes (record { records = records; unclosed = None }) d
-at_behind at start bytes records d spelled begins is =
+at_after at start bytes records d spelled begins is =
     let none : is.rest ≡ [] = no_more is.front is.rest is.taken_is in
     let P : List ℕ → Type 0 = λ rest. PhaseIs rest None d d.phase in
     record {
@@ -106,21 +106,21 @@ at_behind at start bytes records d spelled begins is =
     }
 
 -- what is kept of records stands where the decoder begins behind them
-pub kept_stands : {A B L : Type 0} {Sees : B → List Pair → List ℕ → Type 0} (K : L → List Placed → Type 0) (bytes : List ℕ) (d : State) (r : Reading A L B) → IsKeptOf K bytes (r.rows, r.beside) → r.begin ≡ length bytes → r.current ≡ None
-    → IsAt r.begin [] nothing d → Stands Sees K bytes d r
-kept_stands {A} {B} {L} {Sees} K bytes d r is at none start =
+pub kept_is_present : {A B L : Type 0} {Sees : B → List Pair → List ℕ → Type 0} (K : L → List Placed → Type 0) (bytes : List ℕ) (d : State) (r : StreamState A L B) → IsKeptOf K bytes (r.rows, r.beside) → r.begin ≡ length bytes → r.current ≡ None
+    → IsAt r.begin [] nothing d → IsReadSoFar Sees K bytes d r
+kept_is_present {A} {B} {L} {Sees} K bytes d r is at none start =
     let records = is.listed.are.records in
     let M : Option (Current A B) → Type 0 = λ c. Matches Sees (length bytes) [] None c in
     record {
-      told = record { records = contents records; unclosed = None };
-      is_at = at_behind 0 r.begin bytes (contents records) d (spells_all 0 records bytes is.listed.are.spelled) (omega (arith, at)) start;
+      reported = record { records = contents records; unclosed = None };
+      is_at = at_after 0 r.begin bytes (contents records) d (spells_all 0 records bytes is.listed.are.spelled) (omega (arith, at)) start;
       has = record {
         records = records;
         front = bytes;
         rest = [];
         text_is = sym (append-nil bytes);
         spelled = is.listed.are.spelled;
-        told_is = refl;
+        reported_is = refl;
         good = accepted (contents records) is.listed.are.good;
         rows_are = is.listed.are.rows_are;
         beside = is.beside;
@@ -129,13 +129,13 @@ kept_stands {A} {B} {L} {Sees} K bytes d r is at none start =
       };
     }
 
-pub begun : {A B L : Type 0} {Sees : B → List Pair → List ℕ → Type 0} (K : L → List Placed → Type 0) (bytes : List ℕ) (d : State) (r : Reading A L B) (is : IsKeptOf K bytes (r.rows, r.beside)) → r.begin ≡ length bytes → r.current ≡ None
-    → IsAt r.begin [] nothing d → Stands Sees (Since K is.listed.are.records) (bytes ++ []) d r
+pub begun : {A B L : Type 0} {Sees : B → List Pair → List ℕ → Type 0} (K : L → List Placed → Type 0) (bytes : List ℕ) (d : State) (r : StreamState A L B) (is : IsKeptOf K bytes (r.rows, r.beside)) → r.begin ≡ length bytes → r.current ≡ None
+    → IsAt r.begin [] nothing d → IsReadSoFar Sees (Since K is.listed.are.records) (bytes ++ []) d r
 begun {A} {B} {L} {Sees} K bytes d r is at none start =
     let was = is.listed.are.records in
     let since : IsKeptOf (Since K was) bytes (r.rows, r.beside) = record { listed = is.listed; beside = (is.beside, extends_none was) } in
-    let P : List ℕ → Type 0 = λ t. Stands Sees (Since K was) t d r in
-    subst P (sym (append-nil bytes)) (kept_stands (Since K was) bytes d r since at none start)
+    let P : List ℕ → Type 0 = λ t. IsReadSoFar Sees (Since K was) t d r in
+    subst P (sym (append-nil bytes)) (kept_is_present (Since K was) bytes d r since at none start)
 
 -- ---- what a source gives from an offset on
 
@@ -201,8 +201,8 @@ follows_on E start at n old mid new taken buf here size low follows goes = λ is
     (on.0 ∙ was.0, on.1 ∙ ap Some e)
 
 -- a piece was taken
-pub part_grows : {A B L : Type 0} {Sees : B → List Pair → List ℕ → Type 0} (K : L → List Placed → Type 0) (was : List Placed) (bytes taken part : List ℕ) (d : State) (r : Reading A L B) → Stands Sees (Since K was) ((bytes ++ taken) ++ part) d r → Stands Sees (Since K was) (bytes ++ (taken ++ part)) d r
-part_grows {A} {B} {L} {Sees} K was bytes taken part d r stands = let P : List ℕ → Type 0 = λ t. Stands Sees (Since K was) t d r in subst P (append_assoc bytes taken part) stands
+pub part_grows : {A B L : Type 0} {Sees : B → List Pair → List ℕ → Type 0} (K : L → List Placed → Type 0) (was : List Placed) (bytes taken part : List ℕ) (d : State) (r : StreamState A L B) → IsReadSoFar Sees (Since K was) ((bytes ++ taken) ++ part) d r → IsReadSoFar Sees (Since K was) (bytes ++ (taken ++ part)) d r
+part_grows {A} {B} {L} {Sees} K was bytes taken part d r is_present = let P : List ℕ → Type 0 = λ t. IsReadSoFar Sees (Since K was) t d r in subst P (append_assoc bytes taken part) is_present
 
 pub on_err : {X E P : Type 0} (r : Result X E) → P → OnErr r P
 on_err (Ok x) p = tt
@@ -229,13 +229,13 @@ whole_given start old new taken bytes more has at held = record {
 -- ---- how it ends
 
 -- the stream ends where the source does
-finished : {A B L : Type 0} {Sees : B → List Pair → List ℕ → Type 0} (K : L → List Placed → Type 0) (was : List Placed) (text : List ℕ) (told : Told) (r : Reading A L B) (result : Result (Unit {0}) Fault) → HasRead Sees (Since K was) text told r → Lies text told
-    → length text ≤ max_archive → Finishes 0 text told result → MatchResult (grown result (r.rows, r.beside)) (IsKeptOf K text) (λ f. (f.kind ≡ Truncated) × IsFaultOf text f)
-finished K was text told r (Ok u) has lies short (none, spelled) =
-    let kept = kept_whole text told r has spelled short in
+finished : {A B L : Type 0} {Sees : B → List Pair → List ℕ → Type 0} (K : L → List Placed → Type 0) (was : List Placed) (text : List ℕ) (reported : Reported) (r : StreamState A L B) (result : Result (Unit {0}) Fault) → HasRead Sees (Since K was) text reported r → Lies text reported
+    → length text ≤ max_archive → Finishes 0 text reported result → MatchResult (grown result (r.rows, r.beside)) (IsKeptOf K text) (λ f. (f.kind ≡ Truncated) × IsFaultOf text f)
+finished K was text reported r (Ok u) has lies short (none, spelled) =
+    let kept = kept_whole text reported r has spelled short in
     record { listed = kept.listed; beside = kept.beside.0 }
-finished K was text told r (Err f) has lies short (is, frame) =
-    (ap (λ (g : Fault). g.kind) is, judged_cut head_fault 0 text told f lies (accepts_told text told r has) (omega (arith, short)) frame)
+finished K was text reported r (Err f) has lies short (is, frame) =
+    (ap (λ (g : Fault). g.kind) is, judged_cut head_fault 0 text reported f lies (accepts_reported text reported r has) (omega (arith, short)) frame)
 
 module _ (start : ℕ) (old mid new : SeenSource) (taken : List ℕ) (has : HasGivenFrom start old mid taken) (failed : Bool) (len : ℕ) (read : IsReadAt (start + length taken) len failed mid new) (short : start + length taken ≤ max_archive) (fits : start + length taken + len ≤ max_archive + 1) where
   bound : new.reads ≤ old.reads + max_archive + 1
@@ -270,11 +270,11 @@ module _ (start : ℕ) (old mid new : SeenSource) (taken : List ℕ) (has : HasG
       → MatchResult answer (λ x. new.faults ≡ old.faults) (λ f. new.faults ≡ faults_after f.kind old.faults) → IfErr answer (λ f. f.kind ≡ Read → f.offset ≡ new.asked)
       → IfErr answer (λ f. f.kind ≡ Read → f.offset ≡ start + length taken) → ((bytes : List ℕ) → Is bytes was → IfOk answer (λ x. (more : List ℕ) × Is (bytes ++ more) x))
       → ((bytes : List ℕ) → Is bytes was → IfErr answer (λ f. f.kind ≡ Memory → length bytes ≤ f.offset)) → Grows Is was old new answer
-  grows_by was answer at whole less cause asked there some behind = record {
+  grows_by was answer at whole less cause asked there some following = record {
     whole = whole;
     less = less;
     some = some;
-    behind = behind;
+    following = following;
     cost = λ bytes more is held. cost bytes more (at bytes is) held;
     tried = λ bytes is. tried_on bytes (at bytes is) answer there;
     reads = record {
@@ -288,8 +288,8 @@ module _ (start : ℕ) (old mid new : SeenSource) (taken : List ℕ) (has : HasG
     };
   }
 
-  module _ {A B L : Type 0} {Sees : B → List Pair → List ℕ → Type 0} (K : L → List Placed → Type 0) (was : List Row × L) (at : (bytes : List ℕ) → IsKeptOf K bytes was → start ≡ length bytes) (d : State) (r : Reading A L B)
-      (stands : (bytes : List ℕ) (is : IsKeptOf K bytes was) → Stands Sees (Since K is.listed.are.records) (bytes ++ taken) d r) (lies : (text : List ℕ) (told : Told) → IsAt 0 text told d → Lies text told) where
+  module _ {A B L : Type 0} {Sees : B → List Pair → List ℕ → Type 0} (K : L → List Placed → Type 0) (was : List Row × L) (at : (bytes : List ℕ) → IsKeptOf K bytes was → start ≡ length bytes) (d : State) (r : StreamState A L B)
+      (is_present : (bytes : List ℕ) (is : IsKeptOf K bytes was) → IsReadSoFar Sees (Since K is.listed.are.records) (bytes ++ taken) d r) (lies : (text : List ℕ) (reported : Reported) → IsAt 0 text reported d → Lies text reported) where
     short_of : (bytes : List ℕ) → start ≡ length bytes → length (bytes ++ taken) ≤ max_archive
     short_of bytes here = omega (arith, size bytes here, short)
 
@@ -305,10 +305,10 @@ module _ (start : ℕ) (old mid new : SeenSource) (taken : List ℕ) (has : HasG
         grows_by was (Err (fault Read (start + length taken))) at
         (λ bytes more is held.
         let here = at bytes is in
-        let s = stands bytes is in
+        let s = is_present bytes is in
         let P : ℕ → Type 0 = λ n. OpensFrom (length bytes) (IsKeptOf K) old new (Err (fault Read n)) in
-        subst P (sym (size bytes here)) (opens_unread (length bytes) old mid new (bytes ++ taken) (whole_given start old mid taken bytes more has here held) failed len (read_of bytes here) (short_of bytes here) (fits_of bytes here) s.told r fails
-        (lies (bytes ++ taken) s.told s.is_at) s.has))
+        subst P (sym (size bytes here)) (opens_unread (length bytes) old mid new (bytes ++ taken) (whole_given start old mid taken bytes more has here held) failed len (read_of bytes here) (short_of bytes here) (fits_of bytes here) s.reported r fails
+        (lies (bytes ++ taken) s.reported s.is_at) s.has))
         (λ bytes held is holds less. inl refl)
         (read.cause ∙ ap (λ b. if b then raised mid.faults else mid.faults) fails ∙ ap raised has.sound)
         (λ is. sym read.asked) (λ is. refl)
@@ -322,65 +322,65 @@ module _ (start : ℕ) (old mid new : SeenSource) (taken : List ℕ) (has : HasG
         grows_by was (Err f) at
         (λ bytes more is held.
         let here = at bytes is in
-        let s = stands bytes is in
+        let s = is_present bytes is in
         let given = whole_given start old mid taken bytes more has here held in
-        opens_refused (length bytes) old mid new (bytes ++ taken) given failed len (read_of bytes here) (short_of bytes here) (fits_of bytes here) s.told r (take n buf) (length (bytes ++ taken) + n) f well (lies (bytes ++ taken) s.told s.is_at) s.has
+        opens_refused (length bytes) old mid new (bytes ++ taken) given failed len (read_of bytes here) (short_of bytes here) (fits_of bytes here) s.reported r (take n buf) (length (bytes ++ taken) + n) f well (lies (bytes ++ taken) s.reported s.is_at) s.has
         (λ all holds. front_grows all (bytes ++ taken) buf place n (there ∙ size bytes here) (given.part all holds) (gives all holds))
         (stays bytes is) (wants bytes is))
         (λ bytes held is holds less. absurd (omega (arith, some, less, there, at bytes is, (gives held holds).within)))
         (sound well ∙ sym (not_raised f.kind old.faults never))
         (λ is. absurd (never is)) (λ is. absurd (never is))
         (λ bytes is. tt)
-        (λ bytes is memory. let s = stands bytes is in wants_after K bytes taken was is s.told r f.offset s.has (wants bytes is memory).0)
+        (λ bytes is memory. let s = is_present bytes is in wants_after K bytes taken was is s.reported r f.offset s.has (wants bytes is memory).0)
 
     ended : (bytes more buf : List ℕ) (n place : ℕ) (result : Result (Unit {0}) Fault) → failed ≡ false → place ≡ start + length taken → n ≡ 0 → 0 < length buf
-        → ((all : List ℕ) → old.holds ≡ Some all → Gives all place buf n) → ((at : ℕ) (text : List ℕ) (told : Told) → IsAt at text told d → Finishes at text told result)
+        → ((all : List ℕ) → old.holds ≡ Some all → Gives all place buf n) → ((at : ℕ) (text : List ℕ) (reported : Reported) → IsAt at text reported d → Finishes at text reported result)
         → IsKeptOf K bytes was → old.holds ≡ Some (bytes ++ more) → OpensFrom (length bytes) (IsKeptOf K) old new (grown result (r.rows, r.beside))
     ended bytes more buf n place result well there zero room gives ends_so is held =
         let here = at bytes is in
-        let s = stands bytes is in
+        let s = is_present bytes is in
         let given = whole_given start old mid taken bytes more has here held in
         opens_ended (length bytes) old mid new (bytes ++ taken) given failed len (read_of bytes here) (short_of bytes here) (fits_of bytes here) (grown result (r.rows, r.beside)) well
         (λ all holds. ends all (bytes ++ taken) buf place n (there ∙ size bytes here) (given.part all holds) (gives all holds) room zero)
-        (finished K is.listed.are.records (bytes ++ taken) s.told r result s.has (lies (bytes ++ taken) s.told s.is_at) (short_of bytes here) (ends_so 0 (bytes ++ taken) s.told s.is_at))
+        (finished K is.listed.are.records (bytes ++ taken) s.reported r result s.has (lies (bytes ++ taken) s.reported s.is_at) (short_of bytes here) (ends_so 0 (bytes ++ taken) s.reported s.is_at))
 
     -- nothing comes after the bytes
-    unchanged : (bytes held : List ℕ) (result : Result (Unit {0}) Fault) → ((at : ℕ) (text : List ℕ) (told : Told) → IsAt at text told d → Finishes at text told result)
+    unchanged : (bytes held : List ℕ) (result : Result (Unit {0}) Fault) → ((at : ℕ) (text : List ℕ) (reported : Reported) → IsAt at text reported d → Finishes at text reported result)
         → IsKeptOf K bytes was → old.holds ≡ Some held → length held ≤ length bytes → MatchResult (grown result (r.rows, r.beside)) (IsKeptOf K bytes) IsDeviceFault
     unchanged bytes held (Ok u) ends_so is holds less =
         let here = at bytes is in
-        let s = stands bytes is in
+        let s = is_present bytes is in
         let same : bytes ++ taken ≡ bytes = ap (λ t. bytes ++ t) (none bytes held here holds less) ∙ append-nil bytes in
         let P : List ℕ → Type 0 = λ t. IsKeptOf K t (r.rows, r.beside) in
-        subst P same (finished K is.listed.are.records (bytes ++ taken) s.told r (Ok u) s.has (lies (bytes ++ taken) s.told s.is_at) (short_of bytes here) (ends_so 0 (bytes ++ taken) s.told s.is_at))
+        subst P same (finished K is.listed.are.records (bytes ++ taken) s.reported r (Ok u) s.has (lies (bytes ++ taken) s.reported s.is_at) (short_of bytes here) (ends_so 0 (bytes ++ taken) s.reported s.is_at))
     unchanged bytes held (Err f) ends_so is holds less =
         let here = at bytes is in
-        let s = stands bytes is in
+        let s = is_present bytes is in
         let same : bytes ++ taken ≡ bytes = ap (λ t. bytes ++ t) (none bytes held here holds less) ∙ append-nil bytes in
-        let (kind, first) = finished K is.listed.are.records (bytes ++ taken) s.told r (Err f) s.has (lies (bytes ++ taken) s.told s.is_at) (short_of bytes here) (ends_so 0 (bytes ++ taken) s.told s.is_at) in
+        let (kind, first) = finished K is.listed.are.records (bytes ++ taken) s.reported r (Err f) s.has (lies (bytes ++ taken) s.reported s.is_at) (short_of bytes here) (ends_so 0 (bytes ++ taken) s.reported s.is_at) in
         let P : List ℕ → Type 0 = λ t. IsFaultOf t f in
         let was_of = is.listed.are.records in
         absurd (no_fault_where_spelled head_fault 0 bytes (contents was_of) f (omega (arith, is.listed.short)) (spells_all 0 was_of bytes is.listed.are.spelled) (accepted (contents was_of) is.listed.are.good)
         (subst P same first))
 
     -- the source ended
-    pub grows_ended : (told : Told) (buf : List ℕ) (n place : ℕ) (result : Result (Unit {0}) Fault) → IsAt start taken told d → failed ≡ false → place ≡ start + length taken → n ≡ 0 → 0 < length buf
-        → ((all : List ℕ) → old.holds ≡ Some all → Gives all place buf n) → ((at : ℕ) (text : List ℕ) (told : Told) → IsAt at text told d → Finishes at text told result)
+    pub grows_ended : (reported : Reported) (buf : List ℕ) (n place : ℕ) (result : Result (Unit {0}) Fault) → IsAt start taken reported d → failed ≡ false → place ≡ start + length taken → n ≡ 0 → 0 < length buf
+        → ((all : List ℕ) → old.holds ≡ Some all → Gives all place buf n) → ((at : ℕ) (text : List ℕ) (reported : Reported) → IsAt at text reported d → Finishes at text reported result)
         → Grows (IsKeptOf K) was old new (grown result (r.rows, r.beside))
-    grows_ended told buf n place (Ok u) is_at well there zero room gives ends_so =
+    grows_ended reported buf n place (Ok u) is_at well there zero room gives ends_so =
         grows_by was (Ok (r.rows, r.beside)) at
         (λ bytes more is held. ended bytes more buf n place (Ok u) well there zero room gives ends_so is held)
         (λ bytes held is holds less. unchanged bytes held (Ok u) ends_so is holds less)
         (sound well) tt tt
         (λ bytes is.
         let here = at bytes is in
-        let s = stands bytes is in (
+        let s = is_present bytes is in (
           taken,
-          finished K is.listed.are.records (bytes ++ taken) s.told r (Ok u) s.has (lies (bytes ++ taken) s.told s.is_at) (short_of bytes here) (ends_so 0 (bytes ++ taken) s.told s.is_at),
+          finished K is.listed.are.records (bytes ++ taken) s.reported r (Ok u) s.has (lies (bytes ++ taken) s.reported s.is_at) (short_of bytes here) (ends_so 0 (bytes ++ taken) s.reported s.is_at),
         ))
         (λ bytes is. tt)
-    grows_ended told buf n place (Err f) is_at well there zero room gives ends_so =
-        let kind : f.kind ≡ Truncated = ap (λ (g : Fault). g.kind) (ends_so start taken told is_at).0 in
+    grows_ended reported buf n place (Err f) is_at well there zero room gives ends_so =
+        let kind : f.kind ≡ Truncated = ap (λ (g : Fault). g.kind) (ends_so start taken reported is_at).0 in
         let never : f.kind ≢ Read = λ (is : f.kind ≡ Read). let no : Truncated ≡ Read = sym kind ∙ is in cc no in
         grows_by was (Err f) at
         (λ bytes more is held. ended bytes more buf n place (Err f) well there zero room gives ends_so is held)
@@ -393,11 +393,11 @@ module _ (start : ℕ) (old mid new : SeenSource) (taken : List ℕ) (has : HasG
 -- ---- the front that was read
 
 module _ (start : ℕ) (old mid : SeenSource) (taken : List ℕ) (has : HasGivenFrom start old mid taken) (short : start + length taken ≤ max_archive) {A B L : Type 0} {Sees : B → List Pair → List ℕ → Type 0} (K : L → List Placed → Type 0) (was : List Row × L)
-    (at : (bytes : List ℕ) → IsKeptOf K bytes was → start ≡ length bytes) (d : State) (r : Reading A L B)
-    (stands : (bytes : List ℕ) (is : IsKeptOf K bytes was) → Stands Sees (Since K is.listed.are.records) (bytes ++ taken) d r) (lies : (text : List ℕ) (told : Told) → IsAt 0 text told d → Lies text told) where
+    (at : (bytes : List ℕ) → IsKeptOf K bytes was → start ≡ length bytes) (d : State) (r : StreamState A L B)
+    (is_present : (bytes : List ℕ) (is : IsKeptOf K bytes was) → IsReadSoFar Sees (Since K is.listed.are.records) (bytes ++ taken) d r) (lies : (text : List ℕ) (reported : Reported) → IsAt 0 text reported d → Lies text reported) where
   -- what was read is a front of less than one more record
   cut_there : (bytes : List ℕ) → IsKeptOf K bytes was → IsLongestFront (bytes ++ taken) r.rows
-  cut_there bytes is = let s = stands bytes is in longest_cut (bytes ++ taken) s.told r s.has r.rows refl (omega (arith, at bytes is, short, length-append bytes taken)) (lies (bytes ++ taken) s.told s.is_at)
+  cut_there bytes is = let s = is_present bytes is in longest_cut (bytes ++ taken) s.reported r s.has r.rows refl (omega (arith, at bytes is, short, length-append bytes taken)) (lies (bytes ++ taken) s.reported s.is_at)
 
   -- a read failed
   pub stops_unread : (bytes more : List ℕ) → IsKeptOf K bytes was → old.holds ≡ Some (bytes ++ more) → IsLongestFront (take (start + length taken) (bytes ++ more)) r.rows
@@ -426,17 +426,17 @@ module _ (start : ℕ) (old mid : SeenSource) (taken : List ℕ) (has : HasGiven
 
   -- the source ended
   pub stops_ended : (buf : List ℕ) (n place : ℕ) (result : Result (Unit {0}) Fault) → place ≡ start + length taken → n ≡ 0 → 0 < length buf → ((all : List ℕ) → old.holds ≡ Some all → Gives all place buf n)
-      → ((at : ℕ) (text : List ℕ) (told : Told) → IsAt at text told d → Finishes at text told result) → (bytes more : List ℕ) → IsKeptOf K bytes was → old.holds ≡ Some (bytes ++ more)
+      → ((at : ℕ) (text : List ℕ) (reported : Reported) → IsAt at text reported d → Finishes at text reported result) → (bytes more : List ℕ) → IsKeptOf K bytes was → old.holds ≡ Some (bytes ++ more)
       → IfErr result (λ f. IsLongestFront (take (reach_of f) (bytes ++ more)) r.rows)
   stops_ended buf n place (Ok u) there zero room gives ends_so bytes more is held = tt
   stops_ended buf n place (Err f) there zero room gives ends_so bytes more is held =
       let here = at bytes is in
-      let s = stands bytes is in
+      let s = is_present bytes is in
       let all : List ℕ = bytes ++ more in
       let given = whole_given start old mid taken bytes more has here held in
       let size : place ≡ length (bytes ++ taken) = omega (arith, there, here, length-append bytes taken) in
       let whole : bytes ++ taken ≡ all = ends all (bytes ++ taken) buf place n size (given.part all held) (gives all held) room zero in
-      let f_is : f ≡ fault Truncated (0 + length (bytes ++ taken)) = (ends_so 0 (bytes ++ taken) s.told s.is_at).0 in
+      let f_is : f ≡ fault Truncated (0 + length (bytes ++ taken)) = (ends_so 0 (bytes ++ taken) s.reported s.is_at).0 in
       let low : length (bytes ++ taken) ≤ max_archive = omega (arith, size, there, short) in
       let reach : reach_of f ≡ max_archive = ap reach_of f_is in
       let cut : bytes ++ taken ≡ take (reach_of f) all = sym (take_all max_archive (bytes ++ taken) low) ∙ ap (take max_archive) whole ∙ ap (λ k. take k all) (sym reach) in
@@ -465,7 +465,7 @@ grows_untried start was old at = record {
   };
   less = λ bytes held is holds less. inr refl;
   some = λ bytes is. tt;
-  behind = λ bytes is memory. omega (arith, at bytes is);
+  following = λ bytes is memory. omega (arith, at bytes is);
   cost = λ bytes more is held. omega arith;
   tried = λ bytes is not. cc not;
   reads = record {
@@ -505,7 +505,7 @@ grows_as {X} {Y} {Is} {Gives} {old} {new} was x seen y r begins gives grows = re
   less = λ bytes held is holds less. match_as x y r (Is bytes) (Gives bytes) IsDeviceFault (gives bytes) (grows.less bytes held (begins bytes is) holds less);
   cost = λ bytes more is held. grows.cost bytes more (begins bytes is) held;
   some = λ bytes is. some_as Is Gives bytes x y r gives (grows.some bytes (begins bytes is));
-  behind = λ bytes is. asked_as x y r (λ f. f.kind ≡ Memory → length bytes ≤ f.offset) (grows.behind bytes (begins bytes is));
+  following = λ bytes is. asked_as x y r (λ f. f.kind ≡ Memory → length bytes ≤ f.offset) (grows.following bytes (begins bytes is));
   tried = λ bytes is. asked_as x y r (λ f. f.kind ≡ Read → new.reads + length bytes ≤ old.reads + f.offset + 1) (grows.tried bytes (begins bytes is));
   reads = record {
     kept = grows.reads.kept;

@@ -9,7 +9,7 @@ pub mod RowLemmas
 pub mod SourceLemmas
 pub mod StepLemmas
 pub mod StreamLemmas
-pub mod StandLemmas
+pub mod RemainLemmas
 pub mod LengthLemmas
 pub mod FitLemmas
 pub mod HeadLemmas

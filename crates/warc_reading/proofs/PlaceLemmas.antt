@@ -13,7 +13,7 @@ use Rattle.warc_reading.specs.Archive.{AreRowsOf, Contents, IsArchiveOf, SpellsF
 use Rattle.warc_reading.specs.Rereading.{AreCheckable, HasHead}
 use Rattle.warc_reading.specs.Row.{Placed, Row}
 use Rattle.warc_reading.proofs.GoodLemmas.{accepted}
-use Rattle.warc_reading.proofs.StandLemmas.{written}
+use Rattle.warc_reading.proofs.RemainLemmas.{written}
 
 -- what is known of the head of a record that a text spells
 abbrev pub HeadsAreRead : Type 0

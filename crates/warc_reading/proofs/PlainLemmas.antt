@@ -7,7 +7,7 @@ use Rattle.warc_frame.specs.Decoding.{Finishes, IsAt, State}
 use Rattle.warc_frame.specs.Faults.{AllAccepted}
 use Rattle.warc_frame.specs.Record.{Record, max_archive}
 use Rattle.warc_frame.specs.Spelling.{Spells, SpellsAll}
-use Rattle.warc_frame.specs.Told.{Told, Unclosed, nothing}
+use Rattle.warc_frame.specs.Reported.{Reported, Unclosed, nothing}
 use Rattle.warc_frame.specs.declared.fault.Fault.{Fault}
 use Rattle.warc_record.specs.Heads.{head_fault}
 use Rattle.warc_record.specs.Readings.{reading_of}
@@ -16,11 +16,11 @@ use Rattle.warc_quick.specs.declared.plain.QuickRecord.{QuickRecord}
 use Rattle.warc_reading.specs.Archive.{SpellsFrom, contents}
 use Rattle.warc_reading.specs.Row.{Placed, Row, row_of}
 use Rattle.warc_reading.specs.Judging.{IsNextPlain}
-use Rattle.warc_reading.specs.Stream.{IsBetween, IsKeptOf, Matches, Stands, plain_row}
+use Rattle.warc_reading.specs.Stream.{IsBetween, IsKeptOf, Matches, IsReadSoFar, plain_row}
 use Rattle.warc_reading.specs.declared.stream.Current.{Current}
-use Rattle.warc_reading.specs.declared.stream.Reading.{Reading}
+use Rattle.warc_reading.specs.declared.stream.StreamState.{StreamState}
 use Rattle.warc_reading.proofs.GoodLemmas.{accepted, are_good}
-use Rattle.warc_reading.proofs.GrowLemmas.{at_behind, kept_stands}
+use Rattle.warc_reading.proofs.GrowLemmas.{at_after, kept_is_present}
 use Rattle.warc_reading.proofs.StreamLemmas.{accepted_more, kept_whole, spells_all, spells_more}
 
 -- a record that is spelled behind others
@@ -30,12 +30,12 @@ all_more (x ∷ rs) r text last (front, rest, first, is, more) one =
     (front, rest ++ last, first, ap (λ t. t ++ last) is ∙ append_assoc front rest last, all_more rs r rest last more one)
 
 -- the decoder begins anew behind a record that it might have taken
-pub next_at : (at : ℕ) (taken last : List ℕ) (told : Told) (d after : State) (r : Record) → IsBetween d → IsAt at taken told d → Spells r last
-    → IsAt (d.position + length last) [] nothing after → (next : Told) × IsAt at (taken ++ last) next after
-next_at at taken last told d after r between is one start =
-    let (none, spelled) = between at taken told is in (
-      record { records = told.records ++ r ∷ []; unclosed = None },
-      at_behind at (d.position + length last) (taken ++ last) (told.records ++ r ∷ []) after (all_more told.records r taken last spelled one)
+pub next_at : (at : ℕ) (taken last : List ℕ) (reported : Reported) (d after : State) (r : Record) → IsBetween d → IsAt at taken reported d → Spells r last
+    → IsAt (d.position + length last) [] nothing after → (next : Reported) × IsAt at (taken ++ last) next after
+next_at at taken last reported d after r between is one start =
+    let (none, spelled) = between at taken reported is in (
+      record { records = reported.records ++ r ∷ []; unclosed = None },
+      at_after at (d.position + length last) (taken ++ last) (reported.records ++ r ∷ []) after (all_more reported.records r taken last spelled one)
           (omega (arith, is.position_is, length-append taken last)) start,
     )
 
@@ -94,16 +94,16 @@ pub next_plain : (at : ℕ) (piece : List ℕ) (found : QuickRecord) (is : IsQui
 next_plain at piece found is start start_is =
     record { says = is.says; start_is = start_is; len_is = is.block; block_is = is.block_is; reads = is.reads }
 
-module _ {A B L : Type 0} {Sees : B → List Pair → List ℕ → Type 0} (K : L → List Placed → Type 0) (text piece : List ℕ) (d after : State) (old new : Reading A L B) (found : QuickRecord)
-    (stands : Stands Sees K text d old) (is : IsQuickRecord piece found) (between : IsBetween d) (limit : d.position + found.len ≤ max_archive) where
+module _ {A B L : Type 0} {Sees : B → List Pair → List ℕ → Type 0} (K : L → List Placed → Type 0) (text piece : List ℕ) (d after : State) (old new : StreamState A L B) (found : QuickRecord)
+    (is_present : IsReadSoFar Sees K text d old) (is : IsQuickRecord piece found) (between : IsBetween d) (limit : d.position + found.len ≤ max_archive) where
   here : d.position ≡ length text
-  here = omega (arith, stands.is_at.position_is)
+  here = omega (arith, is_present.is_at.position_is)
 
-  spelled : SpellsAll stands.told.records text
-  spelled = (between 0 text stands.told stands.is_at).1
+  spelled : SpellsAll is_present.reported.records text
+  spelled = (between 0 text is_present.reported is_present.is_at).1
 
   kept : IsKeptOf K text (old.rows, old.beside)
-  kept = kept_whole text stands.told old stands.has spelled (omega (arith, here, limit))
+  kept = kept_whole text is_present.reported old is_present.has spelled (omega (arith, here, limit))
 
   -- its text
   size : length (take found.len piece) ≡ found.len
@@ -111,12 +111,12 @@ module _ {A B L : Type 0} {Sees : B → List Pair → List ℕ → Type 0} (K : 
 
   -- no other record is being read
   pub plain_alone : old.current ≡ None
-  plain_alone = none_open Sees (length stands.has.front) stands.has.rest stands.told.unclosed old.current (between 0 text stands.told stands.is_at).0 stands.has.current
+  plain_alone = none_open Sees (length is_present.has.front) is_present.has.rest is_present.reported.unclosed old.current (between 0 text is_present.reported is_present.is_at).0 is_present.has.current
 
-  pub plain_stands : (start : ℕ) → start ≡ d.position + found.head.len → new.rows ≡ old.rows ++ plain_row d.position start found.head ∷ [] → new.begin ≡ d.position + found.len → new.current ≡ old.current
+  pub plain_is_present : (start : ℕ) → start ≡ d.position + found.head.len → new.rows ≡ old.rows ++ plain_row d.position start found.head ∷ [] → new.begin ≡ d.position + found.len → new.current ≡ old.current
       → ((records : List Placed) (p : Placed) → K old.beside records → length old.rows ≡ length records → IsNextPlain p found start → K new.beside (records ++ p ∷ []))
-      → IsAt (d.position + found.len) [] nothing after → Stands Sees K (text ++ take found.len piece) after new
-  plain_stands start start_is rows begin current keeps anew =
+      → IsAt (d.position + found.len) [] nothing after → IsReadSoFar Sees K (text ++ take found.len piece) after new
+  plain_is_present start start_is rows begin current keeps anew =
       let p : Placed = placed_at d.position found.head.len is.content in
       let next : IsNextPlain p found start = next_plain d.position piece found is start start_is in
       let count : length old.rows ≡ length kept.listed.are.records = ap length kept.listed.are.rows_are ∙ length-map kept.listed.are.records row_of in
@@ -125,13 +125,13 @@ module _ {A B L : Type 0} {Sees : B → List Pair → List ℕ → Type 0} (K : 
       let row : old.rows ++ row_of p ∷ [] ≡ new.rows = sym (rows ∙ ap (λ n. old.rows ++ plain_row d.position n found.head ∷ []) start_is ∙ ap (λ (x : Row). old.rows ++ x ∷ []) (row_is d.position piece found is)) in
       let P : List Row → Type 0 = λ l. IsKeptOf K (text ++ take found.len piece) (l, new.beside) in
       let Q : ℕ → Type 0 = λ n. IsAt n [] nothing after in
-      kept_stands K (text ++ take found.len piece) after new (subst P row more)
+      kept_is_present K (text ++ take found.len piece) after new (subst P row more)
       (omega (arith, begin, here, size, length-append text (take found.len piece))) (current ∙ plain_alone) (subst Q (sym begin) anew)
 
 -- what `finish` says where it is no error
-pub finished : (answer : Result (Unit {0}) Fault) → is_err answer ≡ false → (at : ℕ) (taken : List ℕ) (told : Told) → Finishes at taken told answer → Finishes at taken told (Ok tt)
-finished (Ok u) ok at taken told is = is
-finished (Err f) ok at taken told is = cc ok
+pub finished : (answer : Result (Unit {0}) Fault) → is_err answer ≡ false → (at : ℕ) (taken : List ℕ) (reported : Reported) → Finishes at taken reported answer → Finishes at taken reported (Ok tt)
+finished (Ok u) ok at taken reported is = is
+finished (Err f) ok at taken reported is = cc ok
 
 pub pushed : {E P : Type 0} (answer : Result (Unit {0}) E) → is_err answer ≡ false → OnOk answer P → P
 pushed (Ok u) ok is = is

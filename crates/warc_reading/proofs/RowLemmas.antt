@@ -8,7 +8,7 @@ use Rattle.warc_reading.specs.Archive.{IsArchiveOf, SpellsFrom}
 use Rattle.warc_reading.specs.Row.{Placed, Row, row_of}
 use Rattle.warc_reading.specs.Keeping.{texts_len}
 use Rattle.warc_reading.specs.Rows.{row_at, packed_row, unpacked, whole, IsInTexts, IsPackedOf, AreFlat, AreKept, ArePacked, AreWithin}
-use Rattle.warc_reading.specs.declared.rows.Entry.{Entry}
+use Rattle.warc_reading.specs.declared.rows.RowEntry.{RowEntry}
 use Rattle.warc_reading.specs.declared.rows.Packed.{Packed}
 
 -- a part of bytes stays when more follow
@@ -21,11 +21,11 @@ length-slice_range : (xs : List ℕ) (a b : ℕ) → b ≤ length xs → length 
 length-slice_range xs a b le = length-take-le (b - a) (drop a xs) (omega (arith, length-drop a xs, le))
 
 -- a part behind bytes
-pub slice_behind : (a b : ℕ) (xs ys more : List ℕ) → a ≡ length xs → b ≡ a + length ys → slice_range (xs ++ (ys ++ more)) a b ≡ ys
-slice_behind a b xs ys more start end =
+pub slice_after : (a b : ℕ) (xs ys more : List ℕ) → a ≡ length xs → b ≡ a + length ys → slice_range (xs ++ (ys ++ more)) a b ≡ ys
+slice_after a b xs ys more start end =
     ap (take (b - a)) (drop_at xs (ys ++ more) a (sym start)) ∙ take_at ys more (b - a) (omega (arith, end))
 
-stays : (texts more : List ℕ) (e : Entry) → IsInTexts (length texts) e → row_at (texts ++ more) e ≡ row_at texts e
+stays : (texts more : List ℕ) (e : RowEntry) → IsInTexts (length texts) e → row_at (texts ++ more) e ≡ row_at texts e
 stays texts more e w =
     let kind = slice_front e.kind_start e.kind_end texts more w.kind (omega (arith, w.date, w.id, w.target, w.end)) in
     let date = slice_front e.kind_end e.date_end texts more w.date (omega (arith, w.id, w.target, w.end)) in
@@ -34,23 +34,23 @@ stays texts more e w =
     rw (kind, date, id, target) refl
 
 -- rows stay when bytes are added behind their texts
-pub rows_stay : (texts more : List ℕ) (es : List Entry) → AreWithin (length texts) es → map (row_at (texts ++ more)) es ≡ map (row_at texts) es
+pub rows_stay : (texts more : List ℕ) (es : List RowEntry) → AreWithin (length texts) es → map (row_at (texts ++ more)) es ≡ map (row_at texts) es
 rows_stay texts more [] within = refl
 rows_stay texts more (e ∷ es) (w, within) = rw (stays texts more e w) (ap (λ rows. row_at texts e ∷ rows) (rows_stay texts more es within))
 
-longer : (n m : ℕ) (e : Entry) → n ≤ m → IsInTexts n e → IsInTexts m e
+longer : (n m : ℕ) (e : RowEntry) → n ≤ m → IsInTexts n e → IsInTexts m e
 longer n m e le w = record { kind = w.kind; date = w.date; id = w.id; target = w.target; end = omega (arith, le, w.end) }
 
-pub within_longer : (n m : ℕ) (es : List Entry) → n ≤ m → AreWithin n es → AreWithin m es
+pub within_longer : (n m : ℕ) (es : List RowEntry) → n ≤ m → AreWithin n es → AreWithin m es
 within_longer n m [] le within = tt
 within_longer n m (e ∷ es) le (w, within) = (longer n m e le w, within_longer n m es le within)
 
-pub within_more : (n : ℕ) (es : List Entry) (e : Entry) → AreWithin n es → IsInTexts n e → AreWithin n (es ++ e ∷ [])
+pub within_more : (n : ℕ) (es : List RowEntry) (e : RowEntry) → AreWithin n es → IsInTexts n e → AreWithin n (es ++ e ∷ [])
 within_more n [] e within w = (w, tt)
 within_more n (x ∷ es) e (v, within) w = (v, within_more n es e within w)
 
 -- the row of an entry that was added behind the others, whose texts were added behind theirs
-module _ (t k d i g t1 t2 t3 t4 : List ℕ) (e : Entry) (h1 : t1 ≡ t ++ k) (h2 : t2 ≡ t1 ++ d) (h3 : t3 ≡ t2 ++ i) (h4 : t4 ≡ t3 ++ g)
+module _ (t k d i g t1 t2 t3 t4 : List ℕ) (e : RowEntry) (h1 : t1 ≡ t ++ k) (h2 : t2 ≡ t1 ++ d) (h3 : t3 ≡ t2 ++ i) (h4 : t4 ≡ t3 ++ g)
     (a : e.kind_start ≡ length t) (b : e.kind_end ≡ length t1) (c : e.date_end ≡ length t2) (f : e.id_end ≡ length t3) (j : e.target_end ≡ length t4) where
   e4 : t4 ≡ t3 ++ (g ++ [])
   e4 = h4 ∙ ap (λ x. t3 ++ x) (sym (append-nil g))
@@ -77,16 +77,16 @@ module _ (t k d i g t1 t2 t3 t4 : List ℕ) (e : Entry) (h1 : t1 ≡ t ++ k) (h2
   n4 = ap length h4 ∙ length-append t3 g
 
   kind_is : slice_range t4 e.kind_start e.kind_end ≡ k
-  kind_is = ap (λ x. slice_range x e.kind_start e.kind_end) e1 ∙ slice_behind e.kind_start e.kind_end t k (d ++ (i ++ g)) a (omega (arith, a, b, n1))
+  kind_is = ap (λ x. slice_range x e.kind_start e.kind_end) e1 ∙ slice_after e.kind_start e.kind_end t k (d ++ (i ++ g)) a (omega (arith, a, b, n1))
 
   date_is : slice_range t4 e.kind_end e.date_end ≡ d
-  date_is = ap (λ x. slice_range x e.kind_end e.date_end) e2 ∙ slice_behind e.kind_end e.date_end t1 d (i ++ g) b (omega (arith, b, c, n2))
+  date_is = ap (λ x. slice_range x e.kind_end e.date_end) e2 ∙ slice_after e.kind_end e.date_end t1 d (i ++ g) b (omega (arith, b, c, n2))
 
   id_is : slice_range t4 e.date_end e.id_end ≡ i
-  id_is = ap (λ x. slice_range x e.date_end e.id_end) e3 ∙ slice_behind e.date_end e.id_end t2 i g c (omega (arith, c, f, n3))
+  id_is = ap (λ x. slice_range x e.date_end e.id_end) e3 ∙ slice_after e.date_end e.id_end t2 i g c (omega (arith, c, f, n3))
 
   target_is : slice_range t4 e.id_end e.target_end ≡ g
-  target_is = ap (λ x. slice_range x e.id_end e.target_end) e4 ∙ slice_behind e.id_end e.target_end t3 g [] f (omega (arith, f, j, n4))
+  target_is = ap (λ x. slice_range x e.id_end e.target_end) e4 ∙ slice_after e.id_end e.target_end t3 g [] f (omega (arith, f, j, n4))
 
   pub added_within : IsInTexts (length t4) e
   added_within = record {
@@ -113,60 +113,60 @@ module _ (t k d i g t1 t2 t3 t4 : List ℕ) (e : Entry) (h1 : t1 ≡ t ++ k) (h2
   added_is : row_at t4 e ≡ added
   added_is = rw (kind_is, date_is, id_is, target_is) refl
 
-  pub rows_added : (es : List Entry) → AreWithin (length t) es → map (row_at t4) (es ++ e ∷ []) ≡ map (row_at t) es ++ added ∷ []
+  pub rows_added : (es : List RowEntry) → AreWithin (length t) es → map (row_at t4) (es ++ e ∷ []) ≡ map (row_at t) es ++ added ∷ []
   rows_added es within =
       map-append (row_at t4) es (e ∷ [])
       ∙ ap (λ rows. rows ++ row_at t4 e ∷ []) (ap (λ x. map (row_at x) es) e1 ∙ rows_stay t (k ++ (d ++ (i ++ g))) es within)
       ∙ ap (λ row. map (row_at t) es ++ row ∷ []) added_is
 
-  pub all_within : (es : List Entry) → AreWithin (length t) es → AreWithin (length t4) (es ++ e ∷ [])
+  pub all_within : (es : List RowEntry) → AreWithin (length t) es → AreWithin (length t4) (es ++ e ∷ [])
   all_within es within = within_more (length t4) es e (within_longer (length t) (length t4) es (omega (arith, n1, n2, n3, n4)) within) added_within
 
 -- ---- packed texts
 
-packed_more : (start end : ℕ) (es : List Entry) (e : Entry) → ArePacked start es end → e.kind_start ≡ end → IsInTexts e.target_end e → ArePacked start (es ++ e ∷ []) e.target_end
+packed_more : (start end : ℕ) (es : List RowEntry) (e : RowEntry) → ArePacked start es end → e.kind_start ≡ end → IsInTexts e.target_end e → ArePacked start (es ++ e ∷ []) e.target_end
 packed_more start end [] e packed begin w = (begin ∙ sym packed, w, refl)
 packed_more start end (x ∷ es) e (at, v, packed) begin w = (at, v, packed_more x.target_end end es e packed begin w)
 
 -- one more entry
-pub flat_more : (n m : ℕ) (es : List Entry) (e : Entry) → AreFlat n es → e.kind_start ≡ n → e.target_end ≡ m → IsInTexts m e → AreWithin m (es ++ e ∷ []) → AreFlat m (es ++ e ∷ [])
+pub flat_more : (n m : ℕ) (es : List RowEntry) (e : RowEntry) → AreFlat n es → e.kind_start ≡ n → e.target_end ≡ m → IsInTexts m e → AreWithin m (es ++ e ∷ []) → AreFlat m (es ++ e ∷ [])
 flat_more n m es e flat begin end w within =
     let P : ℕ → Type 0 = λ k. ArePacked 0 (es ++ e ∷ []) k in
     let Q : ℕ → Type 0 = λ k. IsInTexts k e in
     record { within = within; packed = subst P end (packed_more 0 n es e flat.packed begin (subst Q (sym end) w)) }
 
-packed_rises : (start end : ℕ) (es : List Entry) → ArePacked start es end → start ≤ end
+packed_rises : (start end : ℕ) (es : List RowEntry) → ArePacked start es end → start ≤ end
 packed_rises start end [] packed = omega (arith, packed)
 packed_rises start end (e ∷ es) (at, w, packed) = omega (arith, at, w.kind, w.date, w.id, w.target, packed_rises e.target_end end es packed)
 
-packed_within : (start end : ℕ) (es : List Entry) → ArePacked start es end → AreWithin end es
+packed_within : (start end : ℕ) (es : List RowEntry) → ArePacked start es end → AreWithin end es
 packed_within start end [] packed = tt
 packed_within start end (e ∷ es) (at, w, packed) = (longer e.target_end end e (packed_rises e.target_end end es packed) w, packed_within e.target_end end es packed)
 
 -- the first entries end where the next one begins
-packed_first : (start end : ℕ) (es : List Entry) (i : ℕ) (e : Entry) → slice_get es i ≡ Some e → ArePacked start es end → ArePacked start (take i es) e.kind_start × (e.kind_start ≤ end)
+packed_first : (start end : ℕ) (es : List RowEntry) (i : ℕ) (e : RowEntry) → slice_get es i ≡ Some e → ArePacked start es end → ArePacked start (take i es) e.kind_start × (e.kind_start ≤ end)
 packed_first start end [] i e is packed = cc is
 packed_first start end (x ∷ es) zero e is (at, w, packed) =
     let same : x ≡ e = cc is in
-    (sym at ∙ ap (λ (y : Entry). y.kind_start) same, omega (arith, ap (λ (y : Entry). y.kind_start) same, w.kind, w.date, w.id, w.target, packed_rises x.target_end end es packed))
+    (sym at ∙ ap (λ (y : RowEntry). y.kind_start) same, omega (arith, ap (λ (y : RowEntry). y.kind_start) same, w.kind, w.date, w.id, w.target, packed_rises x.target_end end es packed))
 packed_first start end (x ∷ es) (suc i) e is (at, w, packed) =
     let (front, le) = packed_first x.target_end end es i e is packed in
     ((at, w, front), le)
 
-pub flat_first : (n : ℕ) (es : List Entry) (i : ℕ) (e : Entry) → slice_get es i ≡ Some e → AreFlat n es → AreFlat e.kind_start (take i es) × (e.kind_start ≤ n)
+pub flat_first : (n : ℕ) (es : List RowEntry) (i : ℕ) (e : RowEntry) → slice_get es i ≡ Some e → AreFlat n es → AreFlat e.kind_start (take i es) × (e.kind_start ≤ n)
 flat_first n es i e is flat =
     let (front, le) = packed_first 0 n es i e is flat.packed in
     (record { within = packed_within 0 e.kind_start (take i es) front; packed = front }, le)
 
 -- the rows of the first entries, by their texts alone
-pub rows_first : (texts : List ℕ) (n : ℕ) (es : List Entry) (i : ℕ) → n ≤ length texts → AreWithin n (take i es) → map (row_at (take n texts)) (take i es) ≡ take i (map (row_at texts) es)
+pub rows_first : (texts : List ℕ) (n : ℕ) (es : List RowEntry) (i : ℕ) → n ≤ length texts → AreWithin n (take i es) → map (row_at (take n texts)) (take i es) ≡ take i (map (row_at texts) es)
 rows_first texts n es i le within =
     let size : length (take n texts) ≡ n = length-take-le n texts le in
     let P : ℕ → Type 0 = λ k. AreWithin k (take i es) in
     sym (rows_stay (take n texts) (drop n texts) (take i es) (subst P (sym size) within)) ∙ ap (λ t. map (row_at t) (take i es)) (take-append-drop n texts) ∙ sym (take-map (row_at texts) i es)
 
 -- how many bytes the texts have
-packed_sum : (texts : List ℕ) (start end : ℕ) (es : List Entry) → ArePacked start es end → end ≤ length texts → start + sum_by texts_len (map (row_at texts) es) ≡ end
+packed_sum : (texts : List ℕ) (start end : ℕ) (es : List RowEntry) → ArePacked start es end → end ≤ length texts → start + sum_by texts_len (map (row_at texts) es) ≡ end
 packed_sum texts start end [] packed le = omega (arith, packed)
 packed_sum texts start end (e ∷ es) (at, w, packed) le =
     let rest = packed_sum texts e.target_end end es packed le in
@@ -177,12 +177,12 @@ packed_sum texts start end (e ∷ es) (at, w, packed) le =
     let target = length-slice_range texts e.id_end e.target_end (omega (arith, top, le)) in
     omega (arith, at, w.kind, w.date, w.id, w.target, rest, kind, date, id, target, sum_by-cons texts_len (row_at texts e) (map (row_at texts) es))
 
-pub flat_sum : (texts : List ℕ) (es : List Entry) → AreFlat (length texts) es → length texts ≡ sum_by texts_len (map (row_at texts) es)
+pub flat_sum : (texts : List ℕ) (es : List RowEntry) → AreFlat (length texts) es → length texts ≡ sum_by texts_len (map (row_at texts) es)
 flat_sum texts es flat = omega (arith, packed_sum texts 0 (length texts) es flat.packed (omega arith))
 
 -- ---- where the last record ends
 
-end_from : (texts : List ℕ) (q : ℕ) (ps : List Placed) (es : List Entry) (text : List ℕ) (i : ℕ) (e : Entry) → SpellsFrom q ps text → map (row_at texts) es ≡ map row_of ps → slice_get es i ≡ Some e
+end_from : (texts : List ℕ) (q : ℕ) (ps : List Placed) (es : List RowEntry) (text : List ℕ) (i : ℕ) (e : RowEntry) → SpellsFrom q ps text → map (row_at texts) es ≡ map row_of ps → slice_get es i ≡ Some e
     → i + 1 ≡ length es → e.block_start + e.block_len + 4 ≡ q + length text
 end_from texts q ps [] text i e spelled rows is last = cc is
 end_from texts q [] (x ∷ es) text i e spelled rows is last = absurd (cc rows)
@@ -194,8 +194,8 @@ end_from texts q (p ∷ []) (x ∷ []) text zero e (front, rest, one, at, start,
       start,
       ap (λ (r : Row). r.block_start) head,
       ap (λ (r : Row). r.block_len) head,
-      ap (λ (y : Entry). y.block_start) same,
-      ap (λ (y : Entry). y.block_len) same,
+      ap (λ (y : RowEntry). y.block_start) same,
+      ap (λ (y : RowEntry). y.block_len) same,
       ap length text_is ∙ length-append front rest,
       ap length more,
     )
@@ -205,7 +205,7 @@ end_from texts q (p ∷ ps) (x ∷ es) text (suc i) e (front, rest, one, at, sta
     let tail : map (row_at texts) es ≡ map row_of ps = cc rows in
     omega (arith, end_from texts (q + length front) ps es rest i e more tail is (omega (arith, last)), ap length text_is ∙ length-append front rest)
 
-pub end_is : (texts bytes : List ℕ) (rows : List Row) (es : List Entry) (i : ℕ) (e : Entry) → IsArchiveOf bytes rows → map (row_at texts) es ≡ rows → slice_get es i ≡ Some e → i + 1 ≡ length es
+pub end_is : (texts bytes : List ℕ) (rows : List Row) (es : List RowEntry) (i : ℕ) (e : RowEntry) → IsArchiveOf bytes rows → map (row_at texts) es ≡ rows → slice_get es i ≡ Some e → i + 1 ≡ length es
     → e.block_start + e.block_len + 4 ≡ length bytes
 end_is texts bytes rows es i e of seen is last = omega (arith, end_from texts 0 of.are.records es bytes i e of.are.spelled (seen ∙ of.are.rows_are) is last)
 
@@ -217,7 +217,7 @@ pub end_none : (bytes : List ℕ) (rows : List Row) → IsArchiveOf bytes rows �
 end_none bytes rows of none = none_end of.are.records bytes of.are.spelled (sym (ap length of.are.rows_are) ∙ none)
 
 -- rows and texts that were cut
-pub flat_cut : (texts : List ℕ) (es : List Entry) (i : ℕ) (e : Entry) (ts : List ℕ) (fs : List Entry) → slice_get es i ≡ Some e → AreFlat (length texts) es → ts ≡ take e.kind_start texts → fs ≡ take i es
+pub flat_cut : (texts : List ℕ) (es : List RowEntry) (i : ℕ) (e : RowEntry) (ts : List ℕ) (fs : List RowEntry) → slice_get es i ≡ Some e → AreFlat (length texts) es → ts ≡ take e.kind_start texts → fs ≡ take i es
     → AreFlat (length ts) fs × (map (row_at ts) fs ≡ take i (map (row_at texts) es))
 flat_cut texts es i e ts fs is flat cut first =
     let (front, le) = flat_first (length texts) es i e is flat in
@@ -256,7 +256,7 @@ pub push_kept : (t t1 t2 t3 t4 : List ℕ) (row : Row) (p : Packed) (ps qs : Lis
     → t4 ≡ t3 ++ row.target → length t4 < 2 ^ 64 → IsPackedOf (length t) row p → qs ≡ ps ++ p ∷ [] → AreKept (length t) ps
     → AreKept (length t4) qs × (map (packed_row t4) qs ≡ map (packed_row t) ps ++ row ∷ [])
 push_kept t t1 t2 t3 t4 row p ps qs h1 h2 h3 h4 short is pushed kept =
-    let e : Entry = unpacked p in
+    let e : RowEntry = unpacked p in
     let n1 = ap length h1 ∙ length-append t row.kind in
     let n2 = ap length h2 ∙ length-append t1 row.date in
     let n3 = ap length h3 ∙ length-append t2 row.id in
@@ -270,7 +270,7 @@ push_kept t t1 t2 t3 t4 row p ps qs h1 h2 h3 h4 short is pushed kept =
     let within = all_within t row.kind row.date row.id row.target t1 t2 t3 t4 e h1 h2 h3 h4 a b c f j (map unpacked ps) kept.flat.within in
     let last = added_within t row.kind row.date row.id row.target t1 t2 t3 t4 e h1 h2 h3 h4 a b c f j in
     let flat = flat_more (length t) (length t4) (map unpacked ps) e kept.flat a j last within in
-    let P : List Entry → Type 0 = λ es. AreFlat (length t4) es in
+    let P : List RowEntry → Type 0 = λ es. AreFlat (length t4) es in
     let rows = rows_added t row.kind row.date row.id row.target t1 t2 t3 t4 e h1 h2 h3 h4 a b c f j (map unpacked ps) kept.flat.within in
     let same : added t row.kind row.date row.id row.target t1 t2 t3 t4 e h1 h2 h3 h4 a b c f j ≡ row = rw (is.head, is.offset, is.block, is.truncated) refl in (
       kept_flat (length t4) qs (subst P (sym entries) flat),

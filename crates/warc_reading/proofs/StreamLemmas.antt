@@ -6,7 +6,7 @@ use Rattle.warc_frame.specs.Faults.{AllAccepted}
 use Rattle.warc_frame.specs.Reading.{◌>>=◌, Head, any_fields, block_at, head_of, record_of}
 use Rattle.warc_frame.specs.Record.{Record, max_archive}
 use Rattle.warc_frame.specs.Spelling.{Spells, SpellsAll}
-use Rattle.warc_frame.specs.Told.{AcceptsOpen, AcceptsTold, IsExact, Told, Unclosed, with_bytes}
+use Rattle.warc_frame.specs.Reported.{AcceptsOpen, AcceptsReported, IsExact, Reported, Unclosed, with_bytes}
 use Rattle.warc_frame.specs.declared.fault.Fault.{Fault}
 use Rattle.warc_frame.proofs.LawLemmas.{fronts_are_same, heads_are_stable, reading_is_spelling-read}
 use Rattle.warc_record.specs.Heads.{head_fault}
@@ -16,7 +16,7 @@ use Rattle.warc_reading.specs.Row.{Placed, row_of}
 use Rattle.warc_reading.specs.Stream.{HasRead, IsCurrent, IsHead, IsKeptOf, Matches, row_by}
 use Rattle.warc_reading.proofs.GoodLemmas.{are_good}
 use Rattle.warc_reading.specs.declared.stream.Current.{Current}
-use Rattle.warc_reading.specs.declared.stream.Reading.{Reading}
+use Rattle.warc_reading.specs.declared.stream.StreamState.{StreamState}
 
 -- the records themselves are spelled
 pub spells_all : (q : ℕ) (ps : List Placed) (text : List ℕ) → SpellsFrom q ps text → SpellsAll (contents ps) text
@@ -55,8 +55,8 @@ accepted_more (x ∷ rs) r (first, all) one = (first, accepted_more rs r all one
 abbrev read_with : Head → List ℕ → Result (Record × ℕ) Fault
 read_with head block = Ok (record { version = head.version; fields = head.fields; block = block }, head.len + head.block_len + 4)
 
-abbrev read_behind : List ℕ → Head → Result (Record × ℕ) Fault
-read_behind t head = ◌>>=◌ {A = List ℕ} {B = Record × ℕ} (block_at head.len head.block_len t) (read_with head)
+abbrev read_after : List ℕ → Head → Result (Record × ℕ) Fault
+read_after t head = ◌>>=◌ {A = List ℕ} {B = Record × ℕ} (block_at head.len head.block_len t) (read_with head)
 
 block_len_is : (head : Head) (r : Record) (n : ℕ) (block : Result (List ℕ) Fault) → ◌>>=◌ {A = List ℕ} {B = Record × ℕ} block (read_with head) ≡ Ok (r, n) → n ≡ head.len + head.block_len + 4
 block_len_is head r n (Ok b) e =
@@ -64,7 +64,7 @@ block_len_is head r n (Ok b) e =
     sym (ap (λ (x : Record × ℕ). x.1) same)
 block_len_is head r n (Err f) e = cc e
 
-by_head : (read : Result Head Fault) (head : Head) (t : List ℕ) (r : Record) (n : ℕ) → read ≡ Ok head → ◌>>=◌ {A = Head} {B = Record × ℕ} read (read_behind t) ≡ Ok (r, n)
+by_head : (read : Result Head Fault) (head : Head) (t : List ℕ) (r : Record) (n : ℕ) → read ≡ Ok head → ◌>>=◌ {A = Head} {B = Record × ℕ} read (read_after t) ≡ Ok (r, n)
     → n ≡ head.len + head.block_len + 4
 by_head (Ok h) head t r n is e =
     let same : h ≡ head = cc is in
@@ -84,8 +84,8 @@ accepts Sees begin rest None c m = tt
 accepts Sees begin rest (Some u) None m = absurd m
 accepts Sees begin rest (Some u) (Some c) m = m.of.good
 
-pub accepts_told : {A B L : Type 0} {Sees : B → List Pair → List ℕ → Type 0} {K : L → List Placed → Type 0} (text : List ℕ) (told : Told) (r : Reading A L B) → HasRead Sees K text told r → AcceptsTold head_fault told
-accepts_told {A} {B} {L} {Sees} text told r has = (has.good, accepts Sees (length has.front) has.rest told.unclosed r.current has.current)
+pub accepts_reported : {A B L : Type 0} {Sees : B → List Pair → List ℕ → Type 0} {K : L → List Placed → Type 0} (text : List ℕ) (reported : Reported) (r : StreamState A L B) → HasRead Sees K text reported r → AcceptsReported head_fault reported
+accepts_reported {A} {B} {L} {Sees} text reported r has = (has.good, accepts Sees (length has.front) has.rest reported.unclosed r.current has.current)
 
 -- bytes were taken, and nothing was reported
 matches_more : {A B : Type 0} (Sees : B → List Pair → List ℕ → Type 0) (begin : ℕ) (rest more : List ℕ) (o : Option Unclosed) (c : Option (Current A B)) → Matches Sees begin rest o c → Matches Sees begin (rest ++ more) o c
@@ -103,33 +103,33 @@ matches_more Sees begin rest more (Some u) (Some c) m = record {
   seen = m.seen;
 }
 
-pub more_kept : {A B L : Type 0} {Sees : B → List Pair → List ℕ → Type 0} {K : L → List Placed → Type 0} (text more : List ℕ) (told : Told) (r : Reading A L B) → HasRead Sees K text told r → HasRead Sees K (text ++ more) told r
-more_kept {A} {B} {L} {Sees} text more told r has = record {
+pub more_kept : {A B L : Type 0} {Sees : B → List Pair → List ℕ → Type 0} {K : L → List Placed → Type 0} (text more : List ℕ) (reported : Reported) (r : StreamState A L B) → HasRead Sees K text reported r → HasRead Sees K (text ++ more) reported r
+more_kept {A} {B} {L} {Sees} text more reported r has = record {
   records = has.records;
   front = has.front;
   rest = has.rest ++ more;
   text_is = ap (λ t. t ++ more) has.text_is ∙ append_assoc has.front has.rest more;
   spelled = has.spelled;
-  told_is = has.told_is;
+  reported_is = has.reported_is;
   good = has.good;
   rows_are = has.rows_are;
   beside = has.beside;
   begin_is = has.begin_is;
-  current = matches_more Sees (length has.front) has.rest more told.unclosed r.current has.current;
+  current = matches_more Sees (length has.front) has.rest more reported.unclosed r.current has.current;
 }
 
 -- the front of the records that were told is the same in each view of the bytes
-pub same_front : {A B L : Type 0} {Sees : B → List Pair → List ℕ → Type 0} {K : L → List Placed → Type 0} (text more front rest : List ℕ) (told : Told) (r : Reading A L B) (has : HasRead Sees K text told r) → text ++ more ≡ front ++ rest
-    → SpellsAll told.records front → (has.front ≡ front) × (has.rest ++ more ≡ rest)
-same_front text more front rest told r has is spelled =
+pub same_front : {A B L : Type 0} {Sees : B → List Pair → List ℕ → Type 0} {K : L → List Placed → Type 0} (text more front rest : List ℕ) (reported : Reported) (r : StreamState A L B) (has : HasRead Sees K text reported r) → text ++ more ≡ front ++ rest
+    → SpellsAll reported.records front → (has.front ≡ front) × (has.rest ++ more ≡ rest)
+same_front text more front rest reported r has is spelled =
     let P : List Record → Type 0 = λ rs. SpellsAll rs has.front in
-    let all = subst P (sym has.told_is) (spells_all 0 has.records has.front has.spelled) in
+    let all = subst P (sym has.reported_is) (spells_all 0 has.records has.front has.spelled) in
     let whole : has.front ++ (has.rest ++ more) ≡ front ++ rest = sym (ap (λ t. t ++ more) has.text_is ∙ append_assoc has.front has.rest more) ∙ is in
-    let same = fronts_are_same told.records has.front front (has.rest ++ more) rest all spelled whole in
+    let same = fronts_are_same reported.records has.front front (has.rest ++ more) rest all spelled whole in
     (same, append_cancel_left front (has.rest ++ more) rest (ap (λ f. f ++ (has.rest ++ more)) (sym same) ∙ whole))
 
 -- a head was reported, and it is good
-pub head_kept : {A B L : Type 0} {Sees : B → List Pair → List ℕ → Type 0} {K : L → List Placed → Type 0} (text more : List ℕ) (rs : List Record) (u : Unclosed) (old new : Reading A L B) (c : Current A B) → HasRead Sees K text (record { records = rs; unclosed = None }) old
+pub head_kept : {A B L : Type 0} {Sees : B → List Pair → List ℕ → Type 0} {K : L → List Placed → Type 0} (text more : List ℕ) (rs : List Record) (u : Unclosed) (old new : StreamState A L B) (c : Current A B) → HasRead Sees K text (record { records = rs; unclosed = None }) old
     → IsExact (text ++ more) (record { records = rs; unclosed = Some u }) → u.bytes ≡ [] → new.rows ≡ old.rows → new.beside ≡ old.beside → new.begin ≡ old.begin → new.current ≡ Some c
     → IsHead u.fields c → Sees c.block u.fields [] → c.block_start ≡ length (text ++ more) → c.block_len ≡ u.block_len
     → HasRead Sees K (text ++ more) (record { records = rs; unclosed = Some u }) new
@@ -157,7 +157,7 @@ head_kept {A} {B} {L} {Sees} {K} text more rs u old new c has exact none rows be
       rest = exact.rest;
       text_is = exact.text_is ∙ ap (λ f. f ++ exact.rest) (sym front);
       spelled = has.spelled;
-      told_is = has.told_is;
+      reported_is = has.reported_is;
       good = has.good;
       rows_are = rows ∙ has.rows_are;
       beside = subst B (sym beside) has.beside;
@@ -193,21 +193,21 @@ matches_part {A} {B} Sees begin rest more part (Some u) (Some c) new some m take
     let M : Option (Current A B) → Type 0 = λ k. Matches Sees begin (rest ++ more) (with_bytes (Some u) part) k in
     subst M (sym new_is) is
 
-pub part_kept : {A B L : Type 0} {Sees : B → List Pair → List ℕ → Type 0} {K : L → List Placed → Type 0} (text more part : List ℕ) (told : Told) (old new : Reading A L B) → HasRead Sees K text told old → IsSome told.unclosed → new.rows ≡ old.rows
+pub part_kept : {A B L : Type 0} {Sees : B → List Pair → List ℕ → Type 0} {K : L → List Placed → Type 0} (text more part : List ℕ) (reported : Reported) (old new : StreamState A L B) → HasRead Sees K text reported old → IsSome reported.unclosed → new.rows ≡ old.rows
     → new.beside ≡ old.beside → new.begin ≡ old.begin → TakesPart Sees part old.current new.current
-    → HasRead Sees K (text ++ more) (record { records = told.records; unclosed = with_bytes told.unclosed part }) new
-part_kept {A} {B} {L} {Sees} {K} text more part told old new has some rows beside begin takes = record {
+    → HasRead Sees K (text ++ more) (record { records = reported.records; unclosed = with_bytes reported.unclosed part }) new
+part_kept {A} {B} {L} {Sees} {K} text more part reported old new has some rows beside begin takes = record {
   records = has.records;
   front = has.front;
   rest = has.rest ++ more;
   text_is = ap (λ t. t ++ more) has.text_is ∙ append_assoc has.front has.rest more;
   spelled = has.spelled;
-  told_is = has.told_is;
+  reported_is = has.reported_is;
   good = has.good;
   rows_are = rows ∙ has.rows_are;
   beside = (let B : L → Type 0 = λ l. K l has.records in subst B (sym beside) has.beside);
   begin_is = begin ∙ has.begin_is;
-  current = matches_part Sees (length has.front) has.rest more part told.unclosed old.current new.current some has.current takes;
+  current = matches_part Sees (length has.front) has.rest more part reported.unclosed old.current new.current some has.current takes;
 }
 
 -- the row that is kept of a record is its row
@@ -217,17 +217,17 @@ row_is p begin c offset start len of =
     rw (offset, start, len, of.fields_are) refl
 
 -- the end of a record was reported
-pub end_kept_by : {A B L : Type 0} {Sees : B → List Pair → List ℕ → Type 0} {K : L → List Placed → Type 0} (text more : List ℕ) (rs : List Record) (u : Unclosed) (old new : Reading A L B) (c : Current A B) (has : HasRead Sees K text (record { records = rs; unclosed = Some u }) old)
+pub end_kept_by : {A B L : Type 0} {Sees : B → List Pair → List ℕ → Type 0} {K : L → List Placed → Type 0} (text more : List ℕ) (rs : List Record) (u : Unclosed) (old new : StreamState A L B) (c : Current A B) (has : HasRead Sees K text (record { records = rs; unclosed = Some u }) old)
     → IsCurrent Sees (length has.front) has.rest u c → length u.bytes ≡ u.block_len → IsExact (text ++ more) (record { records = rs ++ record { version = u.version; fields = u.fields; block = u.bytes } ∷ []; unclosed = None })
     → new.begin ≡ length (text ++ more) → new.current ≡ None → new.rows ≡ old.rows ++ row_by old.begin c ∷ []
     → ((records : List Placed) (p : Placed) → K old.beside records → length old.rows ≡ length records → IsNextOf p c.head c.block_start c.block_len → Sees c.block c.head p.content.block → K new.beside (records ++ p ∷ []))
     → HasRead Sees K (text ++ more) (record { records = rs ++ record { version = u.version; fields = u.fields; block = u.bytes } ∷ []; unclosed = None }) new
 end_kept_by {A} {B} {L} {Sees} {K} text more rs u old new c has is whole exact begin current rows keeps =
     let r : Record = record { version = u.version; fields = u.fields; block = u.bytes } in
-    let told : Told = record { records = rs; unclosed = Some u } in
+    let reported : Reported = record { records = rs; unclosed = Some u } in
     let (front, last, all, one, exact_is) = split_last rs r exact.front exact.spelled in
     let text_is : text ++ more ≡ front ++ last = exact.text_is ∙ ap (λ t. exact.front ++ t) exact.ends ∙ append-nil exact.front ∙ exact_is in
-    let (same, rest_is) = same_front text more front last told old has text_is all in
+    let (same, rest_is) = same_front text more front last reported old has text_is all in
     let last_is : last ≡ is.head ++ (is.tail ++ more) = sym rest_is ∙ ap (λ t. t ++ more) is.rest_is ∙ append_assoc is.head is.tail more in
     let head : Head = record { version = u.version; fields = u.fields; len = length is.head; block_len = u.block_len } in
     let read : head_of any_fields last ≡ Ok head = ap (head_of any_fields) last_is ∙ heads_are_stable any_fields is.head (is.tail ++ more) head is.head_is in
@@ -251,7 +251,7 @@ end_kept_by {A} {B} {L} {Sees} {K} text more rs u old new c has is whole exact b
       rest = [];
       text_is = whole_is ∙ sym (append-nil (has.front ++ last));
       spelled = spells_more 0 has.records p has.front last has.spelled one (omega arith) (omega (arith, is.start, size, whole));
-      told_is = ap (λ l. l ++ r ∷ []) has.told_is ∙ sym (map-append (λ (x : Placed). x.content) has.records (p ∷ []));
+      reported_is = ap (λ l. l ++ r ∷ []) has.reported_is ∙ sym (map-append (λ (x : Placed). x.content) has.records (p ∷ []));
       good = accepted_more rs r has.good is.of.good;
       rows_are = rows ∙ ap (λ l. l ++ row_by old.begin c ∷ []) has.rows_are ∙ ap (λ x. map row_of has.records ++ x ∷ []) row ∙ sym (map-append row_of has.records (p ∷ []));
       beside = keeps has.records p has.beside (ap length has.rows_are ∙ length-map has.records row_of) next seen;
@@ -260,10 +260,10 @@ end_kept_by {A} {B} {L} {Sees} {K} text more rs u old new c has is whole exact b
     }
 
 -- the text ends behind its last record
-pub kept_whole : {A B L : Type 0} {Sees : B → List Pair → List ℕ → Type 0} {K : L → List Placed → Type 0} (text : List ℕ) (told : Told) (r : Reading A L B) → HasRead Sees K text told r → SpellsAll told.records text
+pub kept_whole : {A B L : Type 0} {Sees : B → List Pair → List ℕ → Type 0} {K : L → List Placed → Type 0} (text : List ℕ) (reported : Reported) (r : StreamState A L B) → HasRead Sees K text reported r → SpellsAll reported.records text
     → length text ≤ max_archive → IsKeptOf K text (r.rows, r.beside)
-kept_whole text told r has spelled short =
-    let (same, none) = same_front text [] text [] told r has refl spelled in
+kept_whole text reported r has spelled short =
+    let (same, none) = same_front text [] text [] reported r has refl spelled in
     let P : List ℕ → Type 0 = λ t. SpellsFrom 0 has.records t in
     let Q : List Record → Type 0 = λ rs. AllAccepted head_fault rs in
     let whole = subst P same has.spelled in
@@ -273,7 +273,7 @@ kept_whole text told r has spelled short =
         are = record {
           records = has.records;
           spelled = whole;
-          good = are_good (contents has.records) text (spells_all 0 has.records text whole) (subst Q has.told_is has.good);
+          good = are_good (contents has.records) text (spells_all 0 has.records text whole) (subst Q has.reported_is has.good);
           rows_are = has.rows_are;
         };
       };

@@ -25,7 +25,7 @@ pub record Grows {X : Type 0} (Is : List ℕ → X → Type 0) (was : X) (old ne
   pub tried : (bytes : List ℕ) → Is bytes was
       → IfErr answer (λ f. f.kind ≡ Read → new.reads + length bytes ≤ old.reads + f.offset + 1)
   pub some : (bytes : List ℕ) → Is bytes was → IfOk answer (λ x. (more : List ℕ) × Is (bytes ++ more) x)
-  pub behind : (bytes : List ℕ) → Is bytes was → IfErr answer (λ f. f.kind ≡ Memory → length bytes ≤ f.offset)
+  pub following : (bytes : List ℕ) → Is bytes was → IfErr answer (λ f. f.kind ≡ Memory → length bytes ≤ f.offset)
   pub reads : ReadsOn old new answer
 
 -- what growing gives, by what is there afterwards

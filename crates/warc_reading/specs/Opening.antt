@@ -2,7 +2,7 @@
 use Rattle.std.specs.Prelude.{◌≡◌, ℕ, ◌+◌, ◌≤◌, ◌<◌, ◌⊎◌, List, length, take, drop, Result, Ok, Err, IfOk, IfErr, MatchResult}
 use Rattle.warc_frame.specs.Count.{raised}
 use Rattle.warc_frame.specs.Record.{max_archive}
-use Rattle.warc_frame.specs.Told.{IsCut}
+use Rattle.warc_frame.specs.Reported.{IsCut}
 use Rattle.warc_frame.specs.declared.fault.Fault.{Fault}
 use Rattle.warc_frame.specs.declared.fault.FaultKind.{FaultKind}
 use Rattle.warc_frame.specs.declared.fault.FaultKind.TheVariants.{Read, Memory, Truncated}

@@ -2,12 +2,12 @@
 use Rattle.std.specs.Prelude.{◌≡◌, ℕ, ◌+◌, ◌-◌, ◌*◌, ◌^◌, ◌≤◌, List, [], ◌∷◌, length, map, min, slice_range}
 use Rattle.std.specs.List.{AllByRecursion}
 use Rattle.warc_reading.specs.Row.{Row}
-use Rattle.warc_reading.specs.declared.rows.Entry.{Entry}
+use Rattle.warc_reading.specs.declared.rows.RowEntry.{RowEntry}
 use Rattle.warc_reading.specs.declared.rows.Packed.{Packed}
 use Rattle.warc_reading.specs.declared.rows.Compact.{Compact}
 
 -- the row of an entry, whose texts lie one after another in the bytes
-abbrev pub row_at : List ℕ → Entry → Row
+abbrev pub row_at : List ℕ → RowEntry → Row
 row_at texts e = record {
   offset = e.offset;
   block_start = e.block_start;
@@ -20,23 +20,23 @@ row_at texts e = record {
 }
 
 -- an entry's texts lie among the first n bytes
-pub record IsInTexts (count : ℕ) (e : Entry) : Type 0 where
+pub record IsInTexts (count : ℕ) (e : RowEntry) : Type 0 where
   pub kind : e.kind_start ≤ e.kind_end
   pub date : e.kind_end ≤ e.date_end
   pub id : e.date_end ≤ e.id_end
   pub target : e.id_end ≤ e.target_end
   pub end : e.target_end ≤ count
 
-abbrev pub AreWithin : ℕ → List Entry → Type 0
+abbrev pub AreWithin : ℕ → List RowEntry → Type 0
 AreWithin count entries = AllByRecursion (IsInTexts count) entries
 
 -- the texts of the entries lie one after another from a place on, without a gap, and end at another
-abbrev pub ArePacked : ℕ → List Entry → ℕ → Type 0
+abbrev pub ArePacked : ℕ → List RowEntry → ℕ → Type 0
 ArePacked start [] end = start ≡ end
 ArePacked start (e ∷ es) end = (e.kind_start ≡ start) × IsInTexts e.target_end e × ArePacked e.target_end es end
 
 -- the first n bytes are the texts of the entries, and nothing else
-pub record AreFlat (count : ℕ) (entries : List Entry) : Type 0 where
+pub record AreFlat (count : ℕ) (entries : List RowEntry) : Type 0 where
   pub within : AreWithin count entries
   pub packed : ArePacked 0 entries count
 
@@ -49,7 +49,7 @@ unfoldable pub whole : Compact → ℕ
 whole s = s.low + s.middle * 2 ^ 16 + s.high * 2 ^ 32
 
 -- the entry that is kept in 32 bytes
-abbrev pub unpacked : Packed → Entry
+abbrev pub unpacked : Packed → RowEntry
 unpacked p = record {
   offset = whole p.offset;
   block_start = reach (whole p.offset) p.head_len;

@@ -5,7 +5,7 @@ use Rattle.warc_field.specs.Area.{Pair}
 use Rattle.warc_frame.specs.Decoding.{Finishes, State, IsAt}
 use Rattle.warc_frame.specs.Faults.{AllAccepted}
 use Rattle.warc_frame.specs.Record.{max_archive}
-use Rattle.warc_frame.specs.Told.{Told, Unclosed, IsHeadOf}
+use Rattle.warc_frame.specs.Reported.{Reported, Unclosed, IsHeadOf}
 use Rattle.warc_frame.specs.declared.fault.Fault.{Fault}
 use Rattle.warc_frame.specs.declared.fault.FaultKind.{FaultKind}
 use Rattle.warc_frame.specs.declared.fault.FaultKind.TheVariants.{Memory, Read, Truncated}
@@ -17,7 +17,7 @@ use Rattle.warc_reading.specs.Fronts.{IsLongestFront, reach_of}
 use Rattle.warc_reading.specs.Row.{Placed, Row, row_of}
 use Rattle.warc_frame.specs.Seen.{AsksOnly, IfHeld, SeenSource}
 use Rattle.warc_reading.specs.declared.stream.Current.{Current}
-use Rattle.warc_reading.specs.declared.stream.Reading.{Reading}
+use Rattle.warc_reading.specs.declared.stream.StreamState.{StreamState}
 
 -- what is kept of a good head
 pub record IsHead {A B : Type 0} (fields : List Pair) (c : Current A B) : Type 0 where
@@ -46,18 +46,18 @@ Matches Sees begin rest (Some u) (Some c) = IsCurrent Sees begin rest u c
 -- of a text of which this was reported: a row of each record that ended and what else is kept, where the next
 -- record begins, and what is kept of it
 pub record HasRead {A B L : Type 0} (Sees : B → List Pair → List ℕ → Type 0) (Keeps : L → List Placed → Type 0)
-    (text : List ℕ) (told : Told) (r : Reading A L B) : Type 0 where
+    (text : List ℕ) (reported : Reported) (r : StreamState A L B) : Type 0 where
   pub records : List Placed
   pub front : List ℕ
   pub rest : List ℕ
   pub text_is : text ≡ front ++ rest
   pub spelled : SpellsFrom 0 records front
-  pub told_is : told.records ≡ contents records
-  pub good : AllAccepted head_fault told.records
+  pub reported_is : reported.records ≡ contents records
+  pub good : AllAccepted head_fault reported.records
   pub rows_are : r.rows ≡ map row_of records
   pub beside : Keeps r.beside records
   pub begin_is : r.begin ≡ length front
-  pub current : Matches Sees (length front) rest told.unclosed r.current
+  pub current : Matches Sees (length front) rest reported.unclosed r.current
 
 -- a list goes on with more
 abbrev pub Extends : {X : Type 0} → List X → List X → Type 0
@@ -72,11 +72,11 @@ abbrev pub IsLeft : {L : Type 0} → (L → List Placed → Type 0) → List Pla
 IsLeft Keeps was l = (more : List Placed) × Keeps l (was ++ more)
 
 -- the decoder took this text, and what it reported was kept
-pub record Stands {A B L : Type 0} (Sees : B → List Pair → List ℕ → Type 0) (Keeps : L → List Placed → Type 0)
-    (text : List ℕ) (d : State) (r : Reading A L B) : Type 0 where
-  pub told : Told
-  pub is_at : IsAt 0 text told d
-  pub has : HasRead Sees Keeps text told r
+pub record IsReadSoFar {A B L : Type 0} (Sees : B → List Pair → List ℕ → Type 0) (Keeps : L → List Placed → Type 0)
+    (text : List ℕ) (d : State) (r : StreamState A L B) : Type 0 where
+  pub reported : Reported
+  pub is_at : IsAt 0 text reported d
+  pub has : HasRead Sees Keeps text reported r
 
 -- the row of the record that is being read
 abbrev pub row_by : {A B : Type 0} → ℕ → Current A B → Row
@@ -153,22 +153,23 @@ HasGiven old new text = HasGivenFrom 0 old new text
 
 -- the decoder stands between records: whatever it took, all of it was reported
 abbrev pub IsBetween : State → Type 0
-IsBetween d = (at : ℕ) (taken : List ℕ) (told : Told) → IsAt at taken told d → Finishes at taken told (Ok tt)
+IsBetween d =
+    (at : ℕ) (taken : List ℕ) (reported : Reported) → IsAt at taken reported d → Finishes at taken reported (Ok tt)
 
 -- the front of a piece is taken, and what lies in it is kept; or it is refused, and what was kept stays
 pub record TakesFront {A B L : Type 0} (Sees : B → List Pair → List ℕ → Type 0) (Keeps : L → List Placed → Type 0)
-    (piece : List ℕ) (d : State) (r : Reading A L B) (after : State) (now : Reading A L B) (answer : Result ℕ Fault)
-    : Type 0 where
-  pub history : (was : List Placed) (text : List ℕ) → Stands Sees (Since Keeps was) text d r
-      → MatchResult answer (λ took. Stands Sees (Since Keeps was) (text ++ take took piece) after now)
+    (piece : List ℕ) (d : State) (r : StreamState A L B) (after : State) (now : StreamState A L B)
+    (answer : Result ℕ Fault) : Type 0 where
+  pub history : (was : List Placed) (text : List ℕ) → IsReadSoFar Sees (Since Keeps was) text d r
+      → MatchResult answer (λ took. IsReadSoFar Sees (Since Keeps was) (text ++ take took piece) after now)
       (StaysRefused (text ++ piece))
-  pub begins : (was : List Placed) (text : List ℕ) → Stands Sees (Since Keeps was) text d r
+  pub begins : (was : List Placed) (text : List ℕ) → IsReadSoFar Sees (Since Keeps was) text d r
       → MatchResult answer (λ took. BeginsSince text r.begin now.begin) (WantsSince text piece r.begin)
-  pub left : (was : List Placed) (text : List ℕ) → Stands Sees (Since Keeps was) text d r
+  pub left : (was : List Placed) (text : List ℕ) → IsReadSoFar Sees (Since Keeps was) text d r
       → OnErr answer (IsLeft Keeps was now.beside)
-  pub stops : (was : List Placed) (text : List ℕ) → Stands Sees (Since Keeps was) text d r
+  pub stops : (was : List Placed) (text : List ℕ) → IsReadSoFar Sees (Since Keeps was) text d r
       → IfErr answer (Stops (text ++ piece) now.rows)
   pub rows : Extends r.rows now.rows
-  pub taken : (at : ℕ) (taken : List ℕ) (told : Told) → IsAt at taken told d → MatchResult answer
-      (λ took. (next : Told) × IsAt at (taken ++ take took piece) next after) (λ f. f.kind ≢ Read)
+  pub taken : (at : ℕ) (taken : List ℕ) (reported : Reported) → IsAt at taken reported d → MatchResult answer
+      (λ took. (next : Reported) × IsAt at (taken ++ take took piece) next after) (λ f. f.kind ≢ Read)
   pub within : IfOk answer (λ took. (0 < took) × (took ≤ length piece))

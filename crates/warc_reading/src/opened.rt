@@ -39,8 +39,8 @@ impl<S: Source, K: Keep<A> + Drop, A: Allocator + Copy> Opened<S, K, A> {
     /// Reads on in a source that begins with the bytes of the old one, from their end to its own, and adds the records
     /// there. Then it is what opening the whole gives, and has the new source. A source that isn't longer adds nothing.
     /// It is refused as `open` refuses the whole: then the new source is returned, the old one and the rows stay, and
-    /// what is kept is still of these. While it reads, `stand_in` takes the place of what is kept.
-    pub fn grow(&mut self, source: S, stand_in: K) -> Result<(), (Fault, S)>
+    /// what is kept is still of these. While it reads, `placeholder` takes the place of what is kept.
+    pub fn grow(&mut self, source: S, placeholder: K) -> Result<(), (Fault, S)>
     where
         S: Drop,
         ensures grows { Grows (IsKeptOf K.keeps) (self.old.rows, self.old.kept) (S.seen source) (S.seen
@@ -53,7 +53,7 @@ impl<S: Source, K: Keep<A> + Drop, A: Allocator + Copy> Opened<S, K, A> {
         let mut source = source;
         let alloc = self.rows.allocator();
         let rows = mem::replace(&mut self.rows, Rows::new(alloc));
-        let kept = mem::replace(&mut self.kept, stand_in);
+        let kept = mem::replace(&mut self.kept, placeholder);
         let (answer, rows, kept) = read_on(alloc, &mut source, rows, kept);
         self.rows = rows;
         self.kept = kept;

@@ -12,7 +12,7 @@ use crate::rows::Row;
 use std::alloc::{AllocError, Allocator};
 use warc_field::Fields;
 use warc_frame::{FaultKind, Head, MAX_HEAD, OutFault, Source, read_head, read_range};
-use warc_record::{GoodHead, judge_head};
+use warc_record::{GoodHead, good_head_of};
 
 /// Why a head isn't read again.
 #[derive(Clone, Copy, PartialEq, Eq, Debug)]
@@ -73,7 +73,7 @@ fn judged<A: Allocator>(fields: Fields<A>) -> Result<GoodHead<A>, RereadFault>
     ensures read { head_fault fields ≡ None →
         MatchResult result (λ head. head ≡ fields) (λ e. e ≡ RereadFault.Memory) }
 {
-    match judge_head(fields) {
+    match good_head_of(fields) {
         Ok(head) => Ok(head),
         Err(kind) => Err(reread_fault_of(kind)),
     }

@@ -54,7 +54,7 @@ impl<'a> Model for Row<'a> {
 
 /// A record's place, and the places where its texts begin and end in the list of texts.
 #[derive(Clone, Copy)]
-struct Entry {
+struct RowEntry {
     offset: u64,
     block_start: u64,
     block_len: u64,
@@ -157,7 +157,7 @@ impl Packed {
     }
 
     /// The entry.
-    fn entry(self) -> Entry
+    fn entry(self) -> RowEntry
         ensures { result ≡ unpacked self }
     {
         let offset = self.offset.value();
@@ -165,7 +165,7 @@ impl Packed {
         let kind_end = kind_start.saturating_add(self.kind_len as usize);
         let date_end = kind_end.saturating_add(self.date_len as usize);
         let id_end = date_end.saturating_add(self.id_len as usize);
-        Entry {
+        RowEntry {
             offset,
             block_start: offset.saturating_add(self.head_len as u64),
             block_len: self.block_len.value(),

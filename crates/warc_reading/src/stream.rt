@@ -12,10 +12,10 @@ ghost use Rattle.warc_frame.specs.Device.{Gives};
 ghost use Rattle.warc_frame.specs.Ranges.{IsReadAt};
 ghost use Rattle.warc_frame.specs.Record.{max_archive};
 ghost use Rattle.warc_frame.specs.Seen.{GoesOn, IfHeld, InOrder};
-ghost use Rattle.warc_frame.specs.Told.{Told};
+ghost use Rattle.warc_frame.specs.Reported.{Reported};
 ghost use Rattle.warc_field.specs.Area.{Pair};
 ghost use Rattle.warc_quick.specs.Quick.{IsQuickRecord};
-ghost use Rattle.warc_reading.specs.Stream.{Extends, IsBetween, WantsSince, IsHead, IsKeptOf, IsLeft, Since, Stands, StaysRefused, Stops, TakesFront, plain_row, row_by};
+ghost use Rattle.warc_reading.specs.Stream.{Extends, IsBetween, WantsSince, IsHead, IsKeptOf, IsLeft, Since, IsReadSoFar, StaysRefused, Stops, TakesFront, plain_row, row_by};
 ghost use Rattle.warc_reading.specs.declared.stream.Current.{Current as Kept};
 
 use crate::block::TakeBlock;
@@ -25,8 +25,8 @@ use crate::spare_fields::SpareFields;
 use std::alloc::{AllocError, Allocator};
 use warc_field::Fields;
 use warc_frame::{Decoder, Event, Fault, FaultKind, MAX_ARCHIVE, ReadFault, Source};
-use warc_quick::{QuickRecord, judged_record, quick_record};
-use warc_record::{GoodHead, judge_head};
+use warc_quick::{QuickRecord, quick_record, record_with_findings};
+use warc_record::{GoodHead, good_head_of};
 
 /// The record that is being read: what its head says, where its block lies, and what took the bytes of it so far.
 #[derive(Drop)]
@@ -40,7 +40,7 @@ struct Current<A: Allocator, B> {
 /// What was read so far: a row of each record that ended and what else is kept of it, the offset at which the next
 /// record begins, and that record, once its head is there.
 #[derive(Drop)]
-struct Reading<A: Allocator, L, B> {
+struct StreamState<A: Allocator, L, B> {
     rows: Rows<A>,
     beside: L,
     begin: u64,
@@ -48,9 +48,9 @@ struct Reading<A: Allocator, L, B> {
     spare: SpareFields<A>,
 }
 
-impl<A: Allocator + Copy, B: TakeBlock, L: Keep<A, Block = B> + Drop> Reading<A, L, B> {
+impl<A: Allocator + Copy, B: TakeBlock, L: Keep<A, Block = B> + Drop> StreamState<A, L, B> {
     /// The records of these rows were read.
-    fn behind(rows: Rows<A>, beside: L) -> Reading<A, L, B>
+    fn following(rows: Rows<A>, beside: L) -> StreamState<A, L, B>
         ensures rows { result.rows ≡ rows }
         ensures beside { result.beside ≡ beside }
         ensures limit { result.begin ≤ max_archive }
@@ -58,7 +58,7 @@ impl<A: Allocator + Copy, B: TakeBlock, L: Keep<A, Block = B> + Drop> Reading<A,
         ensures current { result.current ≡ None }
     {
         let begin = rows.end();
-        Reading {
+        StreamState {
             rows,
             beside,
             begin,
@@ -92,7 +92,7 @@ impl<A: Allocator + Copy, B: TakeBlock, L: Keep<A, Block = B> + Drop> Reading<A,
             × (c.block_start ≡ block_start) × (c.block_len ≡ block_len)) }
         ensures fault { IfErr result (λ kind. head_fault fields ≡ Some kind) }
     {
-        let head = judge_head(fields)?;
+        let head = good_head_of(fields)?;
         let block = B::begin(&head);
         self.current = Some(Current {
             head,
@@ -229,7 +229,7 @@ fn plain_record<'a, A: Allocator + Copy>(
         return None;
     }
     let found = if checks_heads {
-        judged_record(piece)?
+        record_with_findings(piece)?
     } else {
         quick_record(piece)?
     };
@@ -244,7 +244,7 @@ fn plain_record<'a, A: Allocator + Copy>(
 fn take_plain<A: Allocator + Copy, L: Keep<A> + Drop>(
     alloc: A,
     decoder: &mut Decoder<A>,
-    reading: &mut Reading<A, L, L::Block>,
+    reading: &mut StreamState<A, L, L::Block>,
     found: &QuickRecord<'_>,
     piece: &[u8],
 ) -> Result<usize, Fault>
@@ -270,7 +270,7 @@ fn take_plain<A: Allocator + Copy, L: Keep<A> + Drop>(
 fn take_event<A: Allocator + Copy, L: Keep<A> + Drop>(
     alloc: A,
     decoder: &mut Decoder<A>,
-    reading: &mut Reading<A, L, L::Block>,
+    reading: &mut StreamState<A, L, L::Block>,
     piece: &[u8],
 ) -> Result<usize, Fault>
     requires { 0 < length piece.now }
@@ -302,7 +302,7 @@ fn take_event<A: Allocator + Copy, L: Keep<A> + Drop>(
 fn take_front<A: Allocator + Copy, L: Keep<A> + Drop>(
     alloc: A,
     decoder: &mut Decoder<A>,
-    reading: &mut Reading<A, L, L::Block>,
+    reading: &mut StreamState<A, L, L::Block>,
     piece: &[u8],
 ) -> Result<usize, Fault>
     requires { 0 < length piece.now }
@@ -321,26 +321,27 @@ fn take_front<A: Allocator + Copy, L: Keep<A> + Drop>(
 fn take_piece<A: Allocator + Copy, L: Keep<A> + Drop>(
     alloc: A,
     decoder: &mut Decoder<A>,
-    reading: &mut Reading<A, L, L::Block>,
+    reading: &mut StreamState<A, L, L::Block>,
     piece: &[u8],
 ) -> Result<(), Fault>
     ensures history { (was : List Placed) (text : List ℕ)
-        → Stands L.Block.has_seen (Since L.keeps was) text decoder.old reading.old
+        → IsReadSoFar L.Block.has_seen (Since L.keeps was) text decoder.old reading.old
         → MatchResult result
-        (λ _. Stands L.Block.has_seen (Since L.keeps was) (text ++ piece.now) decoder.new reading.new)
+        (λ _. IsReadSoFar L.Block.has_seen (Since L.keeps was) (text ++ piece.now) decoder.new reading.new)
         (StaysRefused (text ++ piece.now)) }
     ensures memory { (was : List Placed) (text : List ℕ)
-        → Stands L.Block.has_seen (Since L.keeps was) text decoder.old reading.old
+        → IsReadSoFar L.Block.has_seen (Since L.keeps was) text decoder.old reading.old
         → IfErr result (WantsSince text piece.now reading.old.begin) }
     ensures left { (was : List Placed) (text : List ℕ)
-        → Stands L.Block.has_seen (Since L.keeps was) text decoder.old reading.old
+        → IsReadSoFar L.Block.has_seen (Since L.keeps was) text decoder.old reading.old
         → OnErr result (IsLeft L.keeps was reading.new.beside) }
     ensures stops { (was : List Placed) (text : List ℕ)
-        → Stands L.Block.has_seen (Since L.keeps was) text decoder.old reading.old
+        → IsReadSoFar L.Block.has_seen (Since L.keeps was) text decoder.old reading.old
         → IfErr result (Stops (text ++ piece.now) reading.new.rows) }
     ensures rows { Extends reading.old.rows reading.new.rows }
-    ensures taken { (at : ℕ) (taken : List ℕ) (told : Told) → IsAt at taken told decoder.old → MatchResult result
-        (λ _. (now : Told) × IsAt at (taken ++ piece.now) now decoder.new) (λ f. f.kind ≢ FaultKind.Read) }
+    ensures taken { (at : ℕ) (taken : List ℕ) (reported : Reported) → IsAt at taken reported decoder.old
+        → MatchResult result (λ _. (now : Reported) × IsAt at (taken ++ piece.now) now decoder.new)
+        (λ f. f.kind ≢ FaultKind.Read) }
 {
     let mut from = 0;
     'taking: while from < piece.len() {
@@ -369,7 +370,7 @@ fn read_through<S: Source, A: Allocator + Copy, L: Keep<A> + Drop>(
     alloc: A,
     source: &mut S,
     buf: &mut [u8],
-    reading: &mut Reading<A, L, L::Block>,
+    reading: &mut StreamState<A, L, L::Block>,
 ) -> Result<(), Fault>
     requires room { 0 < length buf.old }
     requires limit { reading.old.begin ≤ max_archive }
@@ -421,7 +422,7 @@ pub fn read_on<S: Source, A: Allocator + Copy, L: Keep<A> + Drop>(
         return (Err(FaultKind::Memory.at(begin)), rows, beside);
     };
     let count = rows.len();
-    let mut reading = Reading::behind(rows, beside);
+    let mut reading = StreamState::following(rows, beside);
     match read_through(alloc, source, &mut buf, &mut reading) {
         Ok(()) => (Ok(()), reading.rows, reading.beside),
         Err(fault) => {
@@ -445,7 +446,7 @@ pub fn read_front<S: Source, A: Allocator + Copy>(
     let Ok(mut buf) = vec![in alloc; 0u8; len] else {
         return (Err(FaultKind::Memory.at(0)), Rows::new(alloc));
     };
-    let mut reading = Reading::behind(Rows::new(alloc), RowsAlone);
+    let mut reading = StreamState::following(Rows::new(alloc), RowsAlone);
     let answer = read_through(alloc, source, &mut buf, &mut reading);
     (answer, reading.rows)
 }

@@ -20,23 +20,23 @@ pub utf8_is_not : (bytes : List ℕ) → ¬ (IsUtf8 bytes) → false ≡ is_utf8
 utf8_is_not bytes not = false_unless _ (λ is. not (IsUtf8-from_is_utf8 bytes is))
 
 -- what one item gives, where it passes
-abbrev pub told_if : {X Y : Type 0} → (X → Bool) → (X → Y) → X → List Y
-told_if test told x = if test x then told x ∷ [] else []
+abbrev pub reported_if : {X Y : Type 0} → (X → Bool) → (X → Y) → X → List Y
+reported_if test reported x = if test x then reported x ∷ [] else []
 
 -- what passes of a list and one more item
-pub select_push : {X Y : Type 0} (test : X → Bool) (told : X → Y) (xs : List X) (x : X)
-    → map told (filter test (xs ++ x ∷ [])) ≡ map told (filter test xs) ++ told_if test told x
-select_push test told [] x = one (test x)
+pub select_push : {X Y : Type 0} (test : X → Bool) (reported : X → Y) (xs : List X) (x : X)
+    → map reported (filter test (xs ++ x ∷ [])) ≡ map reported (filter test xs) ++ reported_if test reported x
+select_push test reported [] x = one (test x)
   where
-    one : (b : Bool) → map told (if b then x ∷ [] else []) ≡ (if b then told x ∷ [] else [])
+    one : (b : Bool) → map reported (if b then x ∷ [] else []) ≡ (if b then reported x ∷ [] else [])
     one true = refl
     one false = refl
-select_push test told (y ∷ ys) x = more (test y) (select_push test told ys x)
+select_push test reported (y ∷ ys) x = more (test y) (select_push test reported ys x)
   where
-    more : (b : Bool) → map told (filter test (ys ++ x ∷ [])) ≡ map told (filter test ys) ++ told_if test told x
-        → map told (if b then y ∷ filter test (ys ++ x ∷ []) else filter test (ys ++ x ∷ []))
-        ≡ map told (if b then y ∷ filter test ys else filter test ys) ++ told_if test told x
-    more true rest = ap (λ zs. told y ∷ zs) rest
+    more : (b : Bool) → map reported (filter test (ys ++ x ∷ [])) ≡ map reported (filter test ys) ++ reported_if test reported x
+        → map reported (if b then y ∷ filter test (ys ++ x ∷ []) else filter test (ys ++ x ∷ []))
+        ≡ map reported (if b then y ∷ filter test ys else filter test ys) ++ reported_if test reported x
+    more true rest = ap (λ zs. reported y ∷ zs) rest
     more false rest = rest
 
 -- the findings, added one number after the other

@@ -13,7 +13,7 @@ use Rattle.warc_record.specs.declared.types.Kind.TheVariants.{Other}
 use Rattle.warc_record.specs.Ids.{bare_text, is_id, id_key, key_of}
 use Rattle.warc_record.specs.Kinds.{kind_named}
 use Rattle.warc_record.specs.Heads.{type_fault, id_fault, date_fault, is_date}
-use Rattle.warc_record.specs.Good.{GoodHeadsHaveNoFault, GoodHeadsRead, StandsOnce}
+use Rattle.warc_record.specs.Good.{GoodHeadsHaveNoFault, GoodHeadsRead, OccursOnce}
 use Rattle.warc_record.proofs.LawLemmas.{key_is}
 
 -- neither of two faults, where the first of them is none
@@ -26,12 +26,12 @@ passes true fault e = refl
 passes false fault e = absurd (cc)
 
 -- a field without a fault stands there, and its value reads
-stands_and_reads : (found : Option (List ℕ)) (again : Bool) (reads : List ℕ → Bool) (missing repeated bad : FaultKind)
+is_present_and_reads : (found : Option (List ℕ)) (again : Bool) (reads : List ℕ → Bool) (missing repeated bad : FaultKind)
     → option_or (if is_none found then Some missing else if again then Some repeated else None) (if option_map_or reads found false then None else Some bad) ≡ None
     → (value : List ℕ) × (found ≡ Some value) × (reads value ≡ true)
-stands_and_reads None again reads missing repeated bad e = absurd (cc)
-stands_and_reads (Some value) true reads missing repeated bad e = absurd (cc)
-stands_and_reads (Some value) false reads missing repeated bad e = (value, refl, passes (reads value) bad e)
+is_present_and_reads None again reads missing repeated bad e = absurd (cc)
+is_present_and_reads (Some value) true reads missing repeated bad e = absurd (cc)
+is_present_and_reads (Some value) false reads missing repeated bad e = (value, refl, passes (reads value) bad e)
 
 some_of : {X : Type 0} (o : Option X) → is_some o ≡ true → (x : X) × (o ≡ Some x)
 some_of None e = absurd (cc)
@@ -41,9 +41,9 @@ pub good_heads_read : GoodHeadsRead
 good_heads_read fields good =
     let first = neither (type_fault fields) _ good in
     let later = neither (id_fault fields) (date_fault fields) first.1 in
-    let kind = stands_and_reads (first_value (codes "WARC-Type") fields) _ is_name _ _ _ first.0 in
-    let id = stands_and_reads (first_value (codes "WARC-Record-ID") fields) _ is_id _ _ _ later.0 in
-    let date = stands_and_reads (first_value (codes "WARC-Date") fields) _ is_date _ _ _ later.1 in
+    let kind = is_present_and_reads (first_value (codes "WARC-Type") fields) _ is_name _ _ _ first.0 in
+    let id = is_present_and_reads (first_value (codes "WARC-Record-ID") fields) _ is_id _ _ _ later.0 in
+    let date = is_present_and_reads (first_value (codes "WARC-Date") fields) _ is_date _ _ _ later.1 in
     let instant = some_of (instant_of date.0) date.2 in
     let key = key_is id.0 id.2 in
     record {
@@ -69,16 +69,16 @@ module _ (name : List ℕ) (reads : List ℕ → Bool) (missing repeated bad : F
   FaultOf found again =
       option_or (if is_none found then Some missing else if again then Some repeated else None) (if option_map_or reads found false then None else Some bad)
 
-  once_by : (found : Option (List ℕ)) (again : Bool) → first_value name fields ≡ found → nat_lt 1 (count_of name fields) ≡ again → FaultOf found again ≡ None → StandsOnce name reads fields
+  once_by : (found : Option (List ℕ)) (again : Bool) → first_value name fields ≡ found → nat_lt 1 (count_of name fields) ≡ again → FaultOf found again ≡ None → OccursOnce name reads fields
   once_by None again is count e = absurd (cc e)
   once_by (Some value) true is count e = absurd (cc e)
-  once_by (Some value) false is count e = record { value = value; stands = is; alone = ltb-false 1 (count_of name fields) count; reads = passes (reads value) bad e }
+  once_by (Some value) false is count e = record { value = value; is_present = is; alone = ltb-false 1 (count_of name fields) count; reads = passes (reads value) bad e }
 
-  pub once : FaultOf (first_value name fields) (nat_lt 1 (count_of name fields)) ≡ None → StandsOnce name reads fields
+  pub once : FaultOf (first_value name fields) (nat_lt 1 (count_of name fields)) ≡ None → OccursOnce name reads fields
   once e = once_by (first_value name fields) (nat_lt 1 (count_of name fields)) refl refl e
 
-  pub no_fault : StandsOnce name reads fields → FaultOf (first_value name fields) (nat_lt 1 (count_of name fields)) ≡ None
-  no_fault is = rw (is.stands, le-ltb 1 (count_of name fields) is.alone, is.reads) refl
+  pub no_fault : OccursOnce name reads fields → FaultOf (first_value name fields) (nat_lt 1 (count_of name fields)) ≡ None
+  no_fault is = rw (is.is_present, le-ltb 1 (count_of name fields) is.alone, is.reads) refl
 
 pub good_heads_have_no_fault : GoodHeadsHaveNoFault
 good_heads_have_no_fault fields = (

@@ -24,15 +24,15 @@ single z f (suc i, lt, e) = absurd (omega (arith, lt))
 first : {X : Type 0} (x : X) (xs : List X) → Contains (x ∷ xs) x
 first x xs = (0, omega arith, refl)
 
-behind : {X : Type 0} (y : X) (xs : List X) (x : X) → Contains xs x → Contains (y ∷ xs) x
-behind y xs x h = Contains-append_right (y ∷ []) xs x h
+following : {X : Type 0} (y : X) (xs : List X) (x : X) → Contains xs x → Contains (y ∷ xs) x
+following y xs x h = Contains-append_right (y ∷ []) xs x h
 
 -- a list of what a function makes of those that pass
 abbrev IsMade : {X Y : Type 0} → (X → Bool) → (X → Y) → List X → Y → Type 0
 IsMade {X} p g xs f = (x : X) × Contains xs x × (p x ≡ true) × (f ≡ g x)
 
 later : {X Y : Type 0} (p : X → Bool) (g : X → Y) (y : X) (xs : List X) (f : Y) → IsMade p g xs f → IsMade p g (y ∷ xs) f
-later p g y xs f m = (m.0, behind y xs m.0 m.1, m.2, m.3)
+later p g y xs f m = (m.0, following y xs m.0 m.1, m.2, m.3)
 
 made_to : {X Y : Type 0} (p : X → Bool) (g : X → Y) (xs : List X) (f : Y) → Contains (map g (filter p xs)) f → IsMade p g xs f
 made_to p g [] f h = absurd (let lt = h.1 in omega (arith, lt))
@@ -54,7 +54,7 @@ made_from p g (y ∷ xs) x h t = by_test (p y) refl (λ more. made_from p g xs x
         → Contains (map g (cond b (y ∷ filter p xs) (filter p xs))) (g x)
     by_test true e rest = elim (Contains-append_cases (y ∷ []) xs x h) [
       | inl one ↦ subst (λ z. Contains (g y ∷ map g (filter p xs)) (g z)) (single y x one) (first (g y) (map g (filter p xs)))
-      | inr more ↦ behind (g y) (map g (filter p xs)) (g x) (rest more)
+      | inr more ↦ following (g y) (map g (filter p xs)) (g x) (rest more)
     ]
     by_test false e rest = elim (Contains-append_cases (y ∷ []) xs x h) [
       | inl one ↦ absurd (let same = single y x one in cc)

@@ -65,10 +65,10 @@ FindingsAreFew = (fields : List Pair) (size : ℕ) (bad_digest used_id : Bool)
     → length (findings_of fields size bad_digest used_id) ≤ length fields + 58
 
 -- how many bytes a finding has: the digits of its number, and its field's name
-abbrev pub told_len : SeenFinding → ℕ
-told_len found = length (decimal (finding_number found)) + length (unwrap_or (finding_field found) [])
+abbrev pub reported_len : SeenFinding → ℕ
+reported_len found = length (decimal (finding_number found)) + length (unwrap_or (finding_field found) [])
 
 -- the findings of a record have at most 1,000 bytes more than its fields
 abbrev pub FindingsAreShort : Type 0
 FindingsAreShort = (fields : List Pair) (size : ℕ) (bad_digest used_id : Bool)
-    → sum_by told_len (findings_of fields size bad_digest used_id) ≤ length (canonical_fields fields) + 1000
+    → sum_by reported_len (findings_of fields size bad_digest used_id) ≤ length (canonical_fields fields) + 1000

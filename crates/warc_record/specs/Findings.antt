@@ -58,15 +58,15 @@ abbrev pub once : SeenFinding → Bool → List SeenFinding
 once found holds = if holds then found ∷ [] else []
 
 -- the field isn't absent: a target is absent if its bare text is empty, any other field if its value is
-abbrev pub stands : List ℕ → List Pair → Bool
-stands name fields =
+abbrev pub is_present : List ℕ → List Pair → Bool
+is_present name fields =
     if str_eq_ignore_ascii_case name warc_target_uri then is_some (present_bare name fields)
     else is_some (present_value name fields)
 
 -- N1: a required field is absent. N2: a forbidden one isn't. N3: a field that may not be repeated is.
 abbrev pub is_broken : TableCheck → Kind → List Pair → Rule → Bool
-is_broken Lacks kind fields rule = is_among kind rule.required && not (stands rule.name fields)
-is_broken HasForbidden kind fields rule = is_among kind rule.forbidden && stands rule.name fields
+is_broken Lacks kind fields rule = is_among kind rule.required && not (is_present rule.name fields)
+is_broken HasForbidden kind fields rule = is_among kind rule.forbidden && is_present rule.name fields
 is_broken Repeats kind fields rule = is_known kind && not rule.repeats && nat_lt 1 (count_of rule.name fields)
 
 abbrev pub broken_rule : TableCheck → Rule → SeenFinding

@@ -12,17 +12,17 @@ use Rattle.warc_record.specs.Readings.{Reading, reading_of}
 use Rattle.warc_record.specs.Heads.{head_fault, is_date}
 
 -- a field of this name occurs exactly once, and its value can be read
-pub record StandsOnce (name : List ℕ) (test : List ℕ → Bool) (fields : List Pair) : Type 0 where
+pub record OccursOnce (name : List ℕ) (test : List ℕ → Bool) (fields : List Pair) : Type 0 where
   pub value : List ℕ
-  pub stands : first_value name fields ≡ Some value
+  pub is_present : first_value name fields ≡ Some value
   pub alone : count_of name fields ≤ 1
   pub reads : test value ≡ true
 
 -- the type occurs exactly once and is a token, the id is in brackets or bare, the date is one
 pub record IsGoodHead (fields : List Pair) : Type 0 where
-  pub type_is : StandsOnce warc_type is_name fields
-  pub id_is : StandsOnce warc_record_id is_id fields
-  pub date_is : StandsOnce warc_date is_date fields
+  pub type_is : OccursOnce warc_type is_name fields
+  pub id_is : OccursOnce warc_record_id is_id fields
+  pub date_is : OccursOnce warc_date is_date fields
 
 -- a good record can be framed, and its head is good
 pub record IsGood (r : Record) : Type 0 where

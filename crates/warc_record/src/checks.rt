@@ -7,7 +7,7 @@ ghost use Rattle.warc_record.specs.Kinds.{is_known};
 ghost use Rattle.warc_record.specs.Readings.{kind_of, reading_of};
 ghost use Rattle.warc_frame.specs.FieldNames.{name_text};
 ghost use Rattle.warc_record.specs.Table.{rule_seen};
-ghost use Rattle.warc_record.specs.Findings.{stands, broken_rule, is_broken, by_table, once, finding_seen, finding_number, finding_field, is_bad_number, has_bad_segment, lacks_content_type, has_unknown_profile, lacks_origin, has_bare_id, is_in_brackets, not_utf8, findings_of};
+ghost use Rattle.warc_record.specs.Findings.{is_present, broken_rule, is_broken, by_table, once, finding_seen, finding_number, finding_field, is_bad_number, has_bad_segment, lacks_content_type, has_unknown_profile, lacks_origin, has_bare_id, is_in_brackets, not_utf8, findings_of};
 
 use crate::ids::bare;
 use crate::known::ByName;
@@ -130,8 +130,8 @@ impl TableCheck {
 }
 
 /// Whether the field isn't absent. A target is absent too if its bare text is empty.
-fn stands<A: Allocator>(fields: &ByName<'_, A>, name: FieldName) -> bool
-    ensures { result ≡ stands (name_text name) fields.now }
+fn is_present<A: Allocator>(fields: &ByName<'_, A>, name: FieldName) -> bool
+    ensures { result ≡ is_present (name_text name) fields.now }
 {
     match present(fields, name) {
         Some(value) => name != FieldName::TargetUri || !bare(value.bytes()).is_empty(),
@@ -140,7 +140,7 @@ fn stands<A: Allocator>(fields: &ByName<'_, A>, name: FieldName) -> bool
 }
 
 /// Whether a field that may not be repeated occurs again.
-fn stands_again<A: Allocator>(fields: &ByName<'_, A>, rule: &FieldRule) -> bool
+fn occurs_again<A: Allocator>(fields: &ByName<'_, A>, rule: &FieldRule) -> bool
     ensures { result ≡ (not rule.now.repeats && nat_lt 1 (count_of (name_text rule.now.field) fields.now)) }
 {
     !rule.repeats && fields.repeats(rule.field)
@@ -156,9 +156,10 @@ fn is_broken<A: Allocator>(
     ensures { result ≡ is_broken check kind fields.now (rule_seen rule.now) }
 {
     match check {
-        TableCheck::Lacks => is_among(kind, rule.required) && !stands(fields, rule.field),
-        TableCheck::HasForbidden => stands(fields, rule.field) && is_among(kind, rule.forbidden),
-        TableCheck::Repeats => is_known(kind) && stands_again(fields, rule),
+        TableCheck::Lacks => is_among(kind, rule.required) && !is_present(fields, rule.field),
+        TableCheck::HasForbidden => is_present(fields, rule.field)
+            && is_among(kind, rule.forbidden),
+        TableCheck::Repeats => is_known(kind) && occurs_again(fields, rule),
     }
 }
 

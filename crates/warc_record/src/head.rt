@@ -317,7 +317,7 @@ fn judge<A: Allocator>(fields: &ByName<'_, A>) -> Result<(), FaultKind>
 }
 
 /// The head that these fields are, or the first refusal of its type, its id and its date, in the order of `type_head`.
-pub fn judge_head<A: Allocator>(fields: Fields<A>) -> Result<GoodHead<A>, FaultKind>
+pub fn good_head_of<A: Allocator>(fields: Fields<A>) -> Result<GoodHead<A>, FaultKind>
     ensures { MatchResult result
         (λ head. (head_fault fields ≡ None) × (head ≡ fields))
         (λ fault. head_fault fields ≡ Some fault) }

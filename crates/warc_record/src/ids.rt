@@ -23,11 +23,11 @@ const UUID_ID: usize = 47;
 /// text, which is borrowed.
 #[derive(Debug, Drop)]
 pub struct IdKey<'a> {
-    form: Form<'a>,
+    form: KeyForm<'a>,
 }
 
 #[derive(Debug, Drop)]
-enum Form<'a> {
+enum KeyForm<'a> {
     Uuid([u8; 17]),
     Text(&'a [u8]),
 }
@@ -48,8 +48,8 @@ impl IdKey<'_> {
         ensures { result.now ≡ self.now }
     {
         match &self.form {
-            Form::Uuid(bytes) => bytes.as_slice(),
-            Form::Text(bytes) => bytes,
+            KeyForm::Uuid(bytes) => bytes.as_slice(),
+            KeyForm::Text(bytes) => bytes,
         }
     }
 
@@ -202,7 +202,7 @@ pub fn id_key(text: &[u8]) -> Option<IdKey<'_>>
 {
     match uuid_id_key(text) {
         Some(key) => Some(IdKey {
-            form: Form::Uuid(key),
+            form: KeyForm::Uuid(key),
         }),
         None => searched_id_key(text),
     }
@@ -217,8 +217,8 @@ fn searched_id_key(text: &[u8]) -> Option<IdKey<'_>>
         return None;
     }
     let form = match urn_uuid(bare) {
-        Some(uuid) => Form::Uuid(uuid_key(uuid)),
-        None => Form::Text(bare),
+        Some(uuid) => KeyForm::Uuid(uuid_key(uuid)),
+        None => KeyForm::Text(bare),
     };
     Some(IdKey { form })
 }

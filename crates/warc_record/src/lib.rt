@@ -13,7 +13,7 @@ mod types;
 
 pub use checks::{ArchiveFacts, Finding, TableCheck, all_findings, findings, is_in_brackets};
 pub use head::{
-    GoodHead, HeadTexts, NamedPair, Reference, Segment, Typed, judge_head, type_head, wanted,
+    GoodHead, HeadTexts, NamedPair, Reference, Segment, Typed, good_head_of, type_head, wanted,
 };
 pub use ids::{IdKey, bare, id_key, is_bare_id, urn_uuid};
 pub use readings::{SegmentNumber, is_known_profile};

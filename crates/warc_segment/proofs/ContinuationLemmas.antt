@@ -90,7 +90,7 @@ pub end_here : (series : List Continuation) (i total : ℕ) (d : Continuation) �
     → i < length series → (get_or series i d).total ≡ Some total → IsEnd (members_of series) i total
 end_here series i total d none within states = record {
   it = member_at (get_or series i d);
-  stands = slice_get-map member_at series i ∙ ap (option_map member_at) (slice_get-get_or series i d within);
+  is_present = slice_get-map member_at series i ∙ ap (option_map member_at) (slice_get-get_or series i d within);
   states = states;
   first = none;
 }
@@ -168,13 +168,13 @@ absent_within size series i total k ordered once end last missing =
     (none_after (members_of series) i ordered (omega arith))
     (sym (missing ∙ ap (λ (j : ℕ). least_absent j (members_of series)) (last_place series i last))))
 
-pub total_told : (size : ℕ) (series : List Continuation) (i total : ℕ) (right : Bool) → AreOrdered (numbers_in series)
+pub total_reported : (size : ℕ) (series : List Continuation) (i total : ℕ) (right : Bool) → AreOrdered (numbers_in series)
     → None ≡ least_repeated (members_of series) → IsEnd (members_of series) i total → i + 1 ≡ length series
     → None ≡ least_absent (get_or (numbers_in series) (length series - 1) 0) (members_of series)
     → CountsUp (numbers_in series) (length series)
     → right ≡ (total == size + sum_by (λ m. m.size) (members_of series))
     → cond right None (Some Total) ≡ gap_of size (members_of series)
-total_told size series i total right ordered once end last missing counts is =
+total_reported size series i total right ordered once end last missing counts is =
     let len : length (numbers_in series) ≡ length series = length_in series in
     let n : ℕ = get_or (numbers_in series) i 0 in
     sym (gap_total size n (members_of series) right (sym once) (end_found (members_of series) i total ordered end)

@@ -72,14 +72,14 @@ once_at k (n ∷ ks) some = elim (cases_Bool (n == k)) [
 ]
 
 -- two places of one number
-pub record StandsTwice (k : ℕ) (ks : List ℕ) : Type 0 where
+pub record OccursTwice (k : ℕ) (ks : List ℕ) : Type 0 where
   pub early : ℕ
   pub late : ℕ
   pub order : early < late
   pub first : slice_get ks early ≡ Some k
   pub again : slice_get ks late ≡ Some k
 
-pub twice_at : (k : ℕ) (ks : List ℕ) → 2 ≤ times k ks → StandsTwice k ks
+pub twice_at : (k : ℕ) (ks : List ℕ) → 2 ≤ times k ks → OccursTwice k ks
 twice_at k [] some = absurd (omega arith)
 twice_at k (n ∷ ks) some = elim (cases_Bool (n == k)) [
   | inl hit ↦
@@ -95,7 +95,7 @@ twice_at k (n ∷ ks) some = elim (cases_Bool (n == k)) [
       }
   | inr miss ↦
       let c : times k (n ∷ ks) ≡ times k ks = times_later k n ks miss in
-      let later : StandsTwice k ks = twice_at k ks (omega arith) in
+      let later : OccursTwice k ks = twice_at k ks (omega arith) in
       let up : later.early < later.late = later.order in
       record {
         early = suc later.early;

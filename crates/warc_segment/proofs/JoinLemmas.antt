@@ -25,9 +25,9 @@ use Rattle.warc_segment.specs.Joined.{PlacedRecord, with_members, joined_places,
 use Rattle.warc_segment.specs.Ordered.{member_at, members_of, numbers_in, AreOrdered}
 use Rattle.warc_segment.specs.Kept.{KeptMember, Kept, kept_in}
 use Rattle.warc_segment.specs.Held.{kept_from, side_by_side, AreHeld, held_in, continuation_of, ComesBefore, IsKeptAs, IsWholeSeries, IsSeries}
-use Rattle.warc_segment.proofs.LeastLemmas.{Stands, stands_filter, filter_stands, stands_map, map_stands, filter_hit, filter_miss}
+use Rattle.warc_segment.proofs.LeastLemmas.{IsReadSoFar, is_present_filter, filter_is_present, is_present_map, map_is_present, filter_hit, filter_miss}
 use Rattle.warc_segment.proofs.ContinuationLemmas.{length_in, number_in}
-use Rattle.warc_segment.proofs.SameLemmas.{Distinct, AreSame, same_from_distinct, joined_same, contains_stands, stands_contains}
+use Rattle.warc_segment.proofs.SameLemmas.{Distinct, AreSame, same_from_distinct, joined_same, contains_is_present, is_present_contains}
 use Rattle.warc_segment.proofs.KeptLemmas.{member_kept, is_of, series_is_kept, place_of_kept}
 use Rattle.warc_segment.proofs.HeldLemmas.{side_at}
 use Rattle.warc_segment.proofs.StepLemmas.{entry_of}
@@ -82,7 +82,7 @@ ordered_series p id es fs series held whole =
       from_two = λ i within.
           let short : i < length series = omega arith in
           let kept : IsKeptAs id (side_by_side es fs) (get_or series i blank) = whole.some.kept i blank short in
-          let two : 2 ≤ kept.it.number = from_two p es fs held kept.it kept.stands in
+          let two : 2 ≤ kept.it.number = from_two p es fs held kept.it kept.is_present in
           let n : (get_or series i blank).number ≡ kept.it.number = ap (λ (x : Continuation). x.number) kept.is in
           let a : get_or (numbers_in series) i 0 ≡ (get_or series i blank).number = number_in series i blank short in
           omega arith;
@@ -107,8 +107,8 @@ distinct_kept p (e ∷ es) (f ∷ fs) same rising =
           subst (λ (ms : List KeptMember). Distinct (map member_kept ms))
           (sym (filter_hit p (kept_from e f) (side_by_side es fs) hit)) (
             (λ at.
-                let from = stands_map member_kept (filter p (side_by_side es fs)) (member_kept (kept_from e f)) at in
-                let there = (stands_filter p (side_by_side es fs) from.0 from.1).0 in
+                let from = is_present_map member_kept (filter p (side_by_side es fs)) (member_kept (kept_from e f)) at in
+                let there = (is_present_filter p (side_by_side es fs) from.0 from.1).0 in
                 let n : length fs ≡ length es = omega arith in
                 let entry = entry_of es fs there.0 from.0 n there.1 in
                 let within : there.0 < length es = entry.0 in
@@ -124,7 +124,7 @@ distinct_members : (series : List Continuation) → AllPairs ComesBefore series 
 distinct_members [] ordered = tt
 distinct_members (c ∷ series) ordered = (
   (λ at.
-      let from = stands_map member_at series (member_at c) at in
+      let from = is_present_map member_at series (member_at c) at in
       let d : Continuation = from.0 in
       let within : from.1.0 < length series = slice_get_within series from.1.0 d from.1.1 in
       let is : get_or series from.1.0 c ≡ d = get_or_from_slice_get series from.1.0 d c from.1.1 in
@@ -152,23 +152,23 @@ same_members p id es fs series held whole =
     same_from_distinct (map member_kept (filter (is_of id) members)) (members_of series)
     (distinct_kept (is_of id) es fs held.same held.rising) (distinct_members series whole.some.ordered)
     (λ m at.
-    let from = stands_map member_kept (filter (is_of id) members) m at in
-    let is = stands_filter (is_of id) members from.0 from.1 in
+    let from = is_present_map member_kept (filter (is_of id) members) m at in
+    let is = is_present_filter (is_of id) members from.0 from.1 in
     let there : Contains series (continuation_of from.0) =
-    whole.all from.0 (stands_contains members from.0 is.0) (of_id id from.0.origin is.1) in
-    subst (Stands (members_of series)) from.2
-    (map_stands member_at series (continuation_of from.0)
-    (contains_stands series (continuation_of from.0) there)))
+    whole.all from.0 (is_present_contains members from.0 is.0) (of_id id from.0.origin is.1) in
+    subst (IsReadSoFar (members_of series)) from.2
+    (map_is_present member_at series (continuation_of from.0)
+    (contains_is_present series (continuation_of from.0) there)))
     (λ m at.
-    let from = stands_map member_at series m at in
+    let from = is_present_map member_at series m at in
     let kept : IsKeptAs id members from.0 =
     All-contains (IsKeptAs id members) series from.0 whole.some.kept
-    (stands_contains series from.0 from.1) in
-    let there : Stands (filter (is_of id) members) kept.it =
-    filter_stands (is_of id) members kept.it (contains_stands members kept.it kept.stands)
+    (is_present_contains series from.0 from.1) in
+    let there : IsReadSoFar (filter (is_of id) members) kept.it =
+    filter_is_present (is_of id) members kept.it (contains_is_present members kept.it kept.is_present)
     (id_of id kept.it.origin kept.origin) in
-    subst (Stands (map member_kept (filter (is_of id) members))) (ap member_at (sym kept.is) ∙ from.2)
-    (map_stands member_kept (filter (is_of id) members) kept.it there))
+    subst (IsReadSoFar (map member_kept (filter (is_of id) members))) (ap member_at (sym kept.is) ∙ from.2)
+    (map_is_present member_kept (filter (is_of id) members) kept.it there))
 
 -- ---- its places
 
@@ -181,7 +181,7 @@ places_found id all (c ∷ series) kept =
     let members : List KeptMember = (kept_in all).members in
     let is : IsKeptAs id members c = All-head (IsKeptAs id members) c series kept in
     let at : slice_get (map (λ (q : PlacedRecord). q.place) all) is.it.position ≡ Some is.it.place =
-    place_of_kept all is.it (contains_stands members is.it is.stands) in
+    place_of_kept all is.it (contains_is_present members is.it is.is_present) in
     let here : slice_get (map (λ (q : PlacedRecord). q.place) all) c.position ≡ Some c.place =
     ap (λ (x : Continuation). slice_get (map (λ (q : PlacedRecord). q.place) all) x.position) is.is
     ∙ (at ∙ ap (λ (x : Continuation). Some x.place) (sym is.is)) in
@@ -249,5 +249,5 @@ joined_fault {A} p r id es fs all o s fault held was named one is from series =
   where
     by_fault : (f : JoinFault) → IsSeries {A = A} id r.place.len (side_by_side es fs) (Err f)
         → IsJoin {A = A} (Err f) (joined_places all r)
-    by_fault (IsGap gap) told = joined_err p r id es fs told.0 all gap held was named one told.1 told.2
-    by_fault Memory told = told
+    by_fault (IsGap gap) reported = joined_err p r id es fs reported.0 all gap held was named one reported.1 reported.2
+    by_fault Memory reported = reported

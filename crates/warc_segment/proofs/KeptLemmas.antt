@@ -11,7 +11,7 @@ use Rattle.warc_segment.specs.declared.place.Place.{Place}
 use Rattle.warc_segment.specs.Series.{Member, numbered, member_of, series_of}
 use Rattle.warc_segment.specs.Joined.{PlacedRecord, piece_placed}
 use Rattle.warc_segment.specs.Kept.{KeptMember, kept_by, kept_of, kept_in}
-use Rattle.warc_segment.proofs.LeastLemmas.{Stands, stands_cases, stands_nowhere, filter_hit, filter_miss}
+use Rattle.warc_segment.proofs.LeastLemmas.{IsReadSoFar, is_present_cases, is_present_nowhere, filter_hit, filter_miss}
 
 -- a kept continuation as a member of a series
 abbrev pub member_kept : KeptMember → Member
@@ -26,8 +26,8 @@ cond_same true x = refl
 cond_same false x = refl
 
 -- one record more
-abbrev pub told : List ℕ → ℕ → PlacedRecord → Bool → Option (List ℕ) → SegmentNumber → Option Member
-told id n r goes_on origin number =
+abbrev pub reported : List ℕ → ℕ → PlacedRecord → Bool → Option (List ℕ) → SegmentNumber → Option Member
+reported id n r goes_on origin number =
     cond (goes_on && is_same_text (Some id) origin) (numbered n (piece_placed r) number) None
 
 abbrev pub stored : ℕ → PlacedRecord → Bool → Option (List ℕ) → SegmentNumber → Option KeptMember
@@ -38,7 +38,7 @@ series_in id members = map member_kept (filter (is_of id) members)
 
 one_more : (id : List ℕ) (n : ℕ) (r : PlacedRecord) (members : List KeptMember) (goes_on : Bool)
     (origin : Option (List ℕ)) (number : SegmentNumber)
-    → cons_option (told id n r goes_on origin number) (series_in id members)
+    → cons_option (reported id n r goes_on origin number) (series_in id members)
     ≡ series_in id (cons_option (stored n r goes_on origin number) members)
 one_more id n r members false origin number = refl
 one_more id n r members true None number = refl
@@ -84,9 +84,9 @@ places_in all = map (λ q. q.place) all
 
 -- a kept continuation's position is that of a record with its place
 record IsAt (all : List PlacedRecord) (n : ℕ) (m : KeptMember) : Type 0 where
-  behind : ℕ
-  position : m.position ≡ behind + n
-  place : slice_get (places_in all) behind ≡ Some m.place
+  following : ℕ
+  position : m.position ≡ following + n
+  place : slice_get (places_in all) following ≡ Some m.place
 
 pub kept_place : (n : ℕ) (r : PlacedRecord) (goes_on : Bool) (origin : Option (List ℕ)) (number : SegmentNumber)
     (m : KeptMember)
@@ -119,33 +119,33 @@ kept_place n r true (Some origin) (Number k) m e = by_test (nat_le 2 k) e
         } = cc in
         (ap (λ (x : KeptMember). x.position) is, ap (λ (x : KeptMember). x.place) is)
 
-stands_option : {X : Type 0} (o : Option X) (xs : List X) (x : X) → Stands (cons_option o xs) x
-    → (o ≡ Some x) ⊎ Stands xs x
-stands_option None xs x at = inr at
-stands_option (Some y) xs x at = elim (stands_cases y xs x at) [
+is_present_option : {X : Type 0} (o : Option X) (xs : List X) (x : X) → IsReadSoFar (cons_option o xs) x
+    → (o ≡ Some x) ⊎ IsReadSoFar xs x
+is_present_option None xs x at = inr at
+is_present_option (Some y) xs x at = elim (is_present_cases y xs x at) [
   | inl here ↦ inl (ap Some (sym here))
   | inr later ↦
       inr later
 ]
 
 kept_at : (n : ℕ) (all : List PlacedRecord) (m : KeptMember)
-    → Stands (filter_map kept_of (enumerate_from n all)) m → IsAt all n m
-kept_at n [] m at = absurd (stands_nowhere m at)
-kept_at n (r ∷ all) m at = elim (stands_option (kept_of (n, r)) (filter_map kept_of (enumerate_from
+    → IsReadSoFar (filter_map kept_of (enumerate_from n all)) m → IsAt all n m
+kept_at n [] m at = absurd (is_present_nowhere m at)
+kept_at n (r ∷ all) m at = elim (is_present_option (kept_of (n, r)) (filter_map kept_of (enumerate_from
     (n + 1) all)) m at) [
       | inl here ↦
           let is = kept_place n r (is_continuation r.head.kind) r.head.segment.origin r.head.segment.number m here in
           let z : n ≡ 0 + n = omega arith in
-          record { behind = 0; position = is.0 ∙ z; place = ap Some (sym is.1) }
+          record { following = 0; position = is.0 ∙ z; place = ap Some (sym is.1) }
       | inr later ↦
           let is : IsAt all (n + 1) m = kept_at (n + 1) all m later in
-          let z : is.behind + (n + 1) ≡ suc is.behind + n = omega arith in
-          record { behind = suc is.behind; position = is.position ∙ z; place = is.place }
+          let z : is.following + (n + 1) ≡ suc is.following + n = omega arith in
+          record { following = suc is.following; position = is.position ∙ z; place = is.place }
     ]
 
-pub place_of_kept : (all : List PlacedRecord) (m : KeptMember) → Stands (kept_in all).members m
+pub place_of_kept : (all : List PlacedRecord) (m : KeptMember) → IsReadSoFar (kept_in all).members m
     → slice_get (map (λ q. q.place) all) m.position ≡ Some m.place
 place_of_kept all m at =
     let is : IsAt all 0 m = kept_at 0 all m at in
-    let z : is.behind + 0 ≡ is.behind = omega arith in
+    let z : is.following + 0 ≡ is.following = omega arith in
     ap (slice_get (places_in all)) (is.position ∙ z) ∙ is.place

@@ -12,8 +12,8 @@ use Rattle.warc_segment.specs.Joined.{PlacedRecord, piece_placed}
 use Rattle.warc_segment.specs.Ordered.{member_at, members_of}
 use Rattle.warc_segment.specs.Kept.{KeptMember, Kept, kept_in}
 use Rattle.warc_segment.specs.Held.{kept_from, side_by_side, AreHeld, held_in, continuation_of, ComesBefore, IsKeptAs, IsWholeSeries, positions_of}
-use Rattle.warc_segment.proofs.LeastLemmas.{Stands, stands_map, map_stands, filter_stands, stands_filter}
-use Rattle.warc_segment.proofs.SameLemmas.{AreSame, contains_stands, stands_contains}
+use Rattle.warc_segment.proofs.LeastLemmas.{IsReadSoFar, is_present_map, map_is_present, filter_is_present, is_present_filter}
+use Rattle.warc_segment.proofs.SameLemmas.{AreSame, contains_is_present, is_present_contains}
 use Rattle.warc_segment.proofs.KeptLemmas.{member_kept, is_of, series_is_kept}
 use Rattle.warc_segment.proofs.HeldLemmas.{side_at}
 use Rattle.warc_segment.proofs.StepLemmas.{entry_of, nothing_before, one_place}
@@ -33,25 +33,25 @@ same_series p id es fs series all held was whole =
 
 listed : (series : List Continuation) (p : ℕ) → Contains (positions_of series) p → IsMemberAt (members_of series) p
 listed series p at =
-    let from = stands_map (λ (c : Continuation). c.position) series p (contains_stands (positions_of series) p at) in
+    let from = is_present_map (λ (c : Continuation). c.position) series p (contains_is_present (positions_of series) p at) in
     record {
       it = member_at from.0;
-      listed = stands_contains (members_of series) (member_at from.0) (map_stands member_at series from.0 from.1);
+      listed = is_present_contains (members_of series) (member_at from.0) (map_is_present member_at series from.0 from.1);
       position = from.2;
     }
 
 positioned : (series : List Continuation) (p : ℕ) → IsMemberAt (members_of series) p → Contains (positions_of series) p
 positioned series p is =
-    let from = stands_map member_at series is.it (contains_stands (members_of series) is.it is.listed) in
+    let from = is_present_map member_at series is.it (contains_is_present (members_of series) is.it is.listed) in
     let here : Contains (positions_of series) from.0.position =
-    stands_contains (positions_of series) from.0.position
-    (map_stands (λ (c : Continuation). c.position) series from.0 from.1) in
+    is_present_contains (positions_of series) from.0.position
+    (map_is_present (λ (c : Continuation). c.position) series from.0 from.1) in
     subst (Contains (positions_of series)) (ap (λ (m : Member). m.position) from.2 ∙ is.position) here
 
-moved : (a b : List Member) (p : ℕ) → ((m : Member) → Stands a m → Stands b m) → IsMemberAt a p → IsMemberAt b p
+moved : (a b : List Member) (p : ℕ) → ((m : Member) → IsReadSoFar a m → IsReadSoFar b m) → IsMemberAt a p → IsMemberAt b p
 moved a b p to is = record {
   it = is.it;
-  listed = stands_contains b is.it (to is.it (contains_stands a is.it is.listed));
+  listed = is_present_contains b is.it (to is.it (contains_is_present a is.it is.listed));
   position = is.position;
 }
 
@@ -82,7 +82,7 @@ apart p id es fs series held whole i j d less within =
     let at_b : get_or (positions_of series) j d ≡ b.position = position_in series j d blank inside in
     let equal : a.position ≡ b.position = sym at_a ∙ (same ∙ at_b) in
     let one : kept_a.it ≡ kept_b.it =
-    one_place p es fs kept_a.it kept_b.it held kept_a.stands kept_b.stands
+    one_place p es fs kept_a.it kept_b.it held kept_a.is_present kept_b.is_present
     (sym (ap (λ (x : Continuation). x.position) kept_a.is) ∙ (equal ∙ ap (λ (x : Continuation). x.position) kept_b.is)) in
     let both : a ≡ b = kept_a.is ∙ (ap continuation_of one ∙ sym kept_b.is) in
     let less_than : a.position < b.position = before.position (ap (λ (x : Continuation). x.number) both) in
@@ -112,21 +112,21 @@ pub member_of_entry : (p i : ℕ) (id : List ℕ) (es : List Entry) (fs : List T
 member_of_entry p i id es fs all held was within text =
     let members : side_by_side es fs ≡ (kept_in all).members = ap (λ (k : Kept). k.members) was in
     let m : KeptMember = kept_from (entry_at es i) (get_or fs i no_facts) in
-    let there : Stands (side_by_side es fs) m = (i, side_at es fs i no_entry no_facts held.same within) in
-    let passes : Stands (filter (is_of id) (side_by_side es fs)) m =
-    filter_stands (is_of id) (side_by_side es fs) m there (id_of id m.origin text) in
-    let listed : Stands (map member_kept (filter (is_of id) (side_by_side es fs))) (member_kept m) =
-    map_stands member_kept (filter (is_of id) (side_by_side es fs)) m passes in
+    let there : IsReadSoFar (side_by_side es fs) m = (i, side_at es fs i no_entry no_facts held.same within) in
+    let passes : IsReadSoFar (filter (is_of id) (side_by_side es fs)) m =
+    filter_is_present (is_of id) (side_by_side es fs) m there (id_of id m.origin text) in
+    let listed : IsReadSoFar (map member_kept (filter (is_of id) (side_by_side es fs))) (member_kept m) =
+    map_is_present member_kept (filter (is_of id) (side_by_side es fs)) m passes in
     let is : map member_kept (filter (is_of id) (side_by_side es fs)) ≡ series_of (Some id) (map piece_placed all) =
     ap (λ (ms : List KeptMember). map member_kept (filter (is_of id) ms)) members ∙ sym (series_is_kept id all) in
     record {
       it = member_kept m;
-      listed = subst (λ (ms : List Member). Contains ms (member_kept m)) is (stands_contains (map member_kept
+      listed = subst (λ (ms : List Member). Contains ms (member_kept m)) is (is_present_contains (map member_kept
           (filter (is_of id) (side_by_side es fs))) (member_kept m) listed);
       position = refl;
     }
 
-none_listed : {X : Type 0} (xs : List X) → ((x : X) → Stands xs x → ⊥) → xs ≡ []
+none_listed : {X : Type 0} (xs : List X) → ((x : X) → IsReadSoFar xs x → ⊥) → xs ≡ []
 none_listed [] none = refl
 none_listed (x ∷ xs) none = absurd (none x (0, refl))
 
@@ -140,7 +140,7 @@ no_entry_no_member p id es fs all held was none =
     series_is_kept id all ∙ ap (λ (ms : List KeptMember). map member_kept (filter (is_of id) ms)) (sym members) in
     let empty : filter (is_of id) (side_by_side es fs) ≡ [] =
     none_listed (filter (is_of id) (side_by_side es fs)) (λ m at.
-    let passes = stands_filter (is_of id) (side_by_side es fs) m at in
+    let passes = is_present_filter (is_of id) (side_by_side es fs) m at in
     let entry = entry_of es fs passes.0.0 m held.same passes.0.1 in
     none (entry_at es passes.0.0) (Contains-get_or es passes.0.0 no_entry entry.0)
     (sym entry.2 ∙ of_id id m.origin passes.1)) in

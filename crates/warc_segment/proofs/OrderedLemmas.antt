@@ -10,8 +10,8 @@ use Rattle.warc_segment.specs.declared.gap.Gap.TheVariants.{Repeated, Unfinished
 use Rattle.warc_segment.specs.Series.{Member, count_numbered, numbers_of, member_numbered, in_order}
 use Rattle.warc_segment.specs.Gaps.{least, least_repeated, end_of, least_after, is_absent, least_absent, has_total, absent_or_total, gap_to, gap_of, followers}
 use Rattle.warc_segment.specs.Ordered.{AreOrdered, Rises, CountsUp, NoTotal, IsEnd}
-use Rattle.warc_segment.proofs.LeastLemmas.{Stands, stands_filter, stands_map, map_stands, filter_hit, filter_miss, Up, least_front, least_sorted, first_found, none_found}
-use Rattle.warc_segment.proofs.CountLemmas.{times, count_is_times, at_once, at_twice, once_at, twice_at, StandsTwice}
+use Rattle.warc_segment.proofs.LeastLemmas.{IsReadSoFar, is_present_filter, is_present_map, map_is_present, filter_hit, filter_miss, Up, least_front, least_sorted, first_found, none_found}
+use Rattle.warc_segment.proofs.CountLemmas.{times, count_is_times, at_once, at_twice, once_at, twice_at, OccursTwice}
 use Rattle.warc_segment.proofs.SeriesLemmas.{in_order_is_each}
 
 -- ---- lists that don't fall
@@ -33,11 +33,11 @@ up_from (k ∷ ks) up = (
 )
 
 -- the number at a place
-number_stands : (ks : List ℕ) (i : ℕ) → i < length ks → slice_get ks i ≡ Some (get_or ks i 0)
-number_stands ks i within = slice_get-get_or ks i 0 within
+number_is_present : (ks : List ℕ) (i : ℕ) → i < length ks → slice_get ks i ≡ Some (get_or ks i 0)
+number_is_present ks i within = slice_get-get_or ks i 0 within
 
 -- two places of one number, and all between, hold it
-apart_from_twice : (ks : List ℕ) (k : ℕ) → AreOrdered ks → StandsTwice k ks
+apart_from_twice : (ks : List ℕ) (k : ℕ) → AreOrdered ks → OccursTwice k ks
     → (p : ℕ) × (p + 1 < length ks) × (get_or ks p 0 ≡ k) × (get_or ks (p + 1) 0 ≡ k)
 apart_from_twice ks k ordered twice =
     let p : ℕ = twice.early in
@@ -52,10 +52,10 @@ apart_from_twice ks k ordered twice =
 
 -- ---- G1
 
-abbrev stands_twice : List Member → ℕ → Bool
-stands_twice members k = nat_le 2 (count_numbered k members)
+abbrev is_present_twice : List Member → ℕ → Bool
+is_present_twice members k = nat_le 2 (count_numbered k members)
 
-twice_of : (members : List Member) (k : ℕ) → stands_twice members k ≡ true → StandsTwice k (numbers_of members)
+twice_of : (members : List Member) (k : ℕ) → is_present_twice members k ≡ true → OccursTwice k (numbers_of members)
 twice_of members k hit =
     let c : count_numbered k members ≡ times k (numbers_of members) = count_is_times k members in
     let le : 2 ≤ count_numbered k members = grind (arith, nat_tests) in
@@ -63,10 +63,10 @@ twice_of members k hit =
 
 -- where the numbers before a place rise, none of them stands twice
 once_before : (members : List Member) (i k : ℕ) → AreOrdered (numbers_of members) → Rises (numbers_of members) (i + 1)
-    → k < i → k < length (numbers_of members) → stands_twice members (get_or (numbers_of members) k 0) ≡ false
+    → k < i → k < length (numbers_of members) → is_present_twice members (get_or (numbers_of members) k 0) ≡ false
 once_before members i k ordered rises less within =
     let ks : List ℕ = numbers_of members in
-    elim (cases_Bool (stands_twice members (get_or ks k 0))) [
+    elim (cases_Bool (is_present_twice members (get_or ks k 0))) [
       | inr miss ↦ miss
       | inl hit ↦
           let at = apart_from_twice ks (get_or ks k 0) ordered (twice_of members (get_or ks k 0) hit) in
@@ -91,21 +91,21 @@ pub first_repeated : (members : List Member) (i : ℕ) → AreOrdered (numbers_o
 first_repeated members i ordered rises within same =
     let ks : List ℕ = numbers_of members in
     let k : ℕ = get_or ks i 0 in
-    let here : slice_get ks i ≡ Some k = number_stands ks i (omega arith) in
-    let next : slice_get ks (i + 1) ≡ Some k = number_stands ks (i + 1) within ∙ ap Some (sym same) in
+    let here : slice_get ks i ≡ Some k = number_is_present ks i (omega arith) in
+    let next : slice_get ks (i + 1) ≡ Some k = number_is_present ks (i + 1) within ∙ ap Some (sym same) in
     let two : 2 ≤ times k ks = at_twice k ks i (i + 1) (omega arith) here next in
     let c : count_numbered k members ≡ times k ks = count_is_times k members in
-    let hit : stands_twice members k ≡ true = grind (arith, nat_tests) in
-    least_sorted (stands_twice members) ks (up_from ks ordered.up)
-    ∙ first_found (stands_twice members) ks i 0 (omega arith)
+    let hit : is_present_twice members k ≡ true = grind (arith, nat_tests) in
+    least_sorted (is_present_twice members) ks (up_from ks ordered.up)
+    ∙ first_found (is_present_twice members) ks i 0 (omega arith)
     (λ j less. once_before members i j ordered rises less (omega arith)) hit
 
 pub none_repeated : (members : List Member) → AreOrdered (numbers_of members)
     → Rises (numbers_of members) (length (numbers_of members)) → least_repeated members ≡ None
 none_repeated members ordered rises =
     let ks : List ℕ = numbers_of members in
-    least_sorted (stands_twice members) ks (up_from ks ordered.up)
-    ∙ none_found (stands_twice members) ks 0 (λ k within. elim (cases_Bool (stands_twice members (get_or ks k 0))) [
+    least_sorted (is_present_twice members) ks (up_from ks ordered.up)
+    ∙ none_found (is_present_twice members) ks 0 (λ k within. elim (cases_Bool (is_present_twice members (get_or ks k 0))) [
       | inr miss ↦ miss
       | inl hit ↦
           let at = apart_from_twice ks (get_or ks k 0) ordered (twice_of members (get_or ks k 0) hit) in
@@ -124,10 +124,10 @@ end_is_first (m ∷ members) up = elim (cases_Bool (has_a_total m)) [
   | inl hit ↦
       ap (λ (ms : List Member). least (numbers_of ms)) (filter_hit has_a_total m members hit)
       ∙ (least_front m.number (numbers_of (filter has_a_total members)) (λ j at.
-      let from = stands_map (λ (x : Member). x.number) (filter has_a_total members) j at in
-      let there : Stands members from.0 = (stands_filter has_a_total members from.0 from.1).0 in
-      let number : Stands (numbers_of members) from.0.number =
-      map_stands (λ (x : Member). x.number) members from.0 there in
+      let from = is_present_map (λ (x : Member). x.number) (filter has_a_total members) j at in
+      let there : IsReadSoFar members from.0 = (is_present_filter has_a_total members from.0 from.1).0 in
+      let number : IsReadSoFar (numbers_of members) from.0.number =
+      map_is_present (λ (x : Member). x.number) members from.0 there in
       let le : m.number ≤ from.0.number = up.0 from.0.number number in
       let is : from.0.number ≡ j = from.2 in
       omega arith)
@@ -164,15 +164,15 @@ pub end_found : (members : List Member) (i total : ℕ) → AreOrdered (numbers_
     → end_of members ≡ Some (get_or (numbers_of members) i 0)
 end_found members i total ordered end =
     let it : Member = end.it in
-    let within : i < length members = slice_get_within members i it end.stands in
-    let is : get_or members i it ≡ it = get_or_from_slice_get members i it it end.stands in
+    let within : i < length members = slice_get_within members i it end.is_present in
+    let is : get_or members i it ≡ it = get_or_from_slice_get members i it it end.is_present in
     let hit : has_a_total (get_or members i it) ≡ true = ap has_a_total is ∙ ap is_some end.states in
     let found : find has_a_total members ≡ Some (get_or members i it) =
     first_found has_a_total members i it within
     (λ k less. without_total members i it end.first k less (omega arith)) hit in
     end_is_first members (up_from (numbers_of members) ordered.up)
     ∙ (ap (option_map (λ (x : Member). x.number)) (found ∙ ap Some is)
-    ∙ ap Some (sym (number_at members i it end.stands)))
+    ∙ ap Some (sym (number_at members i it end.is_present)))
 
 pub no_end : (members : List Member) → AreOrdered (numbers_of members) → NoTotal members (length members)
     → end_of members ≡ None
@@ -264,7 +264,7 @@ present_at : (n : ℕ) (members : List Member) (j k : ℕ) → j < length (numbe
     → get_or (numbers_of members) j 0 ≡ k → is_absent n members k ≡ false
 present_at n members j k within is =
     let one : 1 ≤ times k (numbers_of members) =
-    at_once k (numbers_of members) j (number_stands (numbers_of members) j within ∙ ap Some is) in
+    at_once k (numbers_of members) j (number_is_present (numbers_of members) j within ∙ ap Some is) in
     let c : count_numbered k members ≡ times k (numbers_of members) = count_is_times k members in
     let some : (count_numbered k members == 0) ≡ false = grind (arith, nat_tests) in
     and_right (nat_le 2 k && nat_le k n) (count_numbered k members == 0) some
@@ -394,7 +394,7 @@ total_is size members i total counts end last =
     let len : length (numbers_of members) ≡ length members = length_numbers members in
     let z : length members + 1 ≡ i + 2 = omega arith in
     let at : member_numbered members (length members + 1) ≡ Some end.it =
-    ap (member_numbered members) z ∙ numbered_at members i end.it counts end.stands in
+    ap (member_numbered members) z ∙ numbered_at members i end.it counts end.is_present in
     let totals : option_and_then (λ (m : Member). m.total) (member_numbered members (length members + 1))
     ≡ Some total =
     ap (option_and_then (λ (m : Member). m.total)) at ∙ end.states in
@@ -410,21 +410,21 @@ pub gap_repeated : (size k : ℕ) (members : List Member) → least_repeated mem
 gap_repeated size k members e =
     ap (λ (o : Option ℕ). option_or (option_map Repeated o) (gap_to (end_of members) size members)) e
 
-pub gap_behind : (size : ℕ) (members : List Member) (end : Option ℕ) → least_repeated members ≡ None
+pub gap_following : (size : ℕ) (members : List Member) (end : Option ℕ) → least_repeated members ≡ None
     → end_of members ≡ end
     → gap_of size members ≡ gap_to end size members
-gap_behind size members end none e =
+gap_following size members end none e =
     ap (λ (o : Option ℕ). option_or (option_map Repeated o) (gap_to (end_of members) size members)) none
     ∙ ap (λ (o : Option ℕ). gap_to o size members) e
 
 pub gap_unfinished : (size : ℕ) (members : List Member) → least_repeated members ≡ None → end_of members ≡ None
     → gap_of size members ≡ Some Unfinished
-gap_unfinished size members none e = gap_behind size members None none e
+gap_unfinished size members none e = gap_following size members None none e
 
 pub gap_after : (size n k : ℕ) (members : List Member) → least_repeated members ≡ None → end_of members ≡ Some n
     → least_after n members ≡ Some k → gap_of size members ≡ Some (AfterEnd k)
 gap_after size n k members none e f =
-    gap_behind size members (Some n) none e
+    gap_following size members (Some n) none e
     ∙ ap (λ (o : Option ℕ). option_or (option_map AfterEnd o) (absent_or_total
     (least_absent n members) n size members)) f
 
@@ -432,7 +432,7 @@ gap_within : (size n : ℕ) (members : List Member) (missing : Option ℕ) → l
     → end_of members ≡ Some n → least_after n members ≡ None → least_absent n members ≡ missing
     → gap_of size members ≡ absent_or_total missing n size members
 gap_within size n members missing none e f g =
-    gap_behind size members (Some n) none e
+    gap_following size members (Some n) none e
     ∙ (ap (λ (o : Option ℕ). option_or (option_map AfterEnd o) (absent_or_total
     (least_absent n members) n size members)) f
     ∙ ap (λ (o : Option ℕ). absent_or_total o n size members) g)

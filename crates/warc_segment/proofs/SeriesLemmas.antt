@@ -12,35 +12,35 @@ use Rattle.warc_segment.specs.SeriesLaws.{IsLeastAbsent, LeastAbsentIsFirst, InO
 -- ---- the least number that passes
 
 -- a number stands in a list
-abbrev Stands : List ℕ → ℕ → Type 0
-Stands ks k = (i : ℕ) × (slice_get ks i ≡ Some k)
+abbrev IsReadSoFar : List ℕ → ℕ → Type 0
+IsReadSoFar ks k = (i : ℕ) × (slice_get ks i ≡ Some k)
 
 -- k passes, and no number of the list that passes is less
 pub record IsLeastOf (test : ℕ → Bool) (ks : List ℕ) (k : ℕ) : Type 0 where
   pub passes : test k ≡ true
-  pub least : (j : ℕ) → Stands ks j → test j ≡ true → k ≤ j
+  pub least : (j : ℕ) → IsReadSoFar ks j → test j ≡ true → k ≤ j
 
 abbrev NoneOf : (ℕ → Bool) → List ℕ → Type 0
-NoneOf test ks = (j : ℕ) → Stands ks j → test j ≡ false
+NoneOf test ks = (j : ℕ) → IsReadSoFar ks j → test j ≡ false
 
 -- what the least of those that pass is
 abbrev LeastIs : (ℕ → Bool) → List ℕ → Option ℕ → Type 0
 LeastIs test ks None = NoneOf test ks
 LeastIs test ks (Some k) = IsLeastOf test ks k
 
-stands_cases : (k : ℕ) (ks : List ℕ) (j : ℕ) → Stands (k ∷ ks) j → (j ≡ k) ⊎ Stands ks j
-stands_cases k ks j (zero, e) = inl (cc)
-stands_cases k ks j (suc i, e) = inr (i, e)
+is_present_cases : (k : ℕ) (ks : List ℕ) (j : ℕ) → IsReadSoFar (k ∷ ks) j → (j ≡ k) ⊎ IsReadSoFar ks j
+is_present_cases k ks j (zero, e) = inl (cc)
+is_present_cases k ks j (suc i, e) = inr (i, e)
 
 least_skip : (test : ℕ → Bool) (k : ℕ) (ks : List ℕ) (o : Option ℕ) → test k ≡ false → LeastIs test ks o
     → LeastIs test (k ∷ ks) o
-least_skip test k ks None miss none = λ j at. elim (stands_cases k ks j at) [
+least_skip test k ks None miss none = λ j at. elim (is_present_cases k ks j at) [
   | inl here ↦ ap test here ∙ miss
   | inr later ↦ none j later
 ]
 least_skip test k ks (Some n) miss is = record {
   passes = is.passes;
-  least = λ j at hit. elim (stands_cases k ks j at) [
+  least = λ j at hit. elim (is_present_cases k ks j at) [
     | inl here ↦ absurd (true≢false (sym hit ∙ (ap test here ∙ miss)))
     | inr later ↦ is.least j later hit
   ];
@@ -50,7 +50,7 @@ least_take : (test : ℕ → Bool) (k : ℕ) (ks : List ℕ) (o : Option ℕ) �
     → LeastIs test (k ∷ ks) (lesser (Some k) o)
 least_take test k ks None hit none = record {
   passes = hit;
-  least = λ j at passes. elim (stands_cases k ks j at) [
+  least = λ j at passes. elim (is_present_cases k ks j at) [
     | inl here ↦ omega arith
     | inr later ↦ absurd (true≢false (sym passes ∙ none j later))
   ];
@@ -60,7 +60,7 @@ least_take test k ks (Some n) hit is = record {
     | inl less ↦ let e : min k n ≡ k = omega arith in ap test e ∙ hit
     | inr more ↦ let e : min k n ≡ n = omega arith in ap test e ∙ is.passes
   ];
-  least = λ j at passes. elim (stands_cases k ks j at) [
+  least = λ j at passes. elim (is_present_cases k ks j at) [
     | inl here ↦ omega arith
     | inr later ↦ let below : n ≤ j = is.least j later passes in omega arith
   ];
@@ -93,9 +93,9 @@ abbrev candidates : List Member → List ℕ
 candidates members = 2 ∷ after members
 
 -- a number that a member has is followed by a candidate
-counted_stands : (members : List Member) (k : ℕ) → (count_numbered k members == 0) ≡ false → Stands (after members) (k + 1)
-counted_stands [] k some = absurd (true≢false some)
-counted_stands (m ∷ members) k some = elim (cases_Bool (m.number == k)) [
+counted_is_present : (members : List Member) (k : ℕ) → (count_numbered k members == 0) ≡ false → IsReadSoFar (after members) (k + 1)
+counted_is_present [] k some = absurd (true≢false some)
+counted_is_present (m ∷ members) k some = elim (cases_Bool (m.number == k)) [
   | inl here ↦ let is : m.number ≡ k = eqb-true m.number k here in (0, ap (λ (n : ℕ). Some (n + 1)) is)
   | inr gone ↦
       let one : Member → ℕ = λ (x : Member). cond (x.number == k) 1 0 in
@@ -104,7 +104,7 @@ counted_stands (m ∷ members) k some = elim (cases_Bool (m.number == k)) [
       let none : 0 + count_numbered k members ≡ count_numbered k members = omega arith in
       let same : count_numbered k (m ∷ members) ≡ count_numbered k members = split
       ∙ (ap (λ (b : Bool). cond b 1 0 + count_numbered k members) gone ∙ none) in
-      let later : Stands (after members) (k + 1) = counted_stands members k (ap (λ (n : ℕ). n == 0) (sym same)
+      let later : IsReadSoFar (after members) (k + 1) = counted_is_present members k (ap (λ (n : ℕ). n == 0) (sym same)
       ∙ some) in
       (suc later.0, later.1)
 ]
@@ -114,7 +114,7 @@ not_past : (n : ℕ) (members : List Member) (j : ℕ) → n < j → is_absent n
 not_past n members j past = grind (arith, nat_tests)
 
 -- below the least candidate that is absent, no number is
-none_before : (n : ℕ) (members : List Member) (k : ℕ) → ((j : ℕ) → Stands (candidates members) j
+none_before : (n : ℕ) (members : List Member) (k : ℕ) → ((j : ℕ) → IsReadSoFar (candidates members) j
     → is_absent n members j ≡ true → k ≤ j)
     → (j : ℕ) → j < k → is_absent n members j ≡ false
 none_before n members k first j below = elim (cases_Bool (is_absent n members j)) [
@@ -137,7 +137,7 @@ none_before n members k first j below = elim (cases_Bool (is_absent n members j)
             | inl none ↦ grind (arith, nat_tests)
             | inr counted ↦
                 let next : i + 1 ≡ suc i = omega arith in
-                let at : Stands (after members) (i + 1) = counted_stands members i counted in
+                let at : IsReadSoFar (after members) (i + 1) = counted_is_present members i counted in
                 let le : k ≤ suc i = first (suc i) (suc at.0, at.1 ∙ ap Some next) gap in
                 omega arith
           ]

@@ -14,9 +14,9 @@ use Rattle.warc_order.specs.Entries.{Entry, entry_at, no_entry, mark_lt, comes_l
 use Rattle.warc_segment.specs.declared.held.TotalAndPlace.{TotalAndPlace}
 use Rattle.warc_segment.specs.declared.series.Continuation.{Continuation}
 use Rattle.warc_segment.specs.Kept.{KeptMember}
-use Rattle.warc_segment.specs.Held.{kept_from, side_by_side, AreHeld, continuation_of, ComesBefore, IsKeptAs, AreInSeries, IsWholeSeries, positions_of, IsBehind, IsNext, IsDone}
-use Rattle.warc_segment.proofs.LeastLemmas.{Stands, stands_cases, stands_map, map_stands}
-use Rattle.warc_segment.proofs.SameLemmas.{Distinct, no_more, contains_stands, stands_contains}
+use Rattle.warc_segment.specs.Held.{kept_from, side_by_side, AreHeld, continuation_of, ComesBefore, IsKeptAs, AreInSeries, IsWholeSeries, positions_of, IsEntryAfter, IsNext, IsDone}
+use Rattle.warc_segment.proofs.LeastLemmas.{IsReadSoFar, is_present_cases, is_present_map, map_is_present}
+use Rattle.warc_segment.proofs.SameLemmas.{Distinct, no_more, contains_is_present, is_present_contains}
 use Rattle.warc_segment.proofs.HeldLemmas.{side_at}
 
 -- ---- which entry is later
@@ -70,7 +70,7 @@ pub starts : (id : List ℕ) (es : List Entry) (i : ℕ) → i < length es
 starts id es i within first = record {
   within = within;
   text = first.passes.text_is;
-  behind = λ k d in_none. absurd (omega arith);
+  following = λ k d in_none. absurd (omega arith);
   rest = λ e at text. inr (first.first e at (record { text_is = text; from = nothing_before e.mark }));
 }
 
@@ -80,8 +80,8 @@ none_at_start id es none e at text = absurd (none e at (record { text_is = text;
 
 -- ---- a step of the walk
 
-entry_stands : (es : List Entry) (i : ℕ) → i < length es → Contains es (entry_at es i)
-entry_stands es i within = Contains-get_or es i no_entry within
+entry_is_present : (es : List Entry) (i : ℕ) → i < length es → Contains es (entry_at es i)
+entry_is_present es i within = Contains-get_or es i no_entry within
 
 low : (p : ℕ) (es : List Entry) (fs : List TotalAndPlace) → AreHeld p es fs → (e : Entry) → Contains es e → e.mark.major ≡ 0
 low p es fs held e at =
@@ -90,7 +90,7 @@ low p es fs held e at =
 -- a continuation is what the entry at a place is
 pub record IsEntry (es : List Entry) (fs : List TotalAndPlace) (i : ℕ) (c : Continuation) : Type 0 where
   pub facts : TotalAndPlace
-  pub stands : slice_get (side_by_side es fs) i ≡ Some (kept_from (entry_at es i) facts)
+  pub is_present : slice_get (side_by_side es fs) i ≡ Some (kept_from (entry_at es i) facts)
   pub is : c ≡ continuation_of (kept_from (entry_at es i) facts)
 
 number_of : (es : List Entry) (fs : List TotalAndPlace) (i : ℕ) (c : Continuation) → IsEntry es fs i c
@@ -101,26 +101,26 @@ position_of : (es : List Entry) (fs : List TotalAndPlace) (i : ℕ) (c : Continu
     → c.position ≡ (entry_at es i).position
 position_of es fs i c entry = ap (λ (x : Continuation). x.position) entry.is
 
-behind_next : (e : Entry) (c d : Continuation) → d.number ≡ e.mark.minor → d.position ≡ e.position → IsBehind e c
+after_next : (e : Entry) (c d : Continuation) → d.number ≡ e.mark.minor → d.position ≡ e.position → IsEntryAfter e c
     → ComesBefore c d
-behind_next e c d number position is = record {
+after_next e c d number position is = record {
   number = (let le : c.number ≤ e.mark.minor = is.number in omega arith);
   position = λ same. let less : c.position < e.position = is.position (same ∙ number) in omega arith;
 }
 
-kept_stands : (members : List KeptMember) (k : ℕ) (m : KeptMember) → slice_get members k ≡ Some m → Contains members m
-kept_stands members k m at = (k, slice_get_within members k m at, get_or_from_slice_get members k m m at)
+kept_is_present : (members : List KeptMember) (k : ℕ) (m : KeptMember) → slice_get members k ≡ Some m → Contains members m
+kept_is_present members k m at = (k, slice_get_within members k m at, get_or_from_slice_get members k m m at)
 
 pub one_further : (id : List ℕ) (es : List Entry) (fs : List TotalAndPlace) (series : List Continuation) (i : ℕ)
     (c : Continuation) → AreInSeries id (side_by_side es fs) series → IsNext id es series i → IsEntry es fs i c
     → AreInSeries id (side_by_side es fs) (series ++ c ∷ [])
 one_further id es fs series i c some next entry = record {
   ordered = all_pairs_push ComesBefore series c some.ordered (λ k d within.
-      behind_next (entry_at es i) (get_or series k d) c (number_of es fs i c entry) (position_of es fs i c entry)
-      (next.behind k d within));
+      after_next (entry_at es i) (get_or series k d) c (number_of es fs i c entry) (position_of es fs i c entry)
+      (next.following k d within));
   kept = All-push (IsKeptAs id (side_by_side es fs)) series c some.kept (record {
     it = kept_from (entry_at es i) entry.facts;
-    stands = kept_stands (side_by_side es fs) i (kept_from (entry_at es i) entry.facts) entry.stands;
+    is_present = kept_is_present (side_by_side es fs) i (kept_from (entry_at es i) entry.facts) entry.is_present;
     origin = next.text;
     is = entry.is;
   });
@@ -155,7 +155,7 @@ left_over p id es fs series i c held next entry e at text = elim (next.rest e at
     | inr same ↦
         let one : Entry = entry_at es i in
         let a : e.mark.major ≡ 0 = low p es fs held e at in
-        let b : one.mark.major ≡ 0 = low p es fs held one (entry_stands es i next.within) in
+        let b : one.mark.major ≡ 0 = low p es fs held one (entry_is_present es i next.within) in
         let up = not_later one e b a not_yet in
         let down = not_later e one a b same in
         let tie : one.mark.minor ≡ e.mark.minor = omega (arith, up.0, down.0) in
@@ -172,16 +172,16 @@ pub goes_on : (p : ℕ) (id : List ℕ) (es : List Entry) (fs : List TotalAndPla
 goes_on p id es fs series i j c held next entry within first =
     let one : Entry = entry_at es i in
     let two : Entry = entry_at es j in
-    let a : two.mark.major ≡ 0 = low p es fs held two (entry_stands es j within) in
-    let b : one.mark.major ≡ 0 = low p es fs held one (entry_stands es i next.within) in
+    let a : two.mark.major ≡ 0 = low p es fs held two (entry_is_present es j within) in
+    let b : one.mark.major ≡ 0 = low p es fs held one (entry_is_present es i next.within) in
     let up = later two one a b first.passes.later in
     let number : c.number ≡ one.mark.minor = number_of es fs i c entry in
     let position : c.position ≡ one.position = position_of es fs i c entry in
     record {
       within = within;
       text = first.passes.text_is ∙ next.text;
-      behind = All-push (IsBehind two) series c
-          (All-weaker (IsBehind one) (IsBehind two) (λ x is. record {
+      following = All-push (IsEntryAfter two) series c
+          (All-weaker (IsEntryAfter one) (IsEntryAfter two) (λ x is. record {
             number = (let n : x.number ≤ one.mark.minor = is.number in omega (arith, up.0));
             position = λ same.
                 let n : x.number ≤ one.mark.minor = is.number in
@@ -190,7 +190,7 @@ goes_on p id es fs series i j c held next entry within first =
                 let less : one.position < two.position = up.1 tie in
                 let first : x.position < one.position = is.position (omega arith) in
                 omega arith;
-          }) series next.behind)
+          }) series next.following)
           (record {
             number = omega (arith, up.0);
             position = λ same. let less : one.position < two.position = up.1 (sym number ∙ same) in omega arith;
@@ -250,23 +250,23 @@ one_left id es fs series i g same some next =
     let it : KeptMember = kept_from (entry_at es i) (get_or fs i g) in
     let c : Continuation = continuation_of it in
     let at : slice_get members i ≡ Some it = side_at es fs i no_entry g same next.within in
-    let apart : Stands series c → ⊥ = λ there.
+    let apart : IsReadSoFar series c → ⊥ = λ there.
     let within : there.0 < length series = slice_get_within series there.0 c there.1 in
     let is : get_or series there.0 c ≡ c = get_or_from_slice_get series there.0 c c there.1 in
-    let before : IsBehind (entry_at es i) c =
-    subst (IsBehind (entry_at es i)) is (next.behind there.0 c within) in
+    let before : IsEntryAfter (entry_at es i) c =
+    subst (IsEntryAfter (entry_at es i)) is (next.following there.0 c within) in
     let less : c.position < c.position = before.position refl in
     absurd (omega arith) in
-    let all : (x : Continuation) → Stands (c ∷ series) x → Stands (map continuation_of members) x = λ x there.
-    elim (stands_cases c series x there) [
-      | inl here ↦ subst (Stands (map continuation_of members)) (sym here)
-          (map_stands continuation_of members it (i, at))
+    let all : (x : Continuation) → IsReadSoFar (c ∷ series) x → IsReadSoFar (map continuation_of members) x = λ x there.
+    elim (is_present_cases c series x there) [
+      | inl here ↦ subst (IsReadSoFar (map continuation_of members)) (sym here)
+          (map_is_present continuation_of members it (i, at))
       | inr later ↦
           let within : later.0 < length series = slice_get_within series later.0 x later.1 in
           let is : get_or series later.0 x ≡ x = get_or_from_slice_get series later.0 x x later.1 in
           let kept : IsKeptAs id members x = subst (IsKeptAs id members) is (some.kept later.0 x within) in
-          subst (Stands (map continuation_of members)) (sym kept.is)
-          (map_stands continuation_of members kept.it (contains_stands members kept.it kept.stands))
+          subst (IsReadSoFar (map continuation_of members)) (sym kept.is)
+          (map_is_present continuation_of members kept.it (contains_is_present members kept.it kept.is_present))
     ] in
     let few : count_by (λ _. true) (c ∷ series) ≤ count_by (λ _. true) (map continuation_of members) =
     no_more (λ _. true) (c ∷ series) (map continuation_of members)
@@ -328,14 +328,14 @@ whole p id es fs series held some done = record {
       let first : slice_get members at.0 ≡ Some m = slice_get-get_or members at.0 m at.1 ∙ ap Some at.2 in
       let entry = entry_of es fs at.0 m held.same first in
       let met : Contains (positions_of series) (entry_at es at.0).position =
-      done (entry_at es at.0) (entry_stands es at.0 entry.0) (sym entry.2 ∙ origin) in
-      let from = stands_map (λ (c : Continuation). c.position) series (entry_at es at.0).position
-      (contains_stands (positions_of series) (entry_at es at.0).position met) in
+      done (entry_at es at.0) (entry_is_present es at.0 entry.0) (sym entry.2 ∙ origin) in
+      let from = is_present_map (λ (c : Continuation). c.position) series (entry_at es at.0).position
+      (contains_is_present (positions_of series) (entry_at es at.0).position met) in
       let c : Continuation = from.0 in
-      let here : Contains series c = stands_contains series c from.1 in
+      let here : Contains series c = is_present_contains series c from.1 in
       let kept : IsKeptAs id members c = All-contains (IsKeptAs id members) series c some.kept here in
       let position : c.position ≡ kept.it.position = ap (λ (x : Continuation). x.position) kept.is in
-      let same : m ≡ kept.it = one_place p es fs m kept.it held at kept.stands (entry.1 ∙ (sym from.2 ∙ position)) in
+      let same : m ≡ kept.it = one_place p es fs m kept.it held at kept.is_present (entry.1 ∙ (sym from.2 ∙ position)) in
       subst (Contains series) (kept.is ∙ ap continuation_of (sym same)) here;
 }
 

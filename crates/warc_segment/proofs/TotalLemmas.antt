@@ -19,7 +19,7 @@ use Rattle.warc_segment.specs.Joined.{ReadRecord, piece_read, with_members, Join
 -- at a member's position stands a record with its total and its length
 record IsMemberOf (all : List ReadRecord) (m : Member) : Type 0 where
   it : ReadRecord
-  stands : slice_get all m.position ≡ Some it
+  is_present : slice_get all m.position ≡ Some it
   total : m.total ≡ it.head.segment.total
   size : m.size ≡ length it.block
 
@@ -62,7 +62,7 @@ by_number all r p m (numbers.Number k) at e = by_test (nat_le 2 k) e
     by_test false f = absurd (cc)
     by_test true f =
         let same : it_is ≡ m = (cc) in
-        let is : IsMemberOf all it_is = record { it = r; stands = at; total = refl; size = refl } in
+        let is : IsMemberOf all it_is = record { it = r; is_present = at; total = refl; size = refl } in
         subst (IsMemberOf all) same is
 
 member_is : (all : List ReadRecord) (id : Option (List ℕ)) (r : ReadRecord) (p : ℕ) (m : Member)
@@ -105,7 +105,7 @@ members_len all [] are = refl
 members_len all (m ∷ ms) are =
     let it = are.0.it in
     let whole : length (text_of (records_at all (m ∷ ms))) ≡ length (it.block ++ text_of (records_at all ms)) =
-    ap (λ (o : Option ReadRecord). length (text_of (cons_option o (records_at all ms)))) are.0.stands in
+    ap (λ (o : Option ReadRecord). length (text_of (cons_option o (records_at all ms)))) are.0.is_present in
     let both : length (it.block ++ text_of (records_at all ms)) ≡ length it.block + length (text_of (records_at all ms)) =
     length-append it.block (text_of (records_at all ms)) in
     let rest : length (text_of (records_at all ms)) ≡ sum_by (λ (k : Member). k.size) ms = members_len all ms are.1 in
@@ -148,7 +148,7 @@ total_stated all ms n x are e = by_found (member_numbered ms n) refl e
     by_total : (m : Member) → IsMemberOf all m → (t : Option ℕ) → m.total ≡ t → option_eq nat_eq t (Some x) ≡ true
         → (k : ℕ) × (last : ReadRecord) × (slice_get all k ≡ Some last) × (last.head.segment.total ≡ Some x)
     by_total m is None to f = absurd (cc)
-    by_total m is (Some t) to f = (m.position, is.it, is.stands, sym is.total ∙ (to ∙ ap Some (eqb-true t x f)))
+    by_total m is (Some t) to f = (m.position, is.it, is.is_present, sym is.total ∙ (to ∙ ap Some (eqb-true t x f)))
 
     by_found : (o : Option Member) → member_numbered ms n ≡ o
         → option_eq nat_eq (option_and_then (λ (m : Member). m.total) o) (Some x) ≡ true

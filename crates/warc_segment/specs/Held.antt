@@ -42,7 +42,7 @@ pub record ComesBefore (a b : Continuation) : Type 0 where
 -- a continuation is a kept one with an origin
 pub record IsKeptAs (id : List ℕ) (members : List KeptMember) (c : Continuation) : Type 0 where
   pub it : KeptMember
-  pub stands : Contains members it
+  pub is_present : Contains members it
   pub origin : it.origin ≡ id
   pub is : c ≡ continuation_of it
 
@@ -60,7 +60,7 @@ abbrev pub positions_of : List Continuation → List ℕ
 positions_of series = map (λ c. c.position) series
 
 -- a continuation comes before what an entry is
-pub record IsBehind (e : Entry) (c : Continuation) : Type 0 where
+pub record IsEntryAfter (e : Entry) (c : Continuation) : Type 0 where
   pub number : c.number ≤ e.mark.minor
   pub position : c.number ≡ e.mark.minor → c.position < e.position
 
@@ -68,7 +68,7 @@ pub record IsBehind (e : Entry) (c : Continuation) : Type 0 where
 pub record IsNext (id : List ℕ) (es : List Entry) (series : List Continuation) (i : ℕ) : Type 0 where
   pub within : i < length es
   pub text : (entry_at es i).text ≡ id
-  pub behind : All (IsBehind (entry_at es i)) series
+  pub following : All (IsEntryAfter (entry_at es i)) series
   pub rest : (e : Entry) → Contains es e → e.text ≡ id
       → Contains (positions_of series) e.position ⊎ (comes_later (entry_at es i) e ≡ false)
 

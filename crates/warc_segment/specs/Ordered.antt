@@ -32,6 +32,6 @@ pub record NoTotal (members : List Member) (i : ℕ) : Type 0 where
 -- the member at i is the first that states a total
 pub record IsEnd (members : List Member) (i total : ℕ) : Type 0 where
   pub it : Member
-  pub stands : slice_get members i ≡ Some it
+  pub is_present : slice_get members i ≡ Some it
   pub states : it.total ≡ Some total
   pub first : NoTotal members i

@@ -111,7 +111,7 @@ fn continuation_at<A: Allocator + Copy>(
 ) -> Continuation
     requires found { found.index < length order.now }
     requires same { length facts.now ≡ length order.now }
-    ensures stands { slice_get (side_by_side order.now facts.now) found.index
+    ensures is_present { slice_get (side_by_side order.now facts.now) found.index
         ≡ Some (kept_from (entry_at order.now found.index) (record { total = result.total; place = result.place })) }
     ensures is { result ≡ continuation_of (kept_from (entry_at order.now found.index)
         (record { total = result.total; place = result.place })) }

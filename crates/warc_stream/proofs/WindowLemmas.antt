@@ -13,9 +13,9 @@ rest_of_front k len xs below =
 -- what a buffer has of a piece from an offset on is a piece
 pub rest_there : (bytes items : List ℕ) (len from at : ℕ) → IsPieceOf bytes from (take len items) → len ≤ length items
     → from ≤ at → at - from ≤ len → IsPieceOf bytes at (take (len - (at - from)) (drop (at - from) items))
-rest_there bytes items len from at is short behind below =
+rest_there bytes items len from at is short following below =
     let k = at - from in
-    let place : from + k ≡ at = omega (arith, behind) in
+    let place : from + k ≡ at = omega (arith, following) in
     let rest = rest_of_front k len items below in
     let whole : length (take len items) ≡ len = length-take-le len items short in
     let count : length (take (len - k) (drop k items)) ≡ len - k =

@@ -192,9 +192,9 @@ no_hexadecimal : wanted_digest (codes "sha1:a9993e364706816aba3e25717850c26c9cd0
 unfolding bytes_of bits_of number_of_bits eights symbol_value
 no_hexadecimal = refl
 
-no_blank_behind_the_colon : wanted_digest (codes "sha1: VGMT4NSHA2AWVOR6EVYXQUGCNSONBWE5") ≡ Unchecked
+no_blank_after_the_colon : wanted_digest (codes "sha1: VGMT4NSHA2AWVOR6EVYXQUGCNSONBWE5") ≡ Unchecked
 unfolding bytes_of bits_of number_of_bits eights symbol_value
-no_blank_behind_the_colon = refl
+no_blank_after_the_colon = refl
 
 nothing_is_wanted : verdict_of Unchecked (codes "abc") ≡ NotChecked
 nothing_is_wanted = refl

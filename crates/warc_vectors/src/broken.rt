@@ -239,7 +239,7 @@ impl<A: Allocator> BrokenWriter<A> {
 }
 
 impl<A: Allocator> Sink for BrokenWriter<A> {
-    ghost seen = { λ w. record { tells = Some w.bytes; faults = w.faults } };
+    ghost seen = { λ w. record { reports = Some w.bytes; faults = w.faults } };
 
     fn write(&mut self, piece: &[u8]) -> Result<usize, WriteFault> {
         let answer = self.write_some(piece);

@@ -17,7 +17,7 @@ use Rattle.warc_write.specs.Splitting.{UnlessMemory, first_fields, has_room, kep
 use Rattle.warc_write.specs.Splitting.{origin_fields, part_of, piece_at, segment_fields, segment_of}
 use Rattle.warc_write.specs.Splitting.{split_of, splittable, total_at, total_fields}
 use Rattle.warc_write.specs.Written.{digest_text}
-use Rattle.warc_write.specs.declared.segments.Part.{Part}
+use Rattle.warc_write.specs.declared.segments.SegmentPart.{SegmentPart}
 use Rattle.warc_write.specs.declared.segments.SplitFault.{SplitFault}
 use Rattle.warc_write.proofs.SegmentLemmas.{head_or_memory, one_more}
 use Rattle.warc_write.proofs.TextLemmas.{sha1_fits, sha1_len}
@@ -86,7 +86,7 @@ zeros_fit = search rules
 
 -- ---- a segment's head is as long whichever its digest is
 
-abbrev part_as : ℕ → Option ℕ → ℕ → List ℕ → Part
+abbrev part_as : ℕ → Option ℕ → ℕ → List ℕ → SegmentPart
 part_as number total len digest = record { number = number; total = total; len = len; digest = digest }
 
 fields_len : (given : List Pair) (uuid : List ℕ) (number : ℕ) (total : Option ℕ) (len : ℕ) (d e : List ℕ)
@@ -119,14 +119,14 @@ head_len : (v : Version) (xs ys : List Pair) → length (canonical_fields xs) �
 head_len v xs ys same = omega (arith, lines_len v xs, lines_len v ys, same)
 
 -- whether a segment's head has room, by any digest
-pub room_of_part : (r : Record) (version : Version) (fields : List Pair) (len : ℕ) (is_bad : Bool) (uuid : List ℕ) (n at : ℕ) (digest : List ℕ) (part : Part) (fit : Bool)
+pub room_of_part : (r : Record) (version : Version) (fields : List Pair) (len : ℕ) (is_bad : Bool) (uuid : List ℕ) (n at : ℕ) (digest : List ℕ) (part : SegmentPart) (fit : Bool)
     → HasParts version fields len is_bad r → length digest ≡ 20 → All (λ b. b < 256) digest
     → part ≡ part_with n len (piece_at n r.block at) at digest
     → fit ≡ nat_le (canonical_len version (segment_fields fields uuid part)) max_head
     → has_room (segment_of r uuid n at) ≡ fit
 room_of_part r version fields len is_bad uuid n at digest part fit has long small part_is fit_is =
     let piece = piece_at n r.block at in
-    let own : Part = part_of n (length r.block) piece at in
+    let own : SegmentPart = part_of n (length r.block) piece at in
     let whole : canonical_len r.version (segment_fields r.fields uuid own) ≡ canonical_len version (segment_fields fields uuid (part_of n len piece at)) =
     ap (λ v. canonical_len v (segment_fields r.fields uuid own)) has.version_is
     ∙ ap (λ fs. canonical_len version (segment_fields fs uuid own)) has.fields_are
@@ -149,7 +149,7 @@ pub piece_len : (n len : ℕ) (block : List ℕ) (at : ℕ) → length block ≡
 piece_len n len block at is = omega (arith, is, length-take n (drop (at * n) block), length-drop (at * n) block)
 
 -- what a segment's head is to say, from its piece
-pub part_from : (n : ℕ) (seen block piece : List ℕ) (at : ℕ) (digest : List ℕ) (part : Part) → part ≡ part_with n (length seen) (piece_at n seen at) at digest
+pub part_from : (n : ℕ) (seen block piece : List ℕ) (at : ℕ) (digest : List ℕ) (part : SegmentPart) → part ≡ part_with n (length seen) (piece_at n seen at) at digest
     → piece ≡ piece_at n seen at → digest ≡ sha1 piece → seen ≡ block → part ≡ part_of n (length block) piece at
 part_from n seen block piece at digest part is piece_is digest_is same =
     is ∙ ap (λ p. part_with n (length seen) p at digest) (sym piece_is) ∙ ap (λ d. part_with n (length seen) piece at d) digest_is

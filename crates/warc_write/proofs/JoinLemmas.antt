@@ -27,7 +27,7 @@ use Rattle.warc_record.specs.declared.types.Kind.TheVariants.{Revisit, Conversio
 use Rattle.warc_segment.specs.Joined.{ReadRecord, blocks_of, joined_block, piece_read, with_members}
 use Rattle.warc_segment.specs.Gaps.{joined}
 use Rattle.warc_segment.specs.Series.{member_of, series_of}
-use Rattle.warc_write.specs.declared.segments.Part.{Part}
+use Rattle.warc_write.specs.declared.segments.SegmentPart.{SegmentPart}
 use Rattle.warc_write.specs.declared.segments.SplitFault.{SplitFault}
 use Rattle.warc_write.specs.declared.segments.SplitFault.TheVariants.{AlreadySegmented, BadDigest, TooLong}
 use Rattle.warc_write.specs.declared.segments.SplitFault.TheVariants.{Kind as BadKind}
@@ -95,7 +95,7 @@ may_split fields n uuid is =
 
 -- ---- the digests
 
-segment_wanted : (given : List Pair) (uuid : List ℕ) (part : Part) (block : List ℕ) → part.digest ≡ sha1 block
+segment_wanted : (given : List Pair) (uuid : List ℕ) (part : SegmentPart) (block : List ℕ) → part.digest ≡ sha1 block
     → digest_wanted (segment_fields given uuid part) ≡ Sha1 (sha1 block)
 segment_wanted given uuid part block digest = by_number (part.number == 1)
   where
@@ -138,7 +138,7 @@ is_member : (r : Record) (uuid : List ℕ) (n k : ℕ) (text id : List ℕ)
     → id_key text ≡ Some id → 1 ≤ k → k + 1 ≤ 2 ^ 48 → length r.block ≤ 2 ^ 48
     → member_of (Some id) (k, piece_read (read_of (segment_of r uuid n k)))
     ≡ Some (member (total_at n (length r.block)) (size_in (λ at. read_of (segment_of r uuid n at))) k)
-is_member r uuid n k text id stands reads further small short =
+is_member r uuid n k text id is_present reads further small short =
     let part = part_of n (length r.block) (piece_at n r.block k) k in
     let test : (k + 1 == 1) ≡ false = grind (arith, nat_tests) in
     let fields : segment_fields r.fields uuid part ≡ next_fields r.fields uuid part =
@@ -147,7 +147,7 @@ is_member r uuid n k text id stands reads further small short =
     (piece_read (read_of (segment_of r uuid n k)))
     (ap kind_of fields ∙ next_kind r.fields uuid part)
     (ap segment_number fields ∙ next_number r.fields uuid part small)
-    (ap (key_in (codes "WARC-Segment-Origin-ID")) fields ∙ next_origin r.fields uuid part text id stands reads)
+    (ap (key_in (codes "WARC-Segment-Origin-ID")) fields ∙ next_origin r.fields uuid part text id is_present reads)
     (ap (number_in (codes "WARC-Segment-Total-Length")) fields
     ∙ next_total r.fields uuid part (total_at n (length r.block) k) refl
     (λ m is. total_small (k + 1 == segment_count n (length r.block)) (length r.block) m is short))
@@ -167,7 +167,7 @@ cut_in : (r : Record) (uuid : List ℕ) (n c : ℕ) (text id : List ℕ) → May
     → id_key text ≡ Some id → segment_count n (length r.block) ≡ suc (suc c) → suc (suc c) ≤ 2 ^ 48 → length r.block ≤ 2 ^ 48
     → length r.block ≤ segment_count n (length r.block) * n
     → JoinsTo r.block (map (segment_of r uuid n) (range_with_len 0 (suc (suc c))))
-cut_in r uuid n c text id may stands reads count few short enough =
+cut_in r uuid n c text id may is_present reads count few short enough =
     let f = segment_of r uuid n in
     let q : ℕ → ReadRecord = λ k. read_of (f k) in
     let len = length r.block in
@@ -183,9 +183,9 @@ cut_in r uuid n c text id may stands reads count few short enough =
     ap (λ l. joined_block l (q 0)) (mapped_twice f 0 (suc (suc c)))
     ∙ (joined_is q id (total_at n len) c len
     (first_number r.fields part may.number)
-    (ap (option_and_then id_key) (first_id r.fields part ∙ stands) ∙ reads)
+    (ap (option_and_then id_key) (first_id r.fields part ∙ is_present) ∙ reads)
     (ap is_continuation (first_kind r.fields part) ∙ may.kind)
-    (λ k from below. is_member r uuid n k text id stands reads from (omega (arith, below, few)) short)
+    (λ k from below. is_member r uuid n k text id is_present reads from (omega (arith, below, few)) short)
     (ap (λ (b : Bool). if b then Some len else None) (eq-eqb (c + 1 + 1) (segment_count n len) last))
     (λ k below. ap (λ (b : Bool). if b then Some len else None)
     (not_last k (segment_count n len) (omega (arith, below, count))))
@@ -208,7 +208,7 @@ cut_joins r n uuid good head long =
     let c = segment_count n len - 2 in
     let count : segment_count n len ≡ suc (suc c) = omega (arith, two) in
     subst (λ m. JoinsTo r.block (map (segment_of r uuid n) (range_with_len 0 m))) (sym count)
-    (cut_in r uuid n c id_is.value key (may_split r.fields n uuid head) id_is.stands reads count
+    (cut_in r uuid n c id_is.value key (may_split r.fields n uuid head) id_is.is_present reads count
     (omega (arith, few, small, two)) (omega (arith, small)) (count_enough n len some))
 
 -- ---- all of it

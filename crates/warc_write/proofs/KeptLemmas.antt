@@ -110,18 +110,18 @@ kept_len_first len (field ∷ fields) = elim (cases_Bool (same field.0 digest_na
     ]
 
 -- fields of other names behind them change nothing
-pub first_behind : (name : List ℕ) (fields more : List Pair) → first_value name more ≡ None → first_value name (fields ++ more) ≡ first_value name fields
-first_behind name [] more none = none
-first_behind name (field ∷ fields) more none = elim (cases_Bool (same field.0 name)) [
+pub first_after : (name : List ℕ) (fields more : List Pair) → first_value name more ≡ None → first_value name (fields ++ more) ≡ first_value name fields
+first_after name [] more none = none
+first_after name (field ∷ fields) more none = elim (cases_Bool (same field.0 name)) [
   | inl hit ↦ first_hit name field (fields ++ more) hit ∙ sym (first_hit name field fields hit)
-  | inr miss ↦ first_miss name field (fields ++ more) miss ∙ (first_behind name fields more none ∙ sym (first_miss name field fields miss))
+  | inr miss ↦ first_miss name field (fields ++ more) miss ∙ (first_after name fields more none ∙ sym (first_miss name field fields miss))
 ]
 
-pub count_behind : (name : List ℕ) (fields more : List Pair) → count_of name more ≡ 0 → count_of name (fields ++ more) ≡ count_of name fields
-count_behind name [] more none = none
-count_behind name (field ∷ fields) more none =
+pub count_after : (name : List ℕ) (fields more : List Pair) → count_of name more ≡ 0 → count_of name (fields ++ more) ≡ count_of name fields
+count_after name [] more none = none
+count_after name (field ∷ fields) more none =
     count_cons name field (fields ++ more)
-    ∙ (ap (λ (n : ℕ). cond (same field.0 name) 1 0 + n) (count_behind name fields more none) ∙ sym (count_cons name field fields))
+    ∙ (ap (λ (n : ℕ). cond (same field.0 name) 1 0 + n) (count_after name fields more none) ∙ sym (count_cons name field fields))
 
 -- no block digest is kept
 pub no_digest_kept : (len : ℕ) (fields : List Pair) → first_value digest_name (kept len fields) ≡ None

@@ -41,10 +41,10 @@ same_framed r f is = by_room (nat_lt max_head (canonical_len r.version r.fields)
 pub refused_room : (r : Record) (kind : FaultKind) → block_len r.fields ≡ Ok (length r.block) → framed_of r ≡ Err kind
     → nat_le (canonical_len r.version r.fields) max_head ≡ false
 unfolding framed_of
-refused_room r kind told is = by_room (nat_lt max_head (canonical_len r.version r.fields)) refl whole is
+refused_room r kind reported is = by_room (nat_lt max_head (canonical_len r.version r.fields)) refl whole is
   where
     whole : with_block r (block_len r.fields) ≡ Ok r
-    whole = ap (with_block r) told ∙ ap (λ (b : Bool). if b then Ok r else Err Length) (eq-eqb (length r.block) (length r.block) refl)
+    whole = ap (with_block r) reported ∙ ap (λ (b : Bool). if b then Ok r else Err Length) (eq-eqb (length r.block) (length r.block) refl)
 
     never : (k : FaultKind) → ◌≡◌ {A = Result Record FaultKind} (Ok r) (Err k) → ⊥
     never k e = cc

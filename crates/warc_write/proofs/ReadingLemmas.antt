@@ -24,11 +24,11 @@ use Rattle.warc_record.specs.Readings.{digest_wanted, key_in, kind_of, number_in
 use Rattle.warc_record.specs.Readings.{segment_number, unless_empty}
 use Rattle.warc_record.specs.Texts.{is_same_text}
 use Rattle.warc_segment.specs.Series.{Piece, member_of, numbered}
-use Rattle.warc_write.specs.declared.segments.Part.{Part}
+use Rattle.warc_write.specs.declared.segments.SegmentPart.{SegmentPart}
 use Rattle.warc_value.specs.Digests.{is_bad}
 use Rattle.warc_write.specs.Splitting.{first_fields, kept, next_fields}
 use Rattle.warc_write.specs.Written.{digest_text}
-use Rattle.warc_write.proofs.KeptLemmas.{first_behind, first_hit, first_miss, kept_first, no_digest_kept}
+use Rattle.warc_write.proofs.KeptLemmas.{first_after, first_hit, first_miss, kept_first, no_digest_kept}
 use Rattle.warc_write.proofs.TextLemmas.{decimal_is_read, sha1_fits, sha1_len}
 
 -- ---- texts that are there
@@ -63,26 +63,26 @@ wants digest block is =
 
 -- ---- a further segment
 
-pub next_kind : (given : List Pair) (uuid : List ℕ) (part : Part) → kind_of (next_fields given uuid part) ≡ Continuation
+pub next_kind : (given : List Pair) (uuid : List ℕ) (part : SegmentPart) → kind_of (next_fields given uuid part) ≡ Continuation
 next_kind given uuid part = refl
 
-pub next_number : (given : List Pair) (uuid : List ℕ) (part : Part) → part.number ≤ 2 ^ 48
+pub next_number : (given : List Pair) (uuid : List ℕ) (part : SegmentPart) → part.number ≤ 2 ^ 48
     → segment_number (next_fields given uuid part) ≡ Number part.number
 next_number given uuid part small = rw (decimal_there part.number small) (rw (decimal_is_read part.number small) refl)
 
-pub next_origin : (given : List Pair) (uuid : List ℕ) (part : Part) (text id : List ℕ)
+pub next_origin : (given : List Pair) (uuid : List ℕ) (part : SegmentPart) (text id : List ℕ)
     → first_value (codes "WARC-Record-ID") given ≡ Some text → id_key text ≡ Some id
     → key_in (codes "WARC-Segment-Origin-ID") (next_fields given uuid part) ≡ Some id
-next_origin given uuid part text id stands reads = rw stands (rw (id_there text id reads) reads)
+next_origin given uuid part text id is_present reads = rw is_present (rw (id_there text id reads) reads)
 
-pub next_total : (given : List Pair) (uuid : List ℕ) (part : Part) (total : Option ℕ) → part.total ≡ total
+pub next_total : (given : List Pair) (uuid : List ℕ) (part : SegmentPart) (total : Option ℕ) → part.total ≡ total
     → ((n : ℕ) → total ≡ Some n → n ≤ 2 ^ 48)
     → number_in (codes "WARC-Segment-Total-Length") (next_fields given uuid part) ≡ total
 next_total given uuid part None is small = rw is refl
 next_total given uuid part (Some n) is small = rw is
     (rw (decimal_there n (small n refl)) (decimal_is_read n (small n refl)))
 
-pub next_wanted : (given : List Pair) (uuid : List ℕ) (part : Part) (total : Option ℕ) (block : List ℕ)
+pub next_wanted : (given : List Pair) (uuid : List ℕ) (part : SegmentPart) (total : Option ℕ) (block : List ℕ)
     → part.total ≡ total
     → part.digest ≡ sha1 block → digest_wanted (next_fields given uuid part) ≡ Sha1 (sha1 block)
 next_wanted given uuid part None block is digest =
@@ -105,36 +105,36 @@ past name (field ∷ fields) more none = elim (cases_Bool (same field.0 name)) [
     both : (value : List ℕ) → Some value ≡ None → ⊥
     both value e = cc
 
-abbrev behind : Part → List Pair
-behind part = (codes "WARC-Segment-Number", codes "1") ∷ (codes "WARC-Block-Digest", digest_text part.digest) ∷ []
+abbrev following : SegmentPart → List Pair
+following part = (codes "WARC-Segment-Number", codes "1") ∷ (codes "WARC-Block-Digest", digest_text part.digest) ∷ []
 
-pub first_kind : (given : List Pair) (part : Part) → kind_of (first_fields given part) ≡ kind_of given
+pub first_kind : (given : List Pair) (part : SegmentPart) → kind_of (first_fields given part) ≡ kind_of given
 first_kind given part =
-    let type = first_behind (codes "WARC-Type") (kept part.len given) (behind part) refl
+    let type = first_after (codes "WARC-Type") (kept part.len given) (following part) refl
     ∙ kept_first part.len (codes "WARC-Type") given refl refl in
     rw type refl
 
-pub first_id : (given : List Pair) (part : Part)
+pub first_id : (given : List Pair) (part : SegmentPart)
     → first_value (codes "WARC-Record-ID") (first_fields given part) ≡ first_value (codes "WARC-Record-ID") given
 first_id given part =
-    first_behind (codes "WARC-Record-ID") (kept part.len given) (behind part) refl
+    first_after (codes "WARC-Record-ID") (kept part.len given) (following part) refl
     ∙ kept_first part.len (codes "WARC-Record-ID") given refl refl
 
-pub first_number : (given : List Pair) (part : Part) → first_value (codes "WARC-Segment-Number") given ≡ None
+pub first_number : (given : List Pair) (part : SegmentPart) → first_value (codes "WARC-Segment-Number") given ≡ None
     → segment_number (first_fields given part) ≡ Number 1
 unfolding decimal_of
 first_number given part none =
     let name = codes "WARC-Segment-Number" in
     let number : first_value name (first_fields given part) ≡ Some (codes "1") =
-    past name (kept part.len given) (behind part) (kept_first part.len name given refl refl ∙ none) in
+    past name (kept part.len given) (following part) (kept_first part.len name given refl refl ∙ none) in
     rw number refl
 
-pub first_wanted : (given : List Pair) (part : Part) (block : List ℕ) → part.digest ≡ sha1 block
+pub first_wanted : (given : List Pair) (part : SegmentPart) (block : List ℕ) → part.digest ≡ sha1 block
     → digest_wanted (first_fields given part) ≡ Sha1 (sha1 block)
 first_wanted given part block digest =
     let name = codes "WARC-Block-Digest" in
     let value : first_value name (first_fields given part) ≡ Some (digest_text part.digest) =
-    past name (kept part.len given) (behind part) (no_digest_kept part.len given) in
+    past name (kept part.len given) (following part) (no_digest_kept part.len given) in
     rw value (wants part.digest block digest)
 
 -- ---- the digest of its own block is not bad

@@ -41,21 +41,21 @@ pub head_from : (version : Version) (fields : List Pair) (line : List ℕ) (give
 head_from version fields line given output line_is given_is =
     rw (line_is, given_is) (three output (version_line version) (canonical_fields fields) crlf)
 
-pub head_behind_line : (version : Version) (fields : List Pair) (line output : List ℕ) → line ≡ version_line version
+pub head_after_line : (version : Version) (fields : List Pair) (line output : List ℕ) → line ≡ version_line version
     → (output ++ line) ++ (canonical_fields fields ++ crlf) ≡ output ++ head_text version (canonical_fields fields)
-head_behind_line version fields line output line_is =
+head_after_line version fields line output line_is =
     sym (append_assoc (output ++ line) (canonical_fields fields) crlf) ∙ head_from version fields line fields output line_is refl
 
 -- what follows the head of a record with this block
-abbrev pub behind_head : List ℕ → List ℕ
-behind_head block = block ++ (crlf ++ crlf)
+abbrev pub after_head : List ℕ → List ℕ
+after_head block = block ++ (crlf ++ crlf)
 
 closed : (output head block crlfs : List ℕ) → (output ++ head) ++ (block ++ (crlfs ++ crlfs)) ≡ output ++ (((head ++ block) ++ crlfs) ++ crlfs)
 closed output head block crlfs = simp append_assoc
 
 -- the text of a record is put together from its head and what follows it
 pub record_from : (r : Record) (version : Version) (fields : List Pair) (block output : List ℕ) → version ≡ r.version → fields ≡ r.fields → block ≡ r.block
-    → (output ++ head_text version (canonical_fields fields)) ++ behind_head block ≡ output ++ canonical r
+    → (output ++ head_text version (canonical_fields fields)) ++ after_head block ≡ output ++ canonical r
 unfolding canonical
 record_from r version fields block output version_is fields_is block_is =
     rw (version_is, fields_is, block_is) (closed output (head_text r.version (canonical_fields r.fields)) r.block crlf)

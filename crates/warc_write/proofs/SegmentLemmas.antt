@@ -35,19 +35,19 @@ use Rattle.warc_record.specs.Good.{IsGood, SaysAll}
 use Rattle.warc_record.specs.Heads.{is_date, head_fault}
 use Rattle.warc_record.specs.Ids.{is_id}
 use Rattle.warc_record.specs.Readings.{reading_of}
-use Rattle.warc_write.specs.declared.segments.Part.{Part}
+use Rattle.warc_write.specs.declared.segments.SegmentPart.{SegmentPart}
 use Rattle.warc_write.specs.Splitting.{first_fields, kept, next_fields, part_of, piece_at, segment_fields}
 use Rattle.warc_write.specs.Splitting.{segment_of}
 use Rattle.warc_write.specs.Written.{digest_text}
-use Rattle.warc_write.proofs.KeptLemmas.{count_behind, first_behind, kept_count, kept_first, kept_len_first}
+use Rattle.warc_write.proofs.KeptLemmas.{count_after, first_after, kept_count, kept_first, kept_len_first}
 use Rattle.warc_write.proofs.MakeLemmas.{number_of_len}
 use Rattle.warc_write.proofs.TextLemmas.{id_is_id}
 use Rattle.warc_write.specs.Splitting.{version_5}
 
 -- ---- the first segment
 
-abbrev behind : Part → List Pair
-behind part = (codes "WARC-Segment-Number", codes "1") ∷ (codes "WARC-Block-Digest", digest_text part.digest) ∷ []
+abbrev following : SegmentPart → List Pair
+following part = (codes "WARC-Segment-Number", codes "1") ∷ (codes "WARC-Block-Digest", digest_text part.digest) ∷ []
 
 -- the length of a block, by how many fields tell it and the first value
 abbrev length_by : ℕ → Option (List ℕ) → Result ℕ FaultKind
@@ -57,23 +57,23 @@ length_by count first =
 -- where one length is given, another may stand in its place
 another : (count n m : ℕ) (first : Option (List ℕ)) → m ≤ max_block → length_by count first ≡ Ok n
     → length_by count (option_map (λ value. decimal m) first) ≡ Ok m
-another count n m first small told = by_count (count == 0) (nat_le 2 count) first told
+another count n m first small reported = by_count (count == 0) (nat_le 2 count) first reported
   where
     by_count : (none many : Bool) (first : Option (List ℕ))
         → (if none then Err (Missing ContentLength) else if many then Err (Repeated ContentLength) else or_length (block_number first)) ≡ Ok n
         → (if none then Err (Missing ContentLength) else if many then Err (Repeated ContentLength) else or_length (block_number (option_map (λ value. decimal m) first))) ≡ Ok m
-    by_count true many first told = absurd (cc)
-    by_count false true first told = absurd (cc)
-    by_count false false None told = absurd (cc)
-    by_count false false (Some value) told = ap or_length (number_of_len m small)
+    by_count true many first reported = absurd (cc)
+    by_count false true first reported = absurd (cc)
+    by_count false false None reported = absurd (cc)
+    by_count false false (Some value) reported = ap or_length (number_of_len m small)
 
-first_len : (given : List Pair) (part : Part) (n : ℕ) → block_len given ≡ Ok n → part.len ≤ max_block → block_len (first_fields given part) ≡ Ok part.len
+first_len : (given : List Pair) (part : SegmentPart) (n : ℕ) → block_len given ≡ Ok n → part.len ≤ max_block → block_len (first_fields given part) ≡ Ok part.len
 unfolding block_len
-first_len given part n told small =
-    let count = count_behind content_length (kept part.len given) (behind part) refl ∙ kept_count part.len content_length given refl in
-    let first = first_behind content_length (kept part.len given) (behind part) refl ∙ kept_len_first part.len given in
+first_len given part n reported small =
+    let count = count_after content_length (kept part.len given) (following part) refl ∙ kept_count part.len content_length given refl in
+    let first = first_after content_length (kept part.len given) (following part) refl ∙ kept_len_first part.len given in
     ap (λ (k : ℕ). length_by k (first_value content_length (first_fields given part))) count
-    ∙ (ap (length_by (count_of content_length given)) first ∙ another (count_of content_length given) n part.len (first_value content_length given) small told)
+    ∙ (ap (length_by (count_of content_length given)) first ∙ another (count_of content_length given) n part.len (first_value content_length given) small reported)
 
 -- the fault of a field, by how many there are and the first value
 abbrev fault_by : Mandatory → (List ℕ → Bool) → FaultKind → ℕ → Option (List ℕ) → Option FaultKind
@@ -81,25 +81,25 @@ fault_by field reads fault count first =
     option_or (if is_none first then Some (Missing field) else if nat_lt 1 count then Some (Repeated field) else None)
     (if option_map_or reads first false then None else Some fault)
 
-first_head : (given : List Pair) (part : Part) → head_fault (first_fields given part) ≡ head_fault given
+first_head : (given : List Pair) (part : SegmentPart) → head_fault (first_fields given part) ≡ head_fault given
 first_head given part =
-    let type_first = first_behind (codes "WARC-Type") (kept part.len given) (behind part) refl ∙ kept_first part.len (codes "WARC-Type") given refl refl in
-    let type_count = count_behind (codes "WARC-Type") (kept part.len given) (behind part) refl ∙ kept_count part.len (codes "WARC-Type") given refl in
-    let id_first = first_behind (codes "WARC-Record-ID") (kept part.len given) (behind part) refl ∙ kept_first part.len (codes "WARC-Record-ID") given refl refl in
-    let id_count = count_behind (codes "WARC-Record-ID") (kept part.len given) (behind part) refl ∙ kept_count part.len (codes "WARC-Record-ID") given refl in
-    let date_first = first_behind (codes "WARC-Date") (kept part.len given) (behind part) refl ∙ kept_first part.len (codes "WARC-Date") given refl refl in
-    let date_count = count_behind (codes "WARC-Date") (kept part.len given) (behind part) refl ∙ kept_count part.len (codes "WARC-Date") given refl in
+    let type_first = first_after (codes "WARC-Type") (kept part.len given) (following part) refl ∙ kept_first part.len (codes "WARC-Type") given refl refl in
+    let type_count = count_after (codes "WARC-Type") (kept part.len given) (following part) refl ∙ kept_count part.len (codes "WARC-Type") given refl in
+    let id_first = first_after (codes "WARC-Record-ID") (kept part.len given) (following part) refl ∙ kept_first part.len (codes "WARC-Record-ID") given refl refl in
+    let id_count = count_after (codes "WARC-Record-ID") (kept part.len given) (following part) refl ∙ kept_count part.len (codes "WARC-Record-ID") given refl in
+    let date_first = first_after (codes "WARC-Date") (kept part.len given) (following part) refl ∙ kept_first part.len (codes "WARC-Date") given refl refl in
+    let date_count = count_after (codes "WARC-Date") (kept part.len given) (following part) refl ∙ kept_count part.len (codes "WARC-Date") given refl in
     λ i. option_or (fault_by «Type» is_name BadType (type_count i) (type_first i))
     (option_or (fault_by RecordId is_id Id (id_count i) (id_first i)) (fault_by DateField is_date Date (date_count i) (date_first i)))
 
 -- ---- the further ones
 
-next_len : (given : List Pair) (uuid : List ℕ) (part : Part) (total : Option ℕ) → part.total ≡ total → part.len ≤ max_block → block_len (next_fields given uuid part) ≡ Ok part.len
+next_len : (given : List Pair) (uuid : List ℕ) (part : SegmentPart) (total : Option ℕ) → part.total ≡ total → part.len ≤ max_block → block_len (next_fields given uuid part) ≡ Ok part.len
 unfolding block_len
 next_len given uuid part None is small = rw is (ap or_length (number_of_len part.len small))
 next_len given uuid part (Some total) is small = rw is (ap or_length (number_of_len part.len small))
 
-next_head : (given : List Pair) (uuid : List ℕ) (part : Part) (total : Option ℕ) → part.total ≡ total → is_date (value_or_empty (codes "WARC-Date") given) ≡ true
+next_head : (given : List Pair) (uuid : List ℕ) (part : SegmentPart) (total : Option ℕ) → part.total ≡ total → is_date (value_or_empty (codes "WARC-Date") given) ≡ true
     → head_fault (next_fields given uuid part) ≡ None
 unfolding is_name is_name_byte
 next_head given uuid part None is date = rw (is, id_is_id (version_5 uuid (decimal part.number)), date) refl
@@ -107,24 +107,24 @@ next_head given uuid part (Some total) is date = rw (is, id_is_id (version_5 uui
 
 -- ---- both
 
-pub segment_len : (given : List Pair) (uuid : List ℕ) (part : Part) (n : ℕ) → block_len given ≡ Ok n → part.len ≤ max_block
+pub segment_len : (given : List Pair) (uuid : List ℕ) (part : SegmentPart) (n : ℕ) → block_len given ≡ Ok n → part.len ≤ max_block
     → block_len (segment_fields given uuid part) ≡ Ok part.len
-segment_len given uuid part n told small = by_number (part.number == 1)
+segment_len given uuid part n reported small = by_number (part.number == 1)
   where
     by_number : (b : Bool) → block_len (if b then first_fields given part else next_fields given uuid part) ≡ Ok part.len
-    by_number true = first_len given part n told small
+    by_number true = first_len given part n reported small
     by_number false = next_len given uuid part part.total refl small
 
-pub date_stands : (given : List Pair) → SaysAll (reading_of given) → is_date (value_or_empty (codes "WARC-Date") given) ≡ true
-date_stands given says = ap (λ (o : Option (List ℕ)). is_date (unwrap_or o [])) says.date_text_is ∙ ap is_some says.date_reads
+pub date_is_present : (given : List Pair) → SaysAll (reading_of given) → is_date (value_or_empty (codes "WARC-Date") given) ≡ true
+date_is_present given says = ap (λ (o : Option (List ℕ)). is_date (unwrap_or o [])) says.date_text_is ∙ ap is_some says.date_reads
 
-pub segment_head : (given : List Pair) (uuid : List ℕ) (part : Part) → head_fault given ≡ None → SaysAll (reading_of given)
+pub segment_head : (given : List Pair) (uuid : List ℕ) (part : SegmentPart) → head_fault given ≡ None → SaysAll (reading_of given)
     → head_fault (segment_fields given uuid part) ≡ None
 segment_head given uuid part good says = by_number (part.number == 1)
   where
     by_number : (b : Bool) → head_fault (if b then first_fields given part else next_fields given uuid part) ≡ None
     by_number true = first_head given part ∙ good
-    by_number false = next_head given uuid part part.total refl (date_stands given says)
+    by_number false = next_head given uuid part part.total refl (date_is_present given says)
 
 -- ---- pieces
 
@@ -145,19 +145,19 @@ segment_is_good r uuid n at s good says is framed = record {
 }
 
 -- a segment from its parts
-pub segment_from : (r : Record) (uuid : List ℕ) (n at : ℕ) (version : Version) (fields : List Pair) (block piece : List ℕ) (part : Part)
+pub segment_from : (r : Record) (uuid : List ℕ) (n at : ℕ) (version : Version) (fields : List Pair) (block piece : List ℕ) (part : SegmentPart)
     → version ≡ r.version → fields ≡ segment_fields r.fields uuid part → part ≡ part_of n (length r.block) piece at
     → piece ≡ piece_at n r.block at → block ≡ piece → record { version = version; fields = fields; block = block } ≡ segment_of r uuid n at
 segment_from r uuid n at version fields block piece part version_is fields_is part_is piece_is block_is =
-    let told : fields ≡ segment_fields r.fields uuid (part_of n (length r.block) (piece_at n r.block at) at) =
+    let reported : fields ≡ segment_fields r.fields uuid (part_of n (length r.block) (piece_at n r.block at) at) =
     fields_is ∙ ap (segment_fields r.fields uuid) (part_is ∙ ap (λ p. part_of n (length r.block) p at) piece_is) in
     let bytes : block ≡ piece_at n r.block at = block_is ∙ piece_is in
-    λ i. record { version = version_is i; fields = told i; block = bytes i }
+    λ i. record { version = version_is i; fields = reported i; block = bytes i }
 
 -- its length is given
-pub segment_told : (r : Record) (uuid : List ℕ) (n at : ℕ) → IsFramed r → length r.block ≤ max_block
+pub segment_reported : (r : Record) (uuid : List ℕ) (n at : ℕ) → IsFramed r → length r.block ≤ max_block
     → block_len (segment_of r uuid n at).fields ≡ Ok (length (segment_of r uuid n at).block)
-segment_told r uuid n at framed small =
+segment_reported r uuid n at framed small =
     segment_len r.fields uuid (part_of n (length r.block) (piece_at n r.block at) at) (length r.block) framed.number (piece_is_short n r.block at small)
 
 -- ---- all of them

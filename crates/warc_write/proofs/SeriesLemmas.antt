@@ -93,7 +93,7 @@ is_end : (total : ℕ → Option ℕ) (size : ℕ → ℕ) (c whole : ℕ) → t
     → IsEnd (members total size (suc c)) c whole
 is_end total size c whole last before = record {
   it = member total size (c + 1);
-  stands = at_number (member total size) 1 (suc c) c (c + 1) (omega arith) (omega arith);
+  is_present = at_number (member total size) 1 (suc c) c (c + 1) (omega arith) (omega arith);
   states = last;
   first = record {
     none = λ k m less at.

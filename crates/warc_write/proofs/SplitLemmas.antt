@@ -14,7 +14,7 @@ use Rattle.uuid.specs.Text.{parsed_urn}
 use Rattle.warc_record.specs.Heads.{head_fault}
 use Rattle.warc_record.specs.Ids.{bare_text}
 use Rattle.warc_record.specs.Readings.{kind_of, target_of}
-use Rattle.warc_write.specs.declared.segments.Part.{Part}
+use Rattle.warc_write.specs.declared.segments.SegmentPart.{SegmentPart}
 use Rattle.warc_write.specs.declared.segments.SplitFault.TheVariants.{NotUuid, AlreadySegmented}
 use Rattle.warc_write.specs.declared.segments.SplitFault.TheVariants.{Kind as BadKind, Size}
 use Rattle.warc_write.specs.Splitting.{is_kept, is_segmented, kept, may_be_split}
@@ -63,7 +63,7 @@ unfolding is_value is_value_byte is_blank
 continuation_is_value = refl
 
 -- the fields of a further segment, as they are added one by one
-pub next_from : (given : List Pair) (uuid : List ℕ) (part : Part) (a b c d e : List Pair) (digest : List ℕ) → a ≡ origin_fields given uuid part.number
+pub next_from : (given : List Pair) (uuid : List ℕ) (part : SegmentPart) (a b c d e : List Pair) (digest : List ℕ) → a ≡ origin_fields given uuid part.number
     → b ≡ a ++ (codes "WARC-Segment-Number", decimal part.number) ∷ [] → c ≡ b ++ total_fields part.total
     → d ≡ c ++ (codes "WARC-Block-Digest", digest) ∷ [] → digest ≡ digest_text part.digest
     → e ≡ d ++ (codes "Content-Length", decimal part.len) ∷ [] → e ≡ next_fields given uuid part
@@ -100,10 +100,10 @@ no_target fields n size head kind target = rw (size, head, kind, target) refl
 pub segmented : (fields : List Pair) (n : ℕ) → nat_lt 0 n ≡ true → is_none (head_fault fields) ≡ true → may_be_split (kind_of fields) ≡ true
     → is_some (target_of fields) ≡ true → is_segmented fields ≡ true → splittable fields n ≡ Err AlreadySegmented
 unfolding splittable
-segmented fields n size head kind target stands = rw (size, head, kind, target, stands) refl
+segmented fields n size head kind target is_present = rw (size, head, kind, target, is_present) refl
 
 pub by_uuid : (fields : List Pair) (n : ℕ) → nat_lt 0 n ≡ true → is_none (head_fault fields) ≡ true → may_be_split (kind_of fields) ≡ true
     → is_some (target_of fields) ≡ true → is_segmented fields ≡ false
     → splittable fields n ≡ ok_or (parsed_urn (bare_text (value_or_empty (codes "WARC-Record-ID") fields))) NotUuid
 unfolding splittable
-by_uuid fields n size head kind target stands = rw (size, head, kind, target, stands) refl
+by_uuid fields n size head kind target is_present = rw (size, head, kind, target, is_present) refl

@@ -5,7 +5,7 @@ use Rattle.warc_frame.specs.Record.{Record}
 use Rattle.warc_frame.specs.declared.version.Version.{Version}
 use Rattle.warc_record.specs.Blocks.{has_bad_digest}
 use Rattle.warc_write.specs.Splitting.{segments_of, split_of, total_at}
-use Rattle.warc_write.specs.declared.segments.Part.{Part}
+use Rattle.warc_write.specs.declared.segments.SegmentPart.{SegmentPart}
 use Rattle.warc_write.specs.declared.segments.SplitFault.{SplitFault}
 
 -- a record of this version and these fields, with a block of this length, and a bad digest or not
@@ -16,7 +16,7 @@ pub record HasParts (version : Version) (fields : List Pair) (len : ℕ) (is_bad
   pub digest_is : has_bad_digest r ≡ is_bad
 
 -- what the head of the segment at a place is to say of its piece, which has this digest
-abbrev pub part_with : ℕ → ℕ → List ℕ → ℕ → List ℕ → Part
+abbrev pub part_with : ℕ → ℕ → List ℕ → ℕ → List ℕ → SegmentPart
 part_with n len piece at digest =
     record { number = at + 1; total = total_at n len at; len = length piece; digest = digest }
 

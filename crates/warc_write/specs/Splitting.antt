@@ -22,7 +22,7 @@ use Rattle.warc_record.specs.Heads.{head_fault}
 use Rattle.warc_record.specs.Ids.{bare_text}
 use Rattle.warc_record.specs.Blocks.{has_bad_digest}
 use Rattle.warc_record.specs.Readings.{kind_of, target_of}
-use Rattle.warc_write.specs.declared.segments.Part.{Part}
+use Rattle.warc_write.specs.declared.segments.SegmentPart.{SegmentPart}
 use Rattle.warc_write.specs.declared.segments.SplitFault.{SplitFault}
 use Rattle.warc_write.specs.declared.segments.SplitFault.TheVariants.{NotUuid, AlreadySegmented}
 use Rattle.warc_write.specs.declared.segments.SplitFault.TheVariants.{Kind as BadKind, Size}
@@ -77,7 +77,7 @@ is_kept field = not (same field.0 warc_block_digest)
 abbrev pub kept : ℕ → List Pair → List Pair
 kept len given = map (with_len len) (filter is_kept given)
 
-abbrev pub first_fields : List Pair → Part → List Pair
+abbrev pub first_fields : List Pair → SegmentPart → List Pair
 first_fields given part =
     kept part.len given
     ++ (warc_segment_number, codes "1")
@@ -98,7 +98,7 @@ abbrev pub total_fields : Option ℕ → List Pair
 total_fields None = []
 total_fields (Some total) = (warc_segment_total_length, decimal total) ∷ []
 
-abbrev pub next_fields : List Pair → List ℕ → Part → List Pair
+abbrev pub next_fields : List Pair → List ℕ → SegmentPart → List Pair
 next_fields given uuid part =
     origin_fields given uuid part.number
     ++ (warc_segment_number, decimal part.number)
@@ -107,7 +107,7 @@ next_fields given uuid part =
     ∷ (content_length, decimal part.len)
     ∷ []
 
-abbrev pub segment_fields : List Pair → List ℕ → Part → List Pair
+abbrev pub segment_fields : List Pair → List ℕ → SegmentPart → List Pair
 segment_fields given uuid part = if part.number == 1 then first_fields given part else next_fields given uuid part
 
 -- how many pieces of n bytes, the last one shorter or equal, a block that isn't empty is cut into, and the
@@ -122,7 +122,7 @@ piece_at n block at = take n (drop (at * n) block)
 abbrev pub total_at : ℕ → ℕ → ℕ → Option ℕ
 total_at n len at = if at + 1 == segment_count n len then Some len else None
 
-abbrev pub part_of : ℕ → ℕ → List ℕ → ℕ → Part
+abbrev pub part_of : ℕ → ℕ → List ℕ → ℕ → SegmentPart
 part_of n len piece at =
     record { number = at + 1; total = total_at n len at; len = length piece; digest = sha1 piece }
 

@@ -5,7 +5,7 @@ ghost use Rattle.warc_frame.specs.Record.{Record, canonical_len, max_head};
 ghost use Rattle.warc_write.specs.Cutting.{HasParts, records_by};
 ghost use Rattle.warc_write.specs.Splitting.{UnlessMemory, has_room, segment_fields, segments_of, split_of};
 
-use crate::segments::{Part, SplitFault, part_at, segment_count, segment_head, splittable};
+use crate::segments::{SegmentPart, SplitFault, part_at, segment_count, segment_head, splittable};
 use std::alloc::{AllocError, Allocator};
 use warc_field::{Fields, canonical_len};
 use warc_frame::{MAX_HEAD, Version};
@@ -26,7 +26,7 @@ fn has_short_head<A: Allocator + Copy>(
     version: Version,
     fields: &Fields<A>,
     uuid: &[u8; 16],
-    part: &Part,
+    part: &SegmentPart,
 ) -> Result<bool, AllocError>
     ensures { IfOk result (λ fit.
         fit ≡ nat_le (canonical_len version (segment_fields fields.now uuid.now part.now)) max_head) }

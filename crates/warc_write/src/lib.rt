@@ -13,5 +13,7 @@ mod written;
 pub use conversion::{convert, convert_fields};
 pub use cuts::cut;
 pub use made::{MakeFault, make, refusal_of_long};
-pub use segments::{Part, SplitFault, part_at, segment_count, segment_head, split, splittable};
+pub use segments::{
+    SegmentPart, SplitFault, part_at, segment_count, segment_head, split, splittable,
+};
 pub use sent::{put_head, render, render_one};

@@ -84,7 +84,7 @@ impl From<AllocError> for SplitFault {
 
 /// What a segment's head says of the segment, besides what it takes from the head of the record that is split.
 #[derive(Clone, Copy, Debug)]
-pub struct Part {
+pub struct SegmentPart {
     /// Its number, from 1 on.
     pub number: u64,
 
@@ -225,7 +225,7 @@ fn add_kept<A: Allocator + Copy>(
 fn first_fields<A: Allocator + Copy>(
     alloc: A,
     given: &Fields<A>,
-    part: &Part,
+    part: &SegmentPart,
 ) -> Result<Fields<A>, AllocError>
     ensures { IfOk result (λ fields. fields ≡ first_fields given.now part.now) }
 {
@@ -295,7 +295,7 @@ fn next_fields<A: Allocator + Copy>(
     alloc: A,
     given: &Fields<A>,
     uuid: &[u8; 16],
-    part: &Part,
+    part: &SegmentPart,
 ) -> Result<Fields<A>, AllocError>
     ensures { IfOk result (λ fields. fields ≡ next_fields given.now uuid.now part.now) }
 {
@@ -318,7 +318,7 @@ pub fn segment_head<A: Allocator + Copy>(
     alloc: A,
     given: &Fields<A>,
     uuid: &[u8; 16],
-    part: &Part,
+    part: &SegmentPart,
 ) -> Result<Fields<A>, AllocError>
     ensures { IfOk result (λ fields. fields ≡ segment_fields given.now uuid.now part.now) }
 {
@@ -354,13 +354,13 @@ fn piece_at(block: &[u8], size: u64, at: u64) -> &[u8]
 
 /// What the head of the segment at a place, counted from 0, is to say of it, if a block of `len` bytes is cut into
 /// segments of `size` bytes and this is the SHA-1 of the segment's bytes.
-pub fn part_at(size: u64, len: u64, at: u64, digest: [u8; 20]) -> Part
+pub fn part_at(size: u64, len: u64, at: u64, digest: [u8; 20]) -> SegmentPart
     requires some { 0 < size }
     requires inside { at * size < len }
     ensures { (block : List ℕ) → length block ≡ len → result ≡ part_with size len (piece_at size block at) at digest }
 {
     let is_last = at + 1 == segment_count(size, len);
-    Part {
+    SegmentPart {
         number: at + 1,
         total: if is_last { Some(len) } else { None },
         len: size.min(len - at * size),

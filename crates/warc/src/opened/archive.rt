@@ -40,8 +40,8 @@ use crate::replay::capture_line::list_outcomes;
 use crate::replay::capture_lines::write_unjudged;
 use crate::replay::captures::{capture_positions, judge_all};
 use crate::replay::location::{locate_at, locate_for};
-use crate::replay::outcome::{Outcome, StoredAt, judge_at, send_at};
-use crate::rewrite::closure::{closed_positions, standing_positions};
+use crate::replay::outcome::{Outcome, StoredAt, capture_outcome, send_at};
+use crate::rewrite::closure::{closed_positions, remaining_positions};
 use crate::rewrite::selection::{other_positions, select_rows, selected_len};
 use crate::row::list_rows;
 use std::alloc::{AllocError, Allocator, Global};
@@ -294,7 +294,7 @@ impl<S: Source, A: Allocator + Copy> Archive<S, A> {
         ensures unchanged { IsUnchanged self.old self.new }
     {
         let Opened { source, rows, kept } = &mut self.opened;
-        judge_at(source, rows, kept, position)
+        capture_outcome(source, rows, kept, position)
     }
 
     /// Writes what is stored of the origin of the capture at a position, as `replay_at` writes a body, but a coded one
@@ -486,7 +486,7 @@ impl<S: Source, A: Allocator + Copy> Archive<S, A> {
         ensures unchanged { IsUnchanged self.old self.new }
     {
         let Opened { source, rows, kept } = &mut self.opened;
-        standing_positions(source, rows, kept, positions)
+        remaining_positions(source, rows, kept, positions)
     }
 
     /// Writes a line for each finding, as a listing does, and answers how many there are. A read that fails does so

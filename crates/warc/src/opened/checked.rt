@@ -72,7 +72,7 @@ impl<S: Source, A: Allocator + Copy> Checked<S, A> {
     /// nothing: what ends it early is a write that fails, `Write`, or a refused growth of the memory, `Memory`. Each
     /// has the number of bytes that went out, which are the first of the output.
     pub fn check<W: Sink>(&self, out: &mut W) -> Result<usize, OutFault>
-        ensures tells { (bytes : List ℕ) (is : IsJudgedOf bytes self.now) →
+        ensures reports { (bytes : List ℕ) (is : IsJudgedOf bytes self.now) →
             WritesFindings (contents is.listed.are.records) (W.seen out.old) (W.seen out.new) result }
         ensures cause { (W.seen out.new).faults ≡ failed_by result (W.seen out.old).faults }
 

@@ -55,7 +55,7 @@ fn own_verdict<S: Source, A: Allocator + Copy>(
     typed: &Typed<'_>,
 ) -> Result<PayloadVerdict, OutFault>
     requires { said typed.now ≡ reading_of fields.now }
-    ensures told { IfHeld (S.seen source.old).holds (λ bytes. (is : HasTextOf row.now bytes) →
+    ensures reported { IfHeld (S.seen source.old).holds (λ bytes. (is : HasTextOf row.now bytes) →
         fields.now ≡ is.placed.content.fields → IfOk result (IsOwnVerdict is.placed.content)) }
     ensures early { IfErr result (λ e. IsEarly (ReplayFault.Out e)) }
     ensures reads { ReadsOnly (IsInRange row.now.block_start row.now.block_len) (row.now.block_len + row.now.block_len)

@@ -4,7 +4,7 @@ ghost use Rattle.warc_frame.specs.Effects.{FailsBy};
 ghost use Rattle.warc_frame.specs.Seen.{IfHeld};
 ghost use Rattle.warc_reading.specs.Rereading.{HasTextOf, ReadsRows};
 ghost use Rattle.warc.specs.Judged.{GivesStated, GivesVerdict, IsStatedTaken, IsVerdictTaken};
-ghost use Rattle.warc.specs.Standing.{IsUntaken};
+ghost use Rattle.warc.specs.Status.{IsUntaken};
 ghost use Rattle.warc.specs.Taking.{take_result};
 
 use crate::fault::TakeFault;

@@ -4,7 +4,7 @@ ghost use Rattle.warc_frame.specs.Effects.{FailsBy, ReadsRange};
 ghost use Rattle.warc_frame.specs.Record.{Record};
 ghost use Rattle.warc_frame.specs.Seen.{IfHeld};
 ghost use Rattle.warc_frame.specs.Spelling.{Spells};
-ghost use Rattle.warc.specs.Standing.{HasRecordAt, HasRecordOf, IsUntaken};
+ghost use Rattle.warc.specs.Status.{HasRecordAt, HasRecordOf, IsUntaken};
 ghost use Rattle.warc.specs.Taking.{GivesRecord, IsSpelledIn, IsTaken, ReadsRecord, record_len, take_result};
 
 use crate::fault::TakeFault;

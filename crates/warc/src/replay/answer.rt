@@ -5,7 +5,7 @@ ghost use Rattle.warc_answer.specs.Answers.{path_from, path_of};
 ghost use Rattle.warc_reading.specs.Indexed.{AreOf, indexed_record};
 ghost use Rattle.warc_reading.specs.Row.{Placed};
 ghost use Rattle.warc.specs.Replaying.{Replays, ReplaysOn};
-ghost use Rattle.warc.specs.Standing.{LeadsTo};
+ghost use Rattle.warc.specs.Status.{LeadsTo};
 
 use crate::replay::origin::origin_at;
 use std::alloc::Allocator;

@@ -75,7 +75,7 @@ fn verdict_by<A: Allocator>(judged: &Result<Stored<A>, Reason>) -> Verdict
 
 /// What is stored of an origin, by what is known of each record's block, and what was found of the blocks that are
 /// joined to it. What is found of these now is remembered.
-fn judge_once<S: Source, A: Allocator + Copy>(
+fn stored_once<S: Source, A: Allocator + Copy>(
     source: &mut S,
     rows: &Rows<A>,
     lookup: &Lookup<A>,
@@ -113,7 +113,7 @@ pub(crate) fn outcome_once<S: Source, A: Allocator + Copy>(
 {
     paths_end_inside();
     match path_from(lookup, position) {
-        Ok(path) => match judge_once(source, rows, lookup, path.given, known, found) {
+        Ok(path) => match stored_once(source, rows, lookup, path.given, known, found) {
             Ok(stored) => Ok(Outcome {
                 chosen: position,
                 given: Some(path.given),

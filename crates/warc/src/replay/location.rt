@@ -2,7 +2,7 @@
 ghost use Rattle.std.specs.Prelude.{List, Result};
 ghost use Rattle.warc_frame.specs.Record.{Record};
 ghost use Rattle.warc.specs.Locating.{LocatesAt, LocatesFor, LocatesOn};
-ghost use Rattle.warc.specs.Standing.{LeadsTo};
+ghost use Rattle.warc.specs.Status.{LeadsTo};
 
 use crate::fault::BodyFault;
 use crate::replay::answer::path_in;

@@ -4,7 +4,7 @@ ghost use Rattle.warc.specs.Outcomes.{GivesStoredAt, JudgesAt, answer_seen};
 
 use crate::fault::BodyFault;
 use crate::replay::body::{Found, find};
-use crate::replay::stored::{judge_origin, send_origin};
+use crate::replay::stored::{send_origin, stored_of_origin};
 use std::alloc::{Allocator, Global};
 use warc_answer::laws::paths_end_inside;
 use warc_answer::{Path, Reason, ReplayFault, Stored};
@@ -32,7 +32,7 @@ pub struct StoredAt<A: Allocator = Global> {
 }
 
 /// What the capture at a position gives, without the body.
-pub(crate) fn judge_at<S: Source, A: Allocator + Copy>(
+pub(crate) fn capture_outcome<S: Source, A: Allocator + Copy>(
     source: &mut S,
     rows: &Rows<A>,
     lookup: &Lookup<A>,
@@ -48,7 +48,7 @@ pub(crate) fn judge_at<S: Source, A: Allocator + Copy>(
         Found::Capture(path) => path,
     };
     match path {
-        Ok(path) => match judge_origin(source, rows, lookup, path.given) {
+        Ok(path) => match stored_of_origin(source, rows, lookup, path.given) {
             Ok(stored) => Ok(Outcome {
                 chosen: position,
                 given: Some(path.given),

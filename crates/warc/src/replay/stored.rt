@@ -6,7 +6,7 @@ ghost use Rattle.warc.specs.Looking.{Judges, Looks, SendsStored};
 use crate::replay::origin::origin_at;
 use std::alloc::Allocator;
 use warc_answer::laws::places_are_as_long;
-use warc_answer::{Reason, ReplayFault, Stored, judge_joined, judge_known, send_blocks};
+use warc_answer::{Reason, ReplayFault, Stored, find_stored, judge_known, send_blocks};
 use warc_frame::{OutFault, Sink, Source};
 use warc_reading::{Lookup, Rows};
 use warc_segment::Place;
@@ -33,7 +33,7 @@ fn look_at<S: Source, A: Allocator + Copy>(
     places_are_as_long();
     let origin = origin_at(source, rows, lookup, position)?;
     let alloc = rows.allocator();
-    match judge_joined(
+    match find_stored(
         alloc,
         source,
         origin.http,
@@ -49,7 +49,7 @@ fn look_at<S: Source, A: Allocator + Copy>(
 }
 
 /// What is stored of the origin at a position, or the reason why nothing is.
-pub(crate) fn judge_origin<S: Source, A: Allocator + Copy>(
+pub(crate) fn stored_of_origin<S: Source, A: Allocator + Copy>(
     source: &mut S,
     rows: &Rows<A>,
     lookup: &Lookup<A>,

@@ -3,11 +3,11 @@ ghost use Rattle.std.specs.Prelude.{◌≡◌, ◌<◌, length};
 ghost use Rattle.warc.specs.Closure.{GivesNeeded, GivesOthers};
 ghost use Rattle.warc.specs.Marks.{SaysAgain, TakesAll, TakesOne};
 ghost use Rattle.warc.specs.Selecting.{ArePositions};
-ghost use Rattle.warc.specs.Standings.{JudgesRecord, JudgesRecords, FindsStandings};
+ghost use Rattle.warc.specs.Statuses.{JudgesRecord, JudgesRecords, FindsStatuses};
 
 use crate::rewrite::needs::{Mark, free_marks, is_free, mark_ways, marked_positions, take_series};
 use crate::rewrite::remainder::{
-    Standing, is_named, kept_positions, leave_if_named, name_all, open_standings, settle_all,
+    Status, is_named, kept_positions, leave_if_named, name_all, open_statuses, settle_all,
 };
 use std::alloc::Allocator;
 use warc_frame::laws::head_of_spelled;
@@ -122,42 +122,42 @@ pub(crate) fn closed_positions<S: Source, A: Allocator + Copy>(
 }
 
 /// Leaves out the record at a position, if it is a first segment and one of its series is named.
-fn judge_segments_of<S: Source, A: Allocator + Copy>(
+fn leave_segments_of<S: Source, A: Allocator + Copy>(
     source: &mut S,
     rows: &Rows<A>,
     parts: &Parts<A>,
-    standings: &mut [Standing],
+    statuses: &mut [Status],
     position: usize,
 ) -> Result<(), OutFault>
     requires inside { position < length rows.now }
-    ensures same { length standings.new ≡ length standings.old }
-    ensures judges { JudgesRecord rows.now parts.now position standings.old standings.new (S.seen source.old)
+    ensures same { length statuses.new ≡ length statuses.old }
+    ensures judges { JudgesRecord rows.now parts.now position statuses.old statuses.new (S.seen source.old)
         (S.seen source.new) result }
 {
     let head = head_at(source, rows, position)?;
-    match leave_if_named(parts, standings, &head.typed(), position) {
+    match leave_if_named(parts, statuses, &head.typed(), position) {
         Ok(()) => Ok(()),
         Err(_) => Err(OutFault::Memory(0)),
     }
 }
 
 /// Leaves out the records that have a named segment. The head of each that isn't named is read again.
-fn judge_segments<S: Source, A: Allocator + Copy>(
+fn leave_segments<S: Source, A: Allocator + Copy>(
     source: &mut S,
     rows: &Rows<A>,
     parts: &Parts<A>,
-    standings: &mut [Standing],
+    statuses: &mut [Status],
 ) -> Result<(), OutFault>
-    requires table { length standings.old ≡ length rows.now }
-    ensures same { length standings.new ≡ length standings.old }
-    ensures judges { JudgesRecords rows.now parts.now standings.old standings.new (S.seen source.old)
+    requires table { length statuses.old ≡ length rows.now }
+    ensures same { length statuses.new ≡ length statuses.old }
+    ensures judges { JudgesRecords rows.now parts.now statuses.old statuses.new (S.seen source.old)
         (S.seen source.new) result }
 {
     'judging: for position in 0..rows.len() {
-        if is_named(standings, position) {
+        if is_named(statuses, position) {
             continue;
         }
-        judge_segments_of(source, rows, parts, standings, position)?;
+        leave_segments_of(source, rows, parts, statuses, position)?;
     }
     Ok(())
 }
@@ -167,42 +167,42 @@ fn judge_all<S: Source, A: Allocator + Copy>(
     source: &mut S,
     rows: &Rows<A>,
     parts: &Parts<A>,
-    standings: &mut [Standing],
+    statuses: &mut [Status],
 ) -> Result<(), OutFault>
-    requires table { length standings.old ≡ length rows.now }
-    ensures same { length standings.new ≡ length standings.old }
-    ensures judges { JudgesRecords rows.now parts.now standings.old standings.new (S.seen source.old)
+    requires table { length statuses.old ≡ length rows.now }
+    ensures same { length statuses.new ≡ length statuses.old }
+    ensures judges { JudgesRecords rows.now parts.now statuses.old statuses.new (S.seen source.old)
         (S.seen source.new) result }
 {
     if parts.has_segments() {
-        judge_segments(source, rows, parts, standings)
+        leave_segments(source, rows, parts, statuses)
     } else {
         Ok(())
     }
 }
 
 /// Finds out of each record whether it needs one at these positions.
-fn stand<S: Source, A: Allocator + Copy>(
+fn remain<S: Source, A: Allocator + Copy>(
     source: &mut S,
     rows: &Rows<A>,
     lookup: &Lookup<A>,
-    standings: &mut [Standing],
+    statuses: &mut [Status],
     positions: &[usize],
 ) -> Result<(), OutFault>
-    requires table { length standings.old ≡ length rows.now }
+    requires table { length statuses.old ≡ length rows.now }
     requires positions { ArePositions (length rows.now) positions.now }
-    ensures same { length standings.new ≡ length standings.old }
-    ensures stands { FindsStandings rows.now lookup.now.index lookup.now.parts positions.now standings.old standings.new
-        (S.seen source.old) (S.seen source.new) result }
+    ensures same { length statuses.new ≡ length statuses.old }
+    ensures is_present { FindsStatuses rows.now lookup.now.index lookup.now.parts positions.now
+        statuses.old statuses.new (S.seen source.old) (S.seen source.new) result }
 {
-    name_all(standings, positions);
-    judge_all(source, rows, &lookup.parts, standings)?;
-    settle_all(&lookup.index, standings);
+    name_all(statuses, positions);
+    judge_all(source, rows, &lookup.parts, statuses)?;
+    settle_all(&lookup.index, statuses);
     Ok(())
 }
 
 /// The positions of the records that need none of those at these positions.
-pub(crate) fn standing_positions<S: Source, A: Allocator + Copy>(
+pub(crate) fn remaining_positions<S: Source, A: Allocator + Copy>(
     source: &mut S,
     rows: &Rows<A>,
     lookup: &Lookup<A>,
@@ -213,11 +213,11 @@ pub(crate) fn standing_positions<S: Source, A: Allocator + Copy>(
         (S.seen source.new) result }
 {
     let alloc = rows.allocator();
-    let Ok(mut standings) = open_standings(alloc, rows.len()) else {
+    let Ok(mut statuses) = open_statuses(alloc, rows.len()) else {
         return Err(OutFault::Memory(0));
     };
-    stand(source, rows, lookup, &mut standings, positions)?;
-    match kept_positions(alloc, &standings) {
+    remain(source, rows, lookup, &mut statuses, positions)?;
+    match kept_positions(alloc, &statuses) {
         Ok(kept) => Ok(kept),
         Err(_) => Err(OutFault::Memory(0)),
     }

@@ -7,8 +7,8 @@ ghost use Rattle.warc_index.specs.Referents.{next_of};
 ghost use Rattle.warc_segment.specs.Joined.{PlacedRecord, piece_placed};
 ghost use Rattle.warc_segment.specs.Kept.{kept_in};
 ghost use Rattle.warc.specs.Marks.{AreWhere};
-ghost use Rattle.warc.specs.Standings.{AreAllSettled, AreMemos, AreSettled, LeavesIfNamed, HasNamed, IsNamedAt, IsOpen, JudgesSeries, KeepsMemo, LeavesWay, NamesAll, Settles, is_left, is_open, memo_of, needs_none, standing_at};
-ghost use Rattle.warc.specs.declared.rewrite.remainder.Standing.TheVariants.{Open, Named, Touched, Untouched};
+ghost use Rattle.warc.specs.Statuses.{AreAllSettled, AreMemos, AreSettled, LeavesIfNamed, HasNamed, IsNamedAt, IsOpen, JudgesSeries, KeepsMemo, LeavesWay, NamesAll, Settles, is_left, is_open, memo_of, needs_none, status_at};
+ghost use Rattle.warc.specs.declared.rewrite.remainder.Status.TheVariants.{Open, Named, Touched, Untouched};
 
 use std::alloc::{AllocError, Allocator};
 use warc_index::Index;
@@ -17,7 +17,7 @@ use warc_segment::Parts;
 
 /// What is known of a position while records are looked for that need named ones.
 #[derive(Clone, Copy, PartialEq, Eq, Debug)]
-pub(crate) enum Standing {
+pub(crate) enum Status {
     /// Nothing is known.
     Open,
 
@@ -38,95 +38,95 @@ pub(crate) enum Standing {
 }
 
 /// A table in which all positions are open.
-pub(crate) fn open_standings<A: Allocator>(
+pub(crate) fn open_statuses<A: Allocator>(
     alloc: A,
     len: usize,
-) -> Result<Vec<Standing, A>, AllocError>
-    ensures { IfOk result (λ standings. standings.items ≡ replicate len Open) }
+) -> Result<Vec<Status, A>, AllocError>
+    ensures { IfOk result (λ statuses. statuses.items ≡ replicate len Open) }
 {
-    vec![in alloc; Standing::Open; len]
+    vec![in alloc; Status::Open; len]
 }
 
 /// The standing of a position; one beyond the table is open.
-fn standing_at(standings: &[Standing], position: usize) -> Standing
-    ensures { result ≡ standing_at standings.now position }
+fn status_at(statuses: &[Status], position: usize) -> Status
+    ensures { result ≡ status_at statuses.now position }
 {
-    match standings.get(position) {
-        Some(standing) => *standing,
-        None => Standing::Open,
+    match statuses.get(position) {
+        Some(status) => *status,
+        None => Status::Open,
     }
 }
 
 /// Whether a position is named.
-pub(crate) fn is_named(standings: &[Standing], position: usize) -> bool
-    ensures yes { result ≡ true → IsNamedAt standings.now position }
-    ensures no { result ≡ false → standing_at standings.now position ≢ Named }
+pub(crate) fn is_named(statuses: &[Status], position: usize) -> bool
+    ensures yes { result ≡ true → IsNamedAt statuses.now position }
+    ensures no { result ≡ false → status_at statuses.now position ≢ Named }
 {
-    match standings.get(position) {
-        Some(Standing::Named) => true,
+    match statuses.get(position) {
+        Some(Status::Named) => true,
         _ => false,
     }
 }
 
 /// Whether it isn't known of a position of the table whether its record needs a named one.
-fn is_open(standings: &[Standing], position: usize) -> bool
-    ensures within { result ≡ true → position < length standings.now }
-    ensures yes { result ≡ true → IsOpen standings.now position }
-    ensures no { result ≡ false → position < length standings.now →
-        is_open (standing_at standings.now position) ≡ false }
+fn is_open(statuses: &[Status], position: usize) -> bool
+    ensures within { result ≡ true → position < length statuses.now }
+    ensures yes { result ≡ true → IsOpen statuses.now position }
+    ensures no { result ≡ false → position < length statuses.now →
+        is_open (status_at statuses.now position) ≡ false }
 {
-    match standings.get(position) {
-        Some(Standing::Open | Standing::Touched | Standing::Untouched) => true,
+    match statuses.get(position) {
+        Some(Status::Open | Status::Touched | Status::Untouched) => true,
         _ => false,
     }
 }
 
 /// Whether the record at a position is known to need a named one.
-fn is_left(standings: &[Standing], position: usize) -> bool
-    ensures { result ≡ is_left (standing_at standings.now position) }
+fn is_left(statuses: &[Status], position: usize) -> bool
+    ensures { result ≡ is_left (status_at statuses.now position) }
 {
-    match standings.get(position) {
-        Some(Standing::Named | Standing::Left) => true,
+    match statuses.get(position) {
+        Some(Status::Named | Status::Left) => true,
         _ => false,
     }
 }
 
 /// Whether the record at a position is known to need none.
-fn is_kept(standings: &[Standing], position: usize) -> bool
-    ensures { result ≡ needs_none (standing_at standings.now position) }
+fn is_kept(statuses: &[Status], position: usize) -> bool
+    ensures { result ≡ needs_none (status_at statuses.now position) }
 {
-    match standings.get(position) {
-        Some(Standing::Kept) => true,
+    match statuses.get(position) {
+        Some(Status::Kept) => true,
         _ => false,
     }
 }
 
 /// Sets the standing of a position of the table.
-pub(crate) fn set_standing(standings: &mut [Standing], position: usize, standing: Standing)
-    ensures inside { position < length standings.old → standings.new ≡ slice_set standings.old position standing }
-    ensures past { length standings.old ≤ position → standings.new ≡ standings.old }
+pub(crate) fn set_status(statuses: &mut [Status], position: usize, status: Status)
+    ensures inside { position < length statuses.old → statuses.new ≡ slice_set statuses.old position status }
+    ensures past { length statuses.old ≤ position → statuses.new ≡ statuses.old }
 {
-    if position < standings.len() {
-        standings[position] = standing;
+    if position < statuses.len() {
+        statuses[position] = status;
     }
 }
 
 /// Names positions.
-pub(crate) fn name_all(standings: &mut [Standing], positions: &[usize])
-    ensures { NamesAll positions.now standings.old standings.new }
+pub(crate) fn name_all(statuses: &mut [Status], positions: &[usize])
+    ensures { NamesAll positions.now statuses.old statuses.new }
 {
     'naming: for position in positions {
-        set_standing(standings, *position, Standing::Named);
+        set_status(statuses, *position, Status::Named);
     }
 }
 
 /// Whether one of these positions is named.
-fn has_named(standings: &[Standing], positions: &[usize]) -> bool
-    ensures yes { result ≡ true → HasNamed standings.now positions.now }
-    ensures no { result ≡ false → (q : ℕ) → Contains positions.now q → standing_at standings.now q ≢ Named }
+fn has_named(statuses: &[Status], positions: &[usize]) -> bool
+    ensures yes { result ≡ true → HasNamed statuses.now positions.now }
+    ensures no { result ≡ false → (q : ℕ) → Contains positions.now q → status_at statuses.now q ≢ Named }
 {
     'looking: for position in positions {
-        if is_named(standings, *position) {
+        if is_named(statuses, *position) {
             return true;
         }
     }
@@ -134,45 +134,45 @@ fn has_named(standings: &[Standing], positions: &[usize]) -> bool
 }
 
 /// What is kept of a segment whose series has a named one, or has none.
-fn memo_of(named: bool) -> Standing
+fn memo_of(named: bool) -> Status
     ensures { result ≡ memo_of named }
 {
     if named {
-        Standing::Touched
+        Status::Touched
     } else {
-        Standing::Untouched
+        Status::Untouched
     }
 }
 
 /// Keeps of a segment whether its series has a named one, if nothing else is known of it.
-fn remember(standings: &mut [Standing], segment: usize, named: bool)
-    ensures { KeepsMemo segment named standings.old standings.new }
+fn remember(statuses: &mut [Status], segment: usize, named: bool)
+    ensures { KeepsMemo segment named statuses.old statuses.new }
 {
-    if is_fresh(standings, segment) {
-        standings[segment] = memo_of(named);
+    if is_fresh(statuses, segment) {
+        statuses[segment] = memo_of(named);
     }
 }
 
 /// Whether nothing is known of a position of the table.
-fn is_fresh(standings: &[Standing], position: usize) -> bool
-    ensures within { result ≡ true → position < length standings.now }
-    ensures yes { result ≡ true → standing_at standings.now position ≡ Open }
+fn is_fresh(statuses: &[Status], position: usize) -> bool
+    ensures within { result ≡ true → position < length statuses.now }
+    ensures yes { result ≡ true → status_at statuses.now position ≡ Open }
 {
-    match standings.get(position) {
-        Some(Standing::Open) => true,
+    match statuses.get(position) {
+        Some(Status::Open) => true,
         _ => false,
     }
 }
 
 /// Whether the series of a segment has a named one, if that is known.
-fn recalled(standings: &[Standing], segment: usize) -> Option<bool>
+fn recalled(statuses: &[Status], segment: usize) -> Option<bool>
     ensures yes { result ≡ Some true →
-        IsNamedAt standings.now segment ⊎ (standing_at standings.now segment ≡ Touched) }
-    ensures no { result ≡ Some false → standing_at standings.now segment ≡ Untouched }
+        IsNamedAt statuses.now segment ⊎ (status_at statuses.now segment ≡ Touched) }
+    ensures no { result ≡ Some false → status_at statuses.now segment ≡ Untouched }
 {
-    match standings.get(segment) {
-        Some(Standing::Named | Standing::Touched) => Some(true),
-        Some(Standing::Untouched) => Some(false),
+    match statuses.get(segment) {
+        Some(Status::Named | Status::Touched) => Some(true),
+        Some(Status::Untouched) => Some(false),
         _ => None,
     }
 }
@@ -180,13 +180,13 @@ fn recalled(standings: &[Standing], segment: usize) -> Option<bool>
 /// Whether a record with this head has a named segment. A series is looked through once.
 pub(crate) fn series_is_named<A: Allocator + Copy>(
     parts: &Parts<A>,
-    standings: &mut [Standing],
+    statuses: &mut [Status],
     typed: &Typed<'_>,
 ) -> Result<bool, AllocError>
-    ensures same { length standings.new ≡ length standings.old }
+    ensures same { length statuses.new ≡ length statuses.old }
     ensures judges { (all : List PlacedRecord) → parts.now ≡ kept_in all →
-        AreMemos (map piece_placed all) standings.old →
-        IfOk result (JudgesSeries (map piece_placed all) (said typed.now) standings.old standings.new) }
+        AreMemos (map piece_placed all) statuses.old →
+        IfOk result (JudgesSeries (map piece_placed all) (said typed.now) statuses.old statuses.new) }
 {
     match typed.segment.number {
         SegmentNumber::Number(1) => {}
@@ -195,30 +195,30 @@ pub(crate) fn series_is_named<A: Allocator + Copy>(
     let Some(one) = parts.segment_of(typed) else {
         return Ok(false);
     };
-    if let Some(named) = recalled(standings, one) {
+    if let Some(named) = recalled(statuses, one) {
         return Ok(named);
     }
     let segments = parts.segments_of(typed)?;
-    let named = has_named(standings, &segments);
-    remember(standings, one, named);
+    let named = has_named(statuses, &segments);
+    remember(statuses, one, named);
     Ok(named)
 }
 
 /// Leaves out the record at a position, which has this head, if it has a named segment.
 pub(crate) fn leave_if_named<A: Allocator + Copy>(
     parts: &Parts<A>,
-    standings: &mut [Standing],
+    statuses: &mut [Status],
     typed: &Typed<'_>,
     position: usize,
 ) -> Result<(), AllocError>
-    ensures same { length standings.new ≡ length standings.old }
+    ensures same { length statuses.new ≡ length statuses.old }
     ensures judges { (all : List PlacedRecord) → parts.now ≡ kept_in all →
-        AreMemos (map piece_placed all) standings.old →
-        OnOk result (LeavesIfNamed (map piece_placed all) (said typed.now) position standings.old standings.new) }
+        AreMemos (map piece_placed all) statuses.old →
+        OnOk result (LeavesIfNamed (map piece_placed all) (said typed.now) position statuses.old statuses.new) }
 {
-    let named = series_is_named(parts, standings, typed)?;
+    let named = series_is_named(parts, statuses, typed)?;
     if named {
-        set_standing(standings, position, Standing::Left);
+        set_status(statuses, position, Status::Left);
     }
     Ok(())
 }
@@ -226,17 +226,17 @@ pub(crate) fn leave_if_named<A: Allocator + Copy>(
 /// Leaves out the first places of a way from referent to referent.
 fn leave_way<A: Allocator + Copy>(
     index: &Index<A>,
-    standings: &mut [Standing],
+    statuses: &mut [Status],
     position: usize,
     steps: usize,
 )
-    ensures same { length standings.new ≡ length standings.old }
-    ensures leaves { (all : List Indexed) → IsIndexOf all index.now → length standings.old ≡ length all →
-        LeavesWay (next_of all) position steps standings.old standings.new }
+    ensures same { length statuses.new ≡ length statuses.old }
+    ensures leaves { (all : List Indexed) → IsIndexOf all index.now → length statuses.old ≡ length all →
+        LeavesWay (next_of all) position steps statuses.old statuses.new }
 {
     let mut at = position;
     'leaving: for _step in 0..steps {
-        set_standing(standings, at, Standing::Left);
+        set_status(statuses, at, Status::Left);
         match index.referent(at) {
             Some(next) => at = next,
             None => return,
@@ -248,52 +248,52 @@ fn leave_way<A: Allocator + Copy>(
 /// the way goes, and keeps what it found for all on the way.
 pub(crate) fn settle<A: Allocator + Copy>(
     index: &Index<A>,
-    standings: &mut [Standing],
+    statuses: &mut [Status],
     position: usize,
 )
-    ensures same { length standings.new ≡ length standings.old }
-    ensures settles { (all : List Indexed) (base : List Standing) → IsIndexOf all index.now →
-        length standings.old ≡ length all → AreSettled (next_of all) base standings.old → position < length all →
-        Settles (next_of all) base position standings.old standings.new }
+    ensures same { length statuses.new ≡ length statuses.old }
+    ensures settles { (all : List Indexed) (base : List Status) → IsIndexOf all index.now →
+        length statuses.old ≡ length all → AreSettled (next_of all) base statuses.old → position < length all →
+        Settles (next_of all) base position statuses.old statuses.new }
 {
     let mut at = position;
     let mut steps = 0;
-    'walking: while is_open(standings, at) {
-        standings[at] = Standing::Kept;
+    'walking: while is_open(statuses, at) {
+        statuses[at] = Status::Kept;
         steps += 1;
         match index.referent(at) {
             Some(next) => at = next,
             None => return,
         }
     }
-    if is_left(standings, at) {
-        leave_way(index, standings, position, steps);
+    if is_left(statuses, at) {
+        leave_way(index, statuses, position, steps);
     }
 }
 
 /// Finds out of each record whether it needs a named one.
-pub(crate) fn settle_all<A: Allocator + Copy>(index: &Index<A>, standings: &mut [Standing])
-    ensures same { length standings.new ≡ length standings.old }
-    ensures settles { (all : List Indexed) (base : List Standing) → IsIndexOf all index.now →
-        length standings.old ≡ length all → AreSettled (next_of all) base standings.old →
-        AreAllSettled (next_of all) base standings.new (length all) }
+pub(crate) fn settle_all<A: Allocator + Copy>(index: &Index<A>, statuses: &mut [Status])
+    ensures same { length statuses.new ≡ length statuses.old }
+    ensures settles { (all : List Indexed) (base : List Status) → IsIndexOf all index.now →
+        length statuses.old ≡ length all → AreSettled (next_of all) base statuses.old →
+        AreAllSettled (next_of all) base statuses.new (length all) }
 {
-    'settling: for position in 0..standings.len() {
-        settle(index, standings, position);
+    'settling: for position in 0..statuses.len() {
+        settle(index, statuses, position);
     }
 }
 
 /// The positions of the records that are known to need none.
 pub(crate) fn kept_positions<A: Allocator>(
     alloc: A,
-    standings: &[Standing],
+    statuses: &[Status],
 ) -> Result<Vec<usize, A>, AllocError>
-    ensures { IfOk result (λ positions. AreWhere (λ p. needs_none (standing_at standings.now p)) (length standings.now)
+    ensures { IfOk result (λ positions. AreWhere (λ p. needs_none (status_at statuses.now p)) (length statuses.now)
         positions.items) }
 {
     let mut positions = Vec::new(alloc);
-    'listing: for position in 0..standings.len() {
-        if !is_kept(standings, position) {
+    'listing: for position in 0..statuses.len() {
+        if !is_kept(statuses, position) {
             continue;
         }
         positions.push(position)?;

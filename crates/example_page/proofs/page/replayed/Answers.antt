@@ -7,7 +7,7 @@ returns c = λ is.
     let archive = c.args.archive.now in
     let bytes = archive.listing.source.bytes in
     let empty = c.new-out.ensures.bytes ∙ c.new.ensures.items in
-    let told = c.in_ok-replay.ensures.replays.told bytes refl is.listed is.kept in
+    let reported = c.in_ok-replay.ensures.replays.reported bytes refl is.listed is.kept in
     rw c.into_inner.ensures
     (page_of bytes c.args.uri.now c.args.moment.now archive is c.in_ok-replay.field-0 c.new-out.result.bytes
-    c.replay.new.out.bytes empty told)
+    c.replay.new.out.bytes empty reported)

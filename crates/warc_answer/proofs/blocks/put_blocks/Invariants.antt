@@ -9,8 +9,8 @@ invariant-putting g l = record {
   left : (bytes : List ℕ) → LieIn l.places bytes
       → l.left ≡ l.fn.skip - length (text_at (take l.place-index l.places) bytes);
   staged : (bytes : List ℕ) (start : Option (List ℕ)) (output : List ℕ) → (g.S.Source.seen l.fn.source).holds ≡ Some bytes
-      → LieIn l.places bytes → IsStaged start output ((g.W.Sink.seen l.fn.out).tells) l.fn.buffer
-      → IsStaged start (output ++ drop l.fn.skip (text_at (take l.place-index l.places) bytes)) ((g.W.Sink.seen l.out).tells)
+      → LieIn l.places bytes → IsStaged start output ((g.W.Sink.seen l.fn.out).reports) l.fn.buffer
+      → IsStaged start (output ++ drop l.fn.skip (text_at (take l.place-index l.places) bytes)) ((g.W.Sink.seen l.out).reports)
       l.buffer;
   sound : (g.S.Source.seen l.source).faults ≡ (g.S.Source.seen l.fn.source).faults;
   silent : (g.W.Sink.seen l.out).faults ≡ (g.W.Sink.seen l.fn.out).faults;

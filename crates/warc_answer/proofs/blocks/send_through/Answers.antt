@@ -8,8 +8,8 @@ returns-in_err-put_blocks-clause-sends g c =
     rw (p.1, p.2) (record {
       out = λ bytes text held says. tt;
       cut = λ bytes text held says.
-          c.in_err-put_blocks.ensures.emits.cut bytes text held says ((g.W.Sink.seen c.args.out.now).tells) []
-          (c.new-buffer.ensures.begins ((g.W.Sink.seen c.args.out.now).tells));
+          c.in_err-put_blocks.ensures.emits.cut bytes text held says ((g.W.Sink.seen c.args.out.now).reports) []
+          (c.new-buffer.ensures.begins ((g.W.Sink.seen c.args.out.now).reports));
       cause = search rules;
       fails = c.in_err-put_blocks.ensures.emits.fails;
     })
@@ -17,9 +17,9 @@ returns-in_err-put_blocks-clause-sends g c =
 pub returns-clause-sends : goal.returns-clause-sends
 returns-clause-sends g c = record {
   out = λ bytes text held says.
-      c.in_ok-flush.ensures.told ((g.W.Sink.seen c.args.out.now).tells) _
-      (c.in_ok-put_blocks.ensures.emits.out bytes text held says ((g.W.Sink.seen c.args.out.now).tells) []
-      (c.new-buffer.ensures.begins ((g.W.Sink.seen c.args.out.now).tells)));
+      c.in_ok-flush.ensures.reported ((g.W.Sink.seen c.args.out.now).reports) _
+      (c.in_ok-put_blocks.ensures.emits.out bytes text held says ((g.W.Sink.seen c.args.out.now).reports) []
+      (c.new-buffer.ensures.begins ((g.W.Sink.seen c.args.out.now).reports)));
   cut = λ bytes text held says. tt;
   cause = search rules;
   fails = record { may = search rules; failed = λ bytes held has. search rules };
@@ -31,9 +31,9 @@ returns-in_err-flush-clause-sends g c =
     rw (p.1, p.2) (record {
       out = λ bytes text held says. tt;
       cut = λ bytes text held says.
-          c.in_err-flush.ensures.cut ((g.W.Sink.seen c.args.out.now).tells) _
-          (c.in_ok-put_blocks.ensures.emits.out bytes text held says ((g.W.Sink.seen c.args.out.now).tells) []
-          (c.new-buffer.ensures.begins ((g.W.Sink.seen c.args.out.now).tells)));
+          c.in_err-flush.ensures.cut ((g.W.Sink.seen c.args.out.now).reports) _
+          (c.in_ok-put_blocks.ensures.emits.out bytes text held says ((g.W.Sink.seen c.args.out.now).reports) []
+          (c.new-buffer.ensures.begins ((g.W.Sink.seen c.args.out.now).reports)));
       cause = search rules;
       fails = record { may = search rules; failed = λ bytes held has. search rules };
     })

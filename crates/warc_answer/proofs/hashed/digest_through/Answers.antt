@@ -2,7 +2,7 @@ use Rattle.std.proofs.Common.{ℕ, ◌≤◌, List, length, ◌∙◌}
 use Rattle.warc_frame.proofs.EffectLemmas.{reads_both}
 use Rattle.warc_answer.specs.Places.{text_at}
 use Rattle.warc_answer.proofs.GiveLemmas.{front_is, some_front, info_at, none_at}
-use Rattle.warc_answer.proofs.HashedLemmas.{behind_digest, behind_head, head_taken, no_head_digest, some_within}
+use Rattle.warc_answer.proofs.HashedLemmas.{after_digest, after_head, head_taken, no_head_digest, some_within}
 use Rattle.warc_answer.proofs.hashed.digest_through.Goals as goal
 
 pub returns-in-Err-clause-digest : goal.returns-in-Err-clause-digest
@@ -23,8 +23,8 @@ returns-clause-digest g c = λ bytes held lie.
     let info = c.in-Ok.info in
     let found = c.in-Ok.ensures.found in
     let is = c.front_has_head.ensures text info found.0 (info_at _ text info found.0 same found.1) in
-    behind_digest _ text _ info found.0 c.args.algorithm c.in_ok-digest.digest judged.0 is
-    (behind_head text front n info.head_len within same (head_taken front n info found.0 within found.1))
+    after_digest _ text _ info found.0 c.args.algorithm c.in_ok-digest.digest judged.0 is
+    (after_head text front n info.head_len within same (head_taken front n info found.0 within found.1))
     (c.in_ok-digest.ensures.digest bytes (c.in_ok-n.ensures.reads.kept ∙ held) lie)
 
 pub returns-clause-reads : goal.returns-clause-reads

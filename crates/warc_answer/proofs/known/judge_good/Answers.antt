@@ -9,7 +9,7 @@ returns-then-http-clause-judged g c = λ bytes held content joined is says own n
     let places = c.args.places.now in
     judged_of c.joined_has_total.ensures bytes is.records is.found is.path content joined places _ _ is.short is.leads is.places_are
     (sym c.if-http.true ∙ says)
-    (c.judge_http.ensures.seen bytes held content.fields (places_lie bytes places joined is.short is.places_are) (places_bad bytes places joined is.places_are ∙ none))
+    (c.find_stored_http.ensures.seen bytes held content.fields (places_lie bytes places joined is.short is.places_are) (places_bad bytes places joined is.places_are ∙ none))
 
 pub returns-else-http-clause-judged : goal.returns-else-http-clause-judged
 returns-else-http-clause-judged g c = λ bytes held content joined is says own none.
@@ -20,4 +20,4 @@ returns-else-http-clause-judged g c = λ bytes held content joined is says own n
 
 pub returns-then-http-clause-fails : goal.returns-then-http-clause-fails
 returns-then-http-clause-fails g c =
-    fails_more (λ bytes held are. blocks_lie bytes c.args.places.now are) c.judge_http.ensures.fails
+    fails_more (λ bytes held are. blocks_lie bytes c.args.places.now are) c.find_stored_http.ensures.fails

@@ -11,7 +11,7 @@ use Rattle.warc_answer.proofs.located.locate_joined.Goals as goal
 pub returns-in_err-begun-clause-located : goal.returns-in_err-begun-clause-located
 returns-in_err-begun-clause-located g c =
     let p = err_from_is_err_and c.from_residual.result c.from_residual.ensures.1 in
-    rw (p.1, p.2) (λ bytes held records found is tells. c.in_err-begun.ensures.refused bytes held records found is tells)
+    rw (p.1, p.2) (λ bytes held records found is reports. c.in_err-begun.ensures.refused bytes held records found is reports)
 
 pub returns-in_err-begun-clause-early : goal.returns-in_err-begun-clause-early
 returns-in_err-begun-clause-early g c =
@@ -41,5 +41,5 @@ returns-in-Ok-clause-located g c = λ bytes held records found is.
     )
 
 pub returns-in-Err-clause-located : goal.returns-in-Err-clause-located
-returns-in-Err-clause-located g c = λ bytes held records found is tells.
-    let begun = c.in_ok-begun.ensures.begun bytes held records found is in (_, begun, none_out tells _)
+returns-in-Err-clause-located g c = λ bytes held records found is reports.
+    let begun = c.in_ok-begun.ensures.begun bytes held records found is in (_, begun, none_out reports _)

@@ -11,9 +11,9 @@ use Rattle.warc_answer.proofs.replay.begin_body.Goals as goal
 pub returns-in_err-start-clause-refused : goal.returns-in_err-start-clause-refused
 returns-in_err-start-clause-refused g c =
     let p = err_from_is_err_and c.from_residual.result c.from_residual.ensures.1 in
-    rw (p.1, p.2) (λ bytes held records way is told.
+    rw (p.1, p.2) (λ bytes held records way is reported.
     let places = c.args.places.now in
-    replay_of_none c.one_of_three.ensures bytes records way c.args.path is.origin is.joined places told
+    replay_of_none c.one_of_three.ensures bytes records way c.args.path is.origin is.joined places reported
     c.args.http c.in_err-start.field-0.0 is.leads is.places_are is.http_is
     (c.in_err-start.ensures.begun bytes held (places_lie bytes places is.joined is.short is.places_are)))
 

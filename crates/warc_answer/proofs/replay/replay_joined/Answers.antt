@@ -11,7 +11,7 @@ pub returns-in_err-begun-clause-replayed : goal.returns-in_err-begun-clause-repl
 returns-in_err-begun-clause-replayed g c =
     let p = err_from_is_err_and c.from_residual.result c.from_residual.ensures.1 in
     rw (p.1, p.2) (λ bytes held records way is.
-    c.in_err-begun.ensures.refused bytes held records way is ((g.W.Sink.seen c.args.out.now).tells))
+    c.in_err-begun.ensures.refused bytes held records way is ((g.W.Sink.seen c.args.out.now).reports))
 
 pub returns-in_err-begun-clause-late : goal.returns-in_err-begun-clause-late
 returns-in_err-begun-clause-late g c =

@@ -4,7 +4,7 @@ use Rattle.clap.specs.Simple.{app_of}
 use Rattle.clap.specs.Values.{kind_of}
 use Rattle.warc_arguments.specs.CommandLine.{warc_app}
 use Rattle.warc_arguments.specs.Command.{asked_by}
-use Rattle.warc_arguments.proofs.ClapLaws.{fails_by, no_fault, taken_by, told_by, words_name}
+use Rattle.warc_arguments.proofs.ClapLaws.{fails_by, no_fault, taken_by, reported_by, words_name}
 use Rattle.warc_arguments.proofs.words.parse.Goals as goal
 
 pub returns-in-Some-clause-named : goal.returns-in-Some-clause-named
@@ -21,8 +21,8 @@ pub returns-in-Err-clause-taken : goal.returns-in-Err-clause-taken
 returns-in-Err-clause-taken g c = λ taken.
     c.refusal.ensures.memory (c.in-Err.ensures.passes (taken_by (app_of c.in-Ok.parser) (map g.S.AsStr.text c.args.words.now) c.in-Ok.ensures taken))
 
-pub returns-in-Err-clause-told : goal.returns-in-Err-clause-told
-returns-in-Err-clause-told g c =
+pub returns-in-Err-clause-reported : goal.returns-in-Err-clause-reported
+returns-in-Err-clause-reported g c =
     let words = map g.S.AsStr.text c.args.words.now in
-    told_by (fault_of warc_app words) (kind_of c.in-Err.error) c.refusal.result c.refusal.ensures.told c.refusal.ensures.memory
+    reported_by (fault_of warc_app words) (kind_of c.in-Err.error) c.refusal.result c.refusal.ensures.reported c.refusal.ensures.memory
     (fails_by (app_of c.in-Ok.parser) words (Err c.in-Err.error) c.in-Ok.ensures c.in-Err.ensures.kinds)

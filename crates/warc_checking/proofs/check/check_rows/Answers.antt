@@ -11,10 +11,10 @@ use Rattle.warc_checking.proofs.check.check_rows.Goals as goal
 
 pub returns-in-Err : goal.returns-in-Err
 returns-in-Err g c = record {
-  told = λ bytes held is. search rules;
+  reported = λ bytes held is. search rules;
   number = λ bytes held is. search rules;
   cut = λ bytes held is. none_out c.in-Err.fault c.after.result c.after.ensures _ _;
-  reads = c.judge_rows.ensures.reads;
+  reads = c.row_findings.ensures.reads;
   fails = fails_ended c.in-Err.fault c.after.result 0 c.after.ensures
       (fails_more (λ bytes held is. record { records = is.are.records; can = checkable_archive c.head_of_spelled.ensures bytes _ is _ refl })
       c.in-Err.ensures.fails);
@@ -30,11 +30,11 @@ returns g c =
     let can = checkable_archive c.head_of_spelled.ensures bytes _ is _ refl in
     record { can = can; found_is = c.in-Ok.ensures.judged bytes held is.are.records can } in
     record {
-      told = λ bytes held is. c.write_findings.ensures.told bytes is.are.records (found bytes held is);
+      reported = λ bytes held is. c.write_findings.ensures.reported bytes is.are.records (found bytes held is);
       number = λ bytes held is.
           IfOk-weaker c.write_findings.result _ _ (λ n e. e ∙ counted bytes _ is) (c.write_findings.ensures.number bytes is.are.records (found bytes held is));
       cut = λ bytes held is. c.write_findings.ensures.cut bytes is.are.records (found bytes held is);
-      reads = c.judge_rows.ensures.reads;
+      reads = c.row_findings.ensures.reads;
       fails = fails_unread c.write_findings.result c.write_findings.ensures.unread c.in-Ok.ensures.fails.may;
       cause = c.write_findings.ensures.cause;
       unsent = IfErr-weaker c.write_findings.result _ _ (λ e none is. let no : false ≡ true = sym none ∙ is in absurd (cc no)) c.write_findings.ensures.unread;

@@ -9,12 +9,12 @@ use Rattle.warc_checking.specs.UsedIds.{HoldsIdsOf, IsTally}
 use Rattle.warc_checking.proofs.output.put_each.Given as goal
 
 -- the lines of the records so far are staged, their ids are held, and nothing has failed
-abbrev pub invariant-telling : goal.invariant-telling
-invariant-telling g l = record {
+abbrev pub invariant-reporting : goal.invariant-reporting
+invariant-reporting g l = record {
   tally : IsTally (length l.rows) l.rows l.ids.counts l.ids.buckets;
   staged : (bytes : List ℕ) (records : List Placed) (start : Option (List ℕ)) (output : List ℕ) → AreJudged bytes records l.rows (map all_of l.findings)
-      → IsStaged start output ((g.W.Sink.seen l.fn.out).tells) l.fn.buffer
-      → IsStaged start (output ++ first_text l.position (contents records)) ((g.W.Sink.seen l.out).tells) l.buffer;
+      → IsStaged start output ((g.W.Sink.seen l.fn.out).reports) l.fn.buffer
+      → IsStaged start (output ++ first_text l.position (contents records)) ((g.W.Sink.seen l.out).reports) l.buffer;
   ids : (bytes : List ℕ) (records : List Placed) → AreJudged bytes records l.rows (map all_of l.findings) → HoldsIdsOf (take l.position (contents records)) l.ids;
   number : (bytes : List ℕ) (records : List Placed) → AreJudged bytes records l.rows (map all_of l.findings)
       → l.count ≡ capped (length (findings_of_first l.position (contents records)));

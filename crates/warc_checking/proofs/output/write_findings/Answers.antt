@@ -4,18 +4,18 @@ use Rattle.warc_checking.proofs.output.write_findings.Goals as goal
 
 pub returns-in_err-number-clause-cut : goal.returns-in_err-number-clause-cut
 returns-in_err-number-clause-cut g c = λ bytes records findings.
-    let start = (g.W.Sink.seen c.args.out.now).tells in
+    let start = (g.W.Sink.seen c.args.out.now).reports in
     let cut = (c.in_err-number.ensures.puts bytes records findings).cut start [] (c.new-buffer.ensures.begins start) in
     search rules
 
-pub returns-clause-told : goal.returns-clause-told
-returns-clause-told g c = λ bytes records findings.
-    let start = (g.W.Sink.seen c.args.out.now).tells in
-    c.in_ok-flush.ensures.told start _ ((c.in_ok-number.ensures.puts bytes records findings).out start [] (c.new-buffer.ensures.begins start))
+pub returns-clause-reported : goal.returns-clause-reported
+returns-clause-reported g c = λ bytes records findings.
+    let start = (g.W.Sink.seen c.args.out.now).reports in
+    c.in_ok-flush.ensures.reported start _ ((c.in_ok-number.ensures.puts bytes records findings).out start [] (c.new-buffer.ensures.begins start))
 
 pub returns-in_err-flush-clause-cut : goal.returns-in_err-flush-clause-cut
 returns-in_err-flush-clause-cut g c = λ bytes records findings.
-    let start = (g.W.Sink.seen c.args.out.now).tells in
+    let start = (g.W.Sink.seen c.args.out.now).reports in
     let p = err_from_is_err_and c.from_residual-in_err-flush.result c.from_residual-in_err-flush.ensures.1 in
     rw (p.1, p.2) (c.in_err-flush.ensures.cut start _ ((c.in_ok-number.ensures.puts bytes records findings).out start [] (c.new-buffer.ensures.begins start)))
 

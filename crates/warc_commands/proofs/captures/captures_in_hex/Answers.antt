@@ -13,4 +13,4 @@ pub returns-in-Err-clause-ends : goal.returns-in-Err-clause-ends
 returns-in-Err-clause-ends g c =
     let same = ap (option_map (λ (u : Bor (List ℕ)). u.now)) c.in-Some.is in
     listed_as _ _ _ _ _ same
-    (uri_refused CapturesEnds _ c.in-Err.fault _ _ _ _ _ (λ e. ap (option_map Some) (c.in-Err.ensures.bad (ap Err e))) c.tell_fault-in-Err.ensures.told c.tell_fault-in-Err.ensures.status)
+    (uri_refused CapturesEnds _ c.in-Err.fault _ _ _ _ _ (λ e. ap (option_map Some) (c.in-Err.ensures.bad (ap Err e))) c.report_fault-in-Err.ensures.reported c.report_fault-in-Err.ensures.status)

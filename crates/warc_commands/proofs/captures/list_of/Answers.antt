@@ -5,12 +5,12 @@ use Rattle.warc_commands.proofs.ReadLemmas.{listed_near, opened}
 use Rattle.warc_commands.proofs.captures.list_of.Goals as goal
 
 pub returns-in-Err-clause-ends : goal.returns-in-Err-clause-ends
-returns-in-Err-clause-ends g c = inr (inl (not_opened _ _ _ _ _ _ c.in-Err.fault _ c.in-Err.ensures c.tell_refusal.ensures.told c.tell_refusal.ensures.status))
+returns-in-Err-clause-ends g c = inr (inl (not_opened _ _ _ _ _ _ c.in-Err.fault _ c.in-Err.ensures c.report_refusal.ensures.reported c.report_refusal.ensures.status))
 
 pub returns-clause-ends : goal.returns-clause-ends
 returns-clause-ends g c =
     captures_end _ _ _ c.write_of-answer.result _ _ _ _ _ _ _ _ _ c.in-Ok.ensures c.write_of-answer.ensures
-    (ap (λ s. (g.S.Source.seen s).faults) c.into_source.ensures) c.tell_answer.ensures
+    (ap (λ s. (g.S.Source.seen s).faults) c.into_source.ensures) c.report_answer.ensures
 
 pub returns-in-Err-clause-reads : goal.returns-in-Err-clause-reads
 returns-in-Err-clause-reads g c = (opened c.in-Err.ensures refl).near

@@ -7,19 +7,19 @@ use Rattle.warc_commands.proofs.ReadLemmas.{opened}
 use Rattle.warc_commands.proofs.check.check.Goals as goal
 
 pub returns-in-Err-clause-ends : goal.returns-in-Err-clause-ends
-returns-in-Err-clause-ends g c = inr (inl (not_opened _ _ _ _ _ _ c.in-Err.fault _ c.in-Err.ensures c.tell_refusal.ensures.told c.tell_refusal.ensures.status))
+returns-in-Err-clause-ends g c = inr (inl (not_opened _ _ _ _ _ _ c.in-Err.fault _ c.in-Err.ensures c.report_refusal.ensures.reported c.report_refusal.ensures.status))
 
 pub returns-in-Ok-check-clause-ends : goal.returns-in-Ok-check-clause-ends
 returns-in-Ok-check-clause-ends g c = inl (record {
   is = λ bytes held.
       let archive = c.in-Ok.ensures.accepted bytes held in
       let rs = contents archive.listed.are.records in
-      let tells = c.in-Ok-check.ensures.tells bytes archive in
+      let reports = c.in-Ok-check.ensures.reports bytes archive in
       record {
         records = rs;
         are = good_records_of archive.listed;
-        told = tells.told;
-        status_is = c.status_of_count.ensures.value ∙ ap (λ n. min n 1) tells.number ∙ status_by (findings_of_archive rs);
+        reported = reports.reported;
+        status_is = c.status_of_count.ensures.value ∙ ap (λ n. min n 1) reports.number ∙ status_by (findings_of_archive rs);
       };
   unfailed = c.in-Ok-check.ensures.cause;
   sound = ap (λ s. (g.S.Source.seen s).faults) c.into_source.ensures ∙ c.in-Ok.ensures.reads.cause;
@@ -38,13 +38,13 @@ returns-in-Err-check-clause-ends g c =
             record {
               records = contents archive.listed.are.records;
               are = good_records_of archive.listed;
-              front = (c.in-Err-check.ensures.tells bytes archive).cut;
+              front = (c.in-Err-check.ensures.reports bytes archive).cut;
               source = (unread ℕ c.in-Err-check.fault _ _ c.in-Err-check.ensures.unread same).1;
             };
         source = (unread ℕ c.in-Err-check.fault _ _ c.in-Err-check.ensures.unread same).0;
         failed = c.in-Err-check.ensures.cause;
-        told = c.tell_cut.ensures.told;
-        status_is = c.tell_cut.ensures.status;
+        reported = c.report_cut.ensures.reported;
+        status_is = c.report_cut.ensures.status;
       };
       unread = c.in-Err-check.ensures.unread;
       sound = same;

@@ -12,4 +12,4 @@ pub returns-in-Some-clause-ends : goal.returns-in-Some-clause-ends
 returns-in-Some-clause-ends g c = explain_by c.args.number.now (Some c.in-Some.text.now) _ _ _ c.in-Some.ensures (refl, c.show.ensures)
 
 pub returns-in-None-clause-ends : goal.returns-in-None-clause-ends
-returns-in-None-clause-ends g c = explain_by c.args.number.now None _ _ _ c.in-None.ensures (record { unread = refl; untouched = refl; told = c.tell.ensures; status_is = refl })
+returns-in-None-clause-ends g c = explain_by c.args.number.now None _ _ _ c.in-None.ensures (record { unread = refl; untouched = refl; reported = c.report.ensures; status_is = refl })

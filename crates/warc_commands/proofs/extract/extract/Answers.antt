@@ -6,7 +6,7 @@ use Rattle.warc_commands.proofs.ReadLemmas.{opened, part_read, twice_at_most}
 use Rattle.warc_commands.proofs.extract.extract.Goals as goal
 
 pub returns-in-Err-clause-ends : goal.returns-in-Err-clause-ends
-returns-in-Err-clause-ends g c = inr (not_opened _ _ _ _ _ _ c.in-Err.fault _ c.in-Err.ensures c.tell_refusal.ensures.told c.tell_refusal.ensures.status)
+returns-in-Err-clause-ends g c = inr (not_opened _ _ _ _ _ _ c.in-Err.fault _ c.in-Err.ensures c.report_refusal.ensures.reported c.report_refusal.ensures.status)
 
 pub returns-clause-ends : goal.returns-clause-ends
 returns-clause-ends g c = inl (record {
@@ -16,14 +16,14 @@ returns-clause-ends g c = inl (record {
       record {
         rows = c.in-Ok.archive.listing.rows;
         is = archive.listed;
-        told = rw (← c.as_bytes.ensures.value) (c.extract-answer.ensures.extracts.told bytes (c.in-Ok.ensures.reads.kept ∙ held) archive);
+        reported = rw (← c.as_bytes.ensures.value) (c.extract-answer.ensures.extracts.reported bytes (c.in-Ok.ensures.reads.kept ∙ held) archive);
         source = failed_as (extract_result c.extract-answer.result) _ _ _ _ c.in-Ok.ensures.reads.cause (ap (λ s. (g.S.Source.seen s).faults) (sym c.into_source.ensures)) (c.extract-answer.ensures.extracts.fails.failed bytes (c.in-Ok.ensures.reads.kept ∙ held) archive);
       };
   silent = c.extract-answer.ensures.extracts.silent;
   source = may_have_failed_as (extract_result c.extract-answer.result) _ _ _ _ c.in-Ok.ensures.reads.cause (ap (λ s. (g.S.Source.seen s).faults) (sym c.into_source.ensures)) c.extract-answer.ensures.extracts.fails.may;
   failed = c.extract-answer.ensures.extracts.cause;
-  told = c.tell_extract.ensures.told;
-  status_is = c.tell_extract.ensures.status;
+  reported = c.report_extract.ensures.reported;
+  status_is = c.report_extract.ensures.status;
 })
 
 pub returns-in-Err-clause-reads : goal.returns-in-Err-clause-reads

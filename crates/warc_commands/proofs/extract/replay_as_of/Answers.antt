@@ -7,7 +7,7 @@ use Rattle.warc_commands.proofs.ReadLemmas.{opened, replay_read, thrice_at_most}
 use Rattle.warc_commands.proofs.extract.replay_as_of.Goals as goal
 
 pub returns-in-Err-clause-ends : goal.returns-in-Err-clause-ends
-returns-in-Err-clause-ends g c = inr (not_opened _ _ _ _ _ _ c.in-Err.fault _ c.in-Err.ensures c.tell_refusal.ensures.told c.tell_refusal.ensures.status)
+returns-in-Err-clause-ends g c = inr (not_opened _ _ _ _ _ _ c.in-Err.fault _ c.in-Err.ensures c.report_refusal.ensures.reported c.report_refusal.ensures.status)
 
 pub returns-clause-ends : goal.returns-clause-ends
 returns-clause-ends g c = inl (record {
@@ -17,14 +17,14 @@ returns-clause-ends g c = inl (record {
       record {
         records = contents archive.listed.are.records;
         are = good_records_of archive.listed;
-        told = c.replay-answer.ensures.replays.told bytes (c.in-Ok.ensures.reads.kept ∙ held) archive.listed archive.kept;
+        reported = c.replay-answer.ensures.replays.reported bytes (c.in-Ok.ensures.reads.kept ∙ held) archive.listed archive.kept;
         source = failed_as (out_result c.replay-answer.result) _ _ _ _ c.in-Ok.ensures.reads.cause (ap (λ s. (g.S.Source.seen s).faults) (sym c.into_source.ensures)) (c.replay-answer.ensures.replays.fails.failed bytes (c.in-Ok.ensures.reads.kept ∙ held) (archive.listed, archive.kept));
       };
   silent = c.replay-answer.ensures.replays.late.silent;
   source = may_have_failed_as (out_result c.replay-answer.result) _ _ _ _ c.in-Ok.ensures.reads.cause (ap (λ s. (g.S.Source.seen s).faults) (sym c.into_source.ensures)) c.replay-answer.ensures.replays.fails.may;
   failed = c.replay-answer.ensures.replays.late.cause;
-  told = c.tell_replay.ensures.told;
-  status_is = c.tell_replay.ensures.status;
+  reported = c.report_replay.ensures.reported;
+  status_is = c.report_replay.ensures.status;
 })
 
 pub returns-in-Err-clause-reads : goal.returns-in-Err-clause-reads

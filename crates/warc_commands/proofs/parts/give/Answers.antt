@@ -13,7 +13,7 @@ part_by part word n old new status same ends = let P : Option ℕ → Type 0 = �
 pub returns-in-Err-clause-ends : goal.returns-in-Err-clause-ends
 returns-in-Err-clause-ends g c =
     part_by c.args.part c.args.position.now c.in-Some.position _ _ _ (c.in-Some.ensures ∙ ap position_of c.as_bytes.ensures.value)
-    (inr (not_opened _ _ _ _ _ _ c.in-Err.fault _ c.in-Err.ensures c.tell_refusal.ensures.told c.tell_refusal.ensures.status))
+    (inr (not_opened _ _ _ _ _ _ c.in-Err.fault _ c.in-Err.ensures c.report_refusal.ensures.reported c.report_refusal.ensures.status))
 
 pub returns-clause-ends : goal.returns-clause-ends
 returns-clause-ends g c =
@@ -25,14 +25,14 @@ returns-clause-ends g c =
           record {
             rows = c.in-Ok.archive.rows;
             is = archive;
-            told = c.part_to-answer.ensures.gives.told bytes (c.in-Ok.ensures.reads.kept ∙ held) archive;
+            reported = c.part_to-answer.ensures.gives.reported bytes (c.in-Ok.ensures.reads.kept ∙ held) archive;
             source = failed_as (extract_result c.part_to-answer.result) _ _ _ _ c.in-Ok.ensures.reads.cause (ap (λ s. (g.S.Source.seen s).faults) (sym c.into_source.ensures)) (c.part_to-answer.ensures.gives.fails.failed bytes (c.in-Ok.ensures.reads.kept ∙ held) archive);
           };
       silent = c.part_to-answer.ensures.gives.silent;
       source = may_have_failed_as (extract_result c.part_to-answer.result) _ _ _ _ c.in-Ok.ensures.reads.cause (ap (λ s. (g.S.Source.seen s).faults) (sym c.into_source.ensures)) c.part_to-answer.ensures.gives.fails.may;
       failed = c.part_to-answer.ensures.gives.cause;
-      told = c.tell_extract.ensures.told;
-      status_is = c.tell_extract.ensures.status;
+      reported = c.report_extract.ensures.reported;
+      status_is = c.report_extract.ensures.status;
     }))
 
 pub returns-in_default-clause-reads : goal.returns-in_default-clause-reads

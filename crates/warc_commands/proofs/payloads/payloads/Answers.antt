@@ -5,12 +5,12 @@ use Rattle.warc_commands.proofs.ReadLemmas.{opened, replay_near}
 use Rattle.warc_commands.proofs.payloads.payloads.Goals as goal
 
 pub returns-in-Err-clause-ends : goal.returns-in-Err-clause-ends
-returns-in-Err-clause-ends g c = inr (inl (not_opened _ _ _ _ _ _ c.in-Err.fault _ c.in-Err.ensures c.tell_refusal.ensures.told c.tell_refusal.ensures.status))
+returns-in-Err-clause-ends g c = inr (inl (not_opened _ _ _ _ _ _ c.in-Err.fault _ c.in-Err.ensures c.report_refusal.ensures.reported c.report_refusal.ensures.status))
 
 pub returns-clause-ends : goal.returns-clause-ends
 returns-clause-ends g c =
     payloads_end _ _ c.payloads-judged.result _ _ _ _ _ _ _ _ _ c.in-Ok.ensures c.payloads-judged.ensures.judges c.payloads-judged.ensures.unchanged.0
-    (ap (λ s. (g.S.Source.seen s).faults) c.into_source.ensures) c.tell_payloads.ensures
+    (ap (λ s. (g.S.Source.seen s).faults) c.into_source.ensures) c.report_payloads.ensures
 
 pub returns-in-Err-clause-reads : goal.returns-in-Err-clause-reads
 returns-in-Err-clause-reads g c = (opened c.in-Err.ensures refl).near

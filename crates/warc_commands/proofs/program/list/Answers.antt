@@ -1,19 +1,19 @@
 use Rattle.std.proofs.Common.{inl, inr, refl, ap, ◌∙◌}
 use Rattle.warc_frame.specs.FaultText.{out_fault_text}
 use Rattle.warc_frame.specs.Send.{sent_of}
-use Rattle.warc_commands.specs.Program.{told_line}
-use Rattle.warc_commands.proofs.ProgramLemmas.{not_opened, told_as}
+use Rattle.warc_commands.specs.Program.{reported_line}
+use Rattle.warc_commands.proofs.ProgramLemmas.{not_opened, reported_as}
 use Rattle.warc_commands.proofs.ReadLemmas.{opened}
 use Rattle.warc_commands.proofs.program.list.Goals as goal
 
 pub returns-in-Err-clause-ends : goal.returns-in-Err-clause-ends
-returns-in-Err-clause-ends g c = inr (inl (not_opened _ _ _ _ _ _ c.in-Err.fault _ c.in-Err.ensures c.tell_refusal.ensures.told c.tell_refusal.ensures.status))
+returns-in-Err-clause-ends g c = inr (inl (not_opened _ _ _ _ _ _ c.in-Err.fault _ c.in-Err.ensures c.report_refusal.ensures.reported c.report_refusal.ensures.status))
 
 pub returns-in-Ok-list-clause-ends : goal.returns-in-Ok-list-clause-ends
 returns-in-Ok-list-clause-ends g c = inl (record {
   rows = c.in-Ok.listing.rows;
   are = c.in-Ok.ensures.accepted;
-  told = c.in-Ok-list.ensures.told;
+  reported = c.in-Ok-list.ensures.reported;
   unfailed = c.in-Ok-list.ensures.cause;
   sound = ap (λ s. (g.S.Source.seen s).faults) c.into_source.ensures ∙ c.in-Ok.ensures.reads.cause;
   silent = refl;
@@ -28,8 +28,8 @@ returns-in-Err-list-clause-ends g c = inr (inr (record {
   front = c.in-Err-list.ensures.cut;
   failed = c.in-Err-list.ensures.cause;
   sound = ap (λ s. (g.S.Source.seen s).faults) c.into_source-in-Err-list.ensures ∙ c.in-Ok.ensures.reads.cause;
-  told = told_as (ap (λ e. told_line (out_fault_text e)) c.in-Err-list.ensures.write) c.tell_cut.ensures.told;
-  status_is = c.tell_cut.ensures.status;
+  reported = reported_as (ap (λ e. reported_line (out_fault_text e)) c.in-Err-list.ensures.write) c.report_cut.ensures.reported;
+  status_is = c.report_cut.ensures.status;
 }))
 
 pub returns-in-Err-clause-reads : goal.returns-in-Err-clause-reads

@@ -4,14 +4,14 @@ use Rattle.warc_commands.proofs.ReadLemmas.{each_read, opened, twice_at_most}
 use Rattle.warc_commands.proofs.program.write_anew.Goals as goal
 
 pub returns-in-Err-clause-ends : goal.returns-in-Err-clause-ends
-returns-in-Err-clause-ends g c = inr (inl (not_opened _ _ _ _ _ _ c.in-Err.fault _ c.in-Err.ensures c.tell_refusal.ensures.told c.tell_refusal.ensures.status))
+returns-in-Err-clause-ends g c = inr (inl (not_opened _ _ _ _ _ _ c.in-Err.fault _ c.in-Err.ensures c.report_refusal.ensures.reported c.report_refusal.ensures.status))
 
 pub returns-in-Ok-write_as-clause-ends : goal.returns-in-Ok-write_as-clause-ends
 returns-in-Ok-write_as-clause-ends g c = inl (all_written c.in-Ok.ensures c.in-Ok-write_as.ensures.writes (ap (λ s. (g.S.Source.seen s).faults) c.into_source.ensures))
 
 pub returns-in-Err-write_as-clause-ends : goal.returns-in-Err-write_as-clause-ends
 returns-in-Err-write_as-clause-ends g c =
-    inr (inr (part_written c.in-Err-write_as.fault c.in-Ok.ensures c.in-Err-write_as.ensures.writes (ap (λ s. (g.S.Source.seen s).faults) c.into_source-in-Err-write_as.ensures) c.tell_cut.ensures.told c.tell_cut.ensures.status))
+    inr (inr (part_written c.in-Err-write_as.fault c.in-Ok.ensures c.in-Err-write_as.ensures.writes (ap (λ s. (g.S.Source.seen s).faults) c.into_source-in-Err-write_as.ensures) c.report_cut.ensures.reported c.report_cut.ensures.status))
 
 pub returns-in-Err-clause-reads : goal.returns-in-Err-clause-reads
 returns-in-Err-clause-reads g c = twice_at_most (opened c.in-Err.ensures refl)

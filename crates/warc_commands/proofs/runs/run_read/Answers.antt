@@ -26,7 +26,7 @@ returns-in-Err g c = record {
     source = c.in-Err.ensures.failed;
     unsent = c.in-Err.ensures.unsent;
     untouched = refl;
-    told = c.tell_cut.ensures.told;
-    status_is = c.tell_cut.ensures.status;
+    reported = c.report_cut.ensures.reported;
+    status_is = c.report_cut.ensures.status;
   });
 }

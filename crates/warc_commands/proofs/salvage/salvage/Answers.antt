@@ -5,11 +5,11 @@ use Rattle.warc_commands.proofs.salvage.salvage.Goals as goal
 
 pub returns-in-Ok-clause-ends : goal.returns-in-Ok-clause-ends
 returns-in-Ok-clause-ends g c = inl (salvaged _ _ _ _ _ _ _ _ _ _ _ c.open_front-listing.ensures c.in-Ok.bytes c.in-Ok.ensures.copies (ap (λ s. (g.S.Source.seen s).faults) c.into_source.ensures)
-    (amount_as _ _ _ _ _ _ _ c.count.ensures c.copy_to.ensures.rows c.tell_amount-status.ensures.told) c.tell_amount-status.ensures.status)
+    (amount_as _ _ _ _ _ _ _ c.count.ensures c.copy_to.ensures.rows c.report_amount-status.ensures.reported) c.report_amount-status.ensures.status)
 
 pub returns-in-Err-clause-ends : goal.returns-in-Err-clause-ends
 returns-in-Err-clause-ends g c = inr (salvage_cut _ _ _ _ _ _ _ _ _ _ _ c.open_front-listing.ensures c.in-Err.fault c.in-Err.ensures.copies (ap (λ s. (g.S.Source.seen s).faults) c.into_source-in-Err.ensures)
-    c.tell_cut.ensures.told c.tell_cut.ensures.status)
+    c.report_cut.ensures.reported c.report_cut.ensures.status)
 
 pub returns-in-Ok-clause-reads : goal.returns-in-Ok-clause-reads
 returns-in-Ok-clause-reads g c = front_read c.open_front-listing.ensures c.in-Ok.ensures.copies (ap (λ s. g.S.Source.seen s) c.into_source.ensures)

@@ -14,7 +14,7 @@ copying-preserved g c =
     let more = rw c.in-More.is at walks in
     record {
       room = omega (arith, c.copying.invariant.room, c.copy_run.auto.scratch);
-      has = copy_more _ _ _ _ _ _ _ _ _ _ _ _ _ _ _ _ _ _ has c.in-More.piece more.0 more.2 c.in_ok-copy_run-in-More.ensures.reads c.in_ok-copy_run-in-More.field-0 _ _ _ c.in_ok-copy_run-in-More.ensures.emits c.in_ok-copy_run-in-More.ensures.same.0 c.in_ok-copy_run-in-More.ensures.same.1 c.tell_damage.ensures;
+      has = copy_more _ _ _ _ _ _ _ _ _ _ _ _ _ _ _ _ _ _ has c.in-More.piece more.0 more.2 c.in_ok-copy_run-in-More.ensures.reads c.in_ok-copy_run-in-More.field-0 _ _ _ c.in_ok-copy_run-in-More.ensures.emits c.in_ok-copy_run-in-More.ensures.same.0 c.in_ok-copy_run-in-More.ensures.same.1 c.report_damage.ensures;
     }
 
 pub returns-in_err-copy_run-in-More : goal.returns-in_err-copy_run-in-More

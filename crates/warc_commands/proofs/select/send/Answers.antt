@@ -1,16 +1,16 @@
 use Rattle.std.proofs.Common.{length, inl, inr, refl}
 use Rattle.warc_commands.proofs.ChoiceLemmas.{fails_over, nothing_after}
-use Rattle.warc_commands.proofs.ProgramLemmas.{told_as}
+use Rattle.warc_commands.proofs.ProgramLemmas.{reported_as}
 use Rattle.warc_commands.proofs.select.send.Goals as goal
 
 pub returns-in-Ok-clause-ends : goal.returns-in-Ok-clause-ends
 returns-in-Ok-clause-ends g c = inl (record {
   size = c.selected_len-size.result;
-  told = λ bytes held is. c.in-Ok.ensures.selects.sends.out bytes _ held (is, refl);
+  reported = λ bytes held is. c.in-Ok.ensures.selects.sends.out bytes _ held (is, refl);
   size_is = λ bytes held is. c.selected_len-size.ensures bytes is;
   unfailed = c.in-Ok.ensures.selects.sends.cause;
   sound = c.in-Ok.ensures.selects.sends.fails.may;
-  reported = told_as (nothing_after (length c.args.positions.now) c.selected_len-size.result) c.tell_line.ensures;
+  printed = reported_as (nothing_after (length c.args.positions.now) c.selected_len-size.result) c.report_line.ensures;
   status_is = refl;
 })
 
@@ -21,6 +21,6 @@ returns-in-Err-clause-ends g c = inr (record {
   front = λ bytes held is. c.in-Err.ensures.selects.sends.cut bytes _ held (is, refl);
   fails = fails_over c.args.archive.now.rows c.args.positions.now c.in-Err.ensures.selects.sends.fails;
   failed = c.in-Err.ensures.selects.sends.cause;
-  told = c.tell_cut.ensures.told;
-  status_is = c.tell_cut.ensures.status;
+  reported = c.report_cut.ensures.reported;
+  status_is = c.report_cut.ensures.status;
 })

@@ -17,7 +17,7 @@ returns-in-Ok-clause-ends g c = λ indexed.
 
 pub returns-in-Err-clause-ends : goal.returns-in-Err-clause-ends
 returns-in-Err-clause-ends g c = λ indexed.
-    unclosed c.args.archive.now c.args.except c.args.positions.now c.close.ensures.closes indexed _ c.in-Err.is c.tell_cut.ensures.told c.tell_cut.ensures.status
+    unclosed c.args.archive.now c.args.except c.args.positions.now c.close.ensures.closes indexed _ c.in-Err.is c.report_cut.ensures.reported c.report_cut.ensures.status
 
 pub returns-in-Ok-clause-reads : goal.returns-in-Ok-clause-reads
 returns-in-Ok-clause-reads g c = heads_then c.args.archive.now c.args.except c.args.positions.now c.close.ensures.closes c.in-Ok.is _ c.deref.result.now _ c.close.ensures.rows c.deref.ensures.value c.send_closed.ensures.reads

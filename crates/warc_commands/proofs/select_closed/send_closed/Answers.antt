@@ -5,11 +5,11 @@ use Rattle.warc_commands.proofs.select_closed.send_closed.Goals as goal
 pub returns-in-Ok-clause-ends : goal.returns-in-Ok-clause-ends
 returns-in-Ok-clause-ends g c = inl (record {
   size = c.selected_len-size.result;
-  told = λ bytes held is. c.in-Ok.ensures.selects.sends.out bytes _ held (is, refl);
+  reported = λ bytes held is. c.in-Ok.ensures.selects.sends.out bytes _ held (is, refl);
   size_is = λ bytes held is. c.selected_len-size.ensures bytes is;
   unfailed = c.in-Ok.ensures.selects.sends.cause;
   sound = c.in-Ok.ensures.selects.sends.fails.may;
-  reported = c.tell_selected.ensures;
+  printed = c.report_selected.ensures;
   status_is = refl;
 })
 
@@ -20,6 +20,6 @@ returns-in-Err-clause-ends g c = inr (record {
   front = λ bytes held is. c.in-Err.ensures.selects.sends.cut bytes _ held (is, refl);
   fails = fails_over c.args.archive.now.listing.rows c.args.positions.now c.in-Err.ensures.selects.sends.fails;
   failed = c.in-Err.ensures.selects.sends.cause;
-  told = c.tell_cut.ensures.told;
-  status_is = c.tell_cut.ensures.status;
+  reported = c.report_cut.ensures.reported;
+  status_is = c.report_cut.ensures.status;
 })

@@ -17,7 +17,7 @@ returns-in-Ok-split-clause-ends g c =
 pub returns-in-Err-split-clause-ends : goal.returns-in-Err-split-clause-ends
 returns-in-Err-split-clause-ends g c =
     split_by c.args.size.now c.in-Some.size _ _ _ (c.in-Some.ensures ∙ ap size_of c.as_bytes.ensures.value)
-    (inr (inr (part_written c.in-Err-split.fault c.in-Ok.ensures c.in-Err-split.ensures.writes (ap (λ s. (g.S.Source.seen s).faults) c.into_source-in-Err-split.ensures) c.tell_cut.ensures.told c.tell_cut.ensures.status)))
+    (inr (inr (part_written c.in-Err-split.fault c.in-Ok.ensures c.in-Err-split.ensures.writes (ap (λ s. (g.S.Source.seen s).faults) c.into_source-in-Err-split.ensures) c.report_cut.ensures.reported c.report_cut.ensures.status)))
 
 pub returns-in_default-clause-reads : goal.returns-in_default-clause-reads
 returns-in_default-clause-reads g c = four_times_at_most (unread _)

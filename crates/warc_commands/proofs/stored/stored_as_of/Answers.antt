@@ -7,13 +7,13 @@ use Rattle.warc_commands.proofs.StoredLemmas.{chosen_of_bytes, stored_given}
 use Rattle.warc_commands.proofs.stored.stored_as_of.Goals as goal
 
 pub returns-in-Err-clause-ends : goal.returns-in-Err-clause-ends
-returns-in-Err-clause-ends g c = inr (not_opened _ _ _ _ _ _ c.in-Err.fault _ c.in-Err.ensures c.tell_refusal.ensures.told c.tell_refusal.ensures.status)
+returns-in-Err-clause-ends g c = inr (not_opened _ _ _ _ _ _ c.in-Err.fault _ c.in-Err.ensures c.report_refusal.ensures.reported c.report_refusal.ensures.status)
 
 pub returns-in-Ok-chosen-clause-ends : goal.returns-in-Ok-chosen-clause-ends
 returns-in-Ok-chosen-clause-ends g c = inl (record {
   found = Ok c.in-Ok-chosen.position;
   is = chosen_of_bytes c.args.uri.now c.args.moment.now _ c.in-Ok.ensures c.in-Ok-chosen.ensures;
-  ends = stored_given c.in-Ok-chosen.position (answer_seen c.stored_to-answer.result) c.in-Ok.ensures c.stored_to-answer.ensures.gives (ap (λ s. g.S.Source.seen s) c.into_source.ensures) c.tell_stored.ensures.told c.tell_stored.ensures.status;
+  ends = stored_given c.in-Ok-chosen.position (answer_seen c.stored_to-answer.result) c.in-Ok.ensures c.stored_to-answer.ensures.gives (ap (λ s. g.S.Source.seen s) c.into_source.ensures) c.report_stored.ensures.reported c.report_stored.ensures.status;
 })
 
 pub returns-in-Err-chosen-clause-ends : goal.returns-in-Err-chosen-clause-ends
@@ -23,8 +23,8 @@ returns-in-Err-chosen-clause-ends g c = inl (record {
   ends = record {
     sound = ap (λ s. (g.S.Source.seen s).faults) c.into_source-in-Err-chosen.ensures ∙ c.in-Ok.ensures.reads.cause;
     untouched = refl;
-    told = c.tell_replay-status.ensures.told;
-    status_is = c.tell_replay-status.ensures.status;
+    reported = c.report_replay-status.ensures.reported;
+    status_is = c.report_replay-status.ensures.status;
   };
 })
 

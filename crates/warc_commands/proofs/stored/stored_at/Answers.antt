@@ -7,11 +7,11 @@ use Rattle.warc_commands.proofs.StoredLemmas.{stored_given}
 use Rattle.warc_commands.proofs.stored.stored_at.Goals as goal
 
 pub returns-in-Err-clause-ends : goal.returns-in-Err-clause-ends
-returns-in-Err-clause-ends g c = inr (not_opened _ _ _ _ _ _ c.in-Err.fault _ c.in-Err.ensures c.tell_refusal.ensures.told c.tell_refusal.ensures.status)
+returns-in-Err-clause-ends g c = inr (not_opened _ _ _ _ _ _ c.in-Err.fault _ c.in-Err.ensures c.report_refusal.ensures.reported c.report_refusal.ensures.status)
 
 pub returns-clause-ends : goal.returns-clause-ends
 returns-clause-ends g c =
-    inl (stored_given c.args.position (answer_seen c.stored_to-answer.result) c.in-Ok.ensures c.stored_to-answer.ensures.gives (ap (λ s. g.S.Source.seen s) c.into_source.ensures) c.tell_stored.ensures.told c.tell_stored.ensures.status)
+    inl (stored_given c.args.position (answer_seen c.stored_to-answer.result) c.in-Ok.ensures c.stored_to-answer.ensures.gives (ap (λ s. g.S.Source.seen s) c.into_source.ensures) c.report_stored.ensures.reported c.report_stored.ensures.status)
 
 pub returns-in-Err-clause-reads : goal.returns-in-Err-clause-reads
 returns-in-Err-clause-reads g c = thrice_at_most (opened c.in-Err.ensures refl)

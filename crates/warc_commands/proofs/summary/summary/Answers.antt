@@ -1,13 +1,13 @@
 use Rattle.std.proofs.Common.{inl, inr, refl, ap, ◌∙◌}
 use Rattle.warc_frame.specs.FaultText.{out_fault_text}
 use Rattle.warc_frame.specs.Send.{sent_of}
-use Rattle.warc_commands.specs.Program.{told_line}
-use Rattle.warc_commands.proofs.ProgramLemmas.{not_opened, told_as}
+use Rattle.warc_commands.specs.Program.{reported_line}
+use Rattle.warc_commands.proofs.ProgramLemmas.{not_opened, reported_as}
 use Rattle.warc_commands.proofs.ReadLemmas.{opened}
 use Rattle.warc_commands.proofs.summary.summary.Goals as goal
 
 pub returns-in-Err-clause-ends : goal.returns-in-Err-clause-ends
-returns-in-Err-clause-ends g c = inr (inl (not_opened _ _ _ _ _ _ c.in-Err.fault _ c.in-Err.ensures c.tell_refusal.ensures.told c.tell_refusal.ensures.status))
+returns-in-Err-clause-ends g c = inr (inl (not_opened _ _ _ _ _ _ c.in-Err.fault _ c.in-Err.ensures c.report_refusal.ensures.reported c.report_refusal.ensures.status))
 
 pub returns-in-Ok-write-clause-ends : goal.returns-in-Ok-write-clause-ends
 returns-in-Ok-write-clause-ends g c = inl (record {
@@ -16,7 +16,7 @@ returns-in-Ok-write-clause-ends g c = inl (record {
   are = c.in-Ok.ensures.accepted;
   summary = c.summary.result;
   is = c.summary.ensures;
-  told = c.in-Ok-write.ensures.told;
+  reported = c.in-Ok-write.ensures.reported;
   unfailed = c.in-Ok-write.ensures.cause;
   sound = ap (λ s. (g.S.Source.seen s).faults) c.into_source.ensures ∙ c.in-Ok.ensures.reads.cause;
   silent = refl;
@@ -34,8 +34,8 @@ returns-in-Err-write-clause-ends g c = inr (inr (record {
   front = c.in-Err-write.ensures.cut;
   failed = c.in-Err-write.ensures.cause;
   sound = ap (λ s. (g.S.Source.seen s).faults) c.into_source-in-Err-write.ensures ∙ c.in-Ok.ensures.reads.cause;
-  told = told_as (ap (λ e. told_line (out_fault_text e)) c.in-Err-write.ensures.write) c.tell_cut.ensures.told;
-  status_is = c.tell_cut.ensures.status;
+  reported = reported_as (ap (λ e. reported_line (out_fault_text e)) c.in-Err-write.ensures.write) c.report_cut.ensures.reported;
+  status_is = c.report_cut.ensures.status;
 }))
 
 pub returns-in-Err-clause-reads : goal.returns-in-Err-clause-reads

@@ -7,14 +7,14 @@ use Rattle.warc_commands.proofs.ReadLemmas.{opened, replay_near}
 use Rattle.warc_commands.proofs.survey.survey.Goals as goal
 
 pub returns-in-Err-clause-ends : goal.returns-in-Err-clause-ends
-returns-in-Err-clause-ends g c = inr (inl (not_opened _ _ _ _ _ _ c.in-Err.fault _ c.in-Err.ensures c.tell_refusal.ensures.told c.tell_refusal.ensures.status))
+returns-in-Err-clause-ends g c = inr (inl (not_opened _ _ _ _ _ _ c.in-Err.fault _ c.in-Err.ensures c.report_refusal.ensures.reported c.report_refusal.ensures.status))
 
 pub returns-in-Ok-write-clause-ends : goal.returns-in-Ok-write-clause-ends
 returns-in-Ok-write-clause-ends g c =
     let opened = c.in-Ok.ensures in
     let writes = c.in-Ok-write.ensures.writes in
     inl (record {
-      is = λ bytes held. let is = opened.accepted bytes held in writes.told bytes (opened.reads.kept ∙ held) is.listed is.kept;
+      is = λ bytes held. let is = opened.accepted bytes held in writes.reported bytes (opened.reads.kept ∙ held) is.listed is.kept;
       unfailed = writes.cause;
       sound = ap (λ s. (g.S.Source.seen s).faults) c.into_source.ensures ∙ writes.fails.may ∙ opened.reads.cause;
       silent = refl;
@@ -36,8 +36,8 @@ returns-in-Err-write-clause-ends g c =
             has_failed c.in-Err-write.fault _ _ _ _ opened.reads.cause (sym same) (fails.failed bytes (opened.reads.kept ∙ held) (is.listed, is.kept.found));
       };
       failed = writes.cause;
-      told = c.tell_cut.ensures.told;
-      status_is = c.tell_cut.ensures.status;
+      reported = c.report_cut.ensures.reported;
+      status_is = c.report_cut.ensures.status;
     }))
 
 pub returns-in-Err-clause-reads : goal.returns-in-Err-clause-reads

@@ -9,4 +9,4 @@ returns-in-Ok-clause-ends g c =
 
 pub returns-in-Err-clause-ends : goal.returns-in-Err-clause-ends
 returns-in-Err-clause-ends g c =
-    uri_refused (ReplayedAs c.args.as_of.stored c.args.as_of.date.now) _ c.in-Err.fault _ _ _ _ _ (λ same. c.in-Err.ensures.bad (ap Err same)) c.tell_fault.ensures.told c.tell_fault.ensures.status
+    uri_refused (ReplayedAs c.args.as_of.stored c.args.as_of.date.now) _ c.in-Err.fault _ _ _ _ _ (λ same. c.in-Err.ensures.bad (ap Err same)) c.report_fault.ensures.reported c.report_fault.ensures.status

@@ -19,7 +19,7 @@ asking-preserved g c = record {
   sound = c.in_ok-has_byte_at.ensures.failed ∙ c.asking.invariant.sound;
   asked = asked_more c.asking.at c.asking.at _ _ (g.S.Source.seen c.has_byte_at.new.source) _ c.asking.invariant.asked c.has_byte_at.ensures.read (omega arith) (omega (arith, c.asking-test.true))
       (c.asking.at * 2) refl c.asking.invariant.some
-      (λ bytes held. ltb-true _ _ (sym (c.in_ok-has_byte_at.ensures.stands bytes (c.asking.invariant.kept ∙ held)) ∙ c.if-not-branch.false));
+      (λ bytes held. ltb-true _ _ (sym (c.in_ok-has_byte_at.ensures.is_present bytes (c.asking.invariant.kept ∙ held)) ∙ c.if-not-branch.false));
 }
 
 pub returns-clause-reads : goal.returns-clause-reads

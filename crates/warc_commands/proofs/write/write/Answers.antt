@@ -2,9 +2,9 @@ use Rattle.std.proofs.Common.{inl, inr, is_none, refl, sym, ap, ◌∙◌}
 use Rattle.std.proofs.lemmas.Bool.{ltb-true}
 use Rattle.warc_frame.specs.FaultText.{out_fault_text}
 use Rattle.warc_frame.specs.Send.{sent_of}
-use Rattle.warc_commands.specs.Program.{told_line}
+use Rattle.warc_commands.specs.Program.{reported_line}
 use Rattle.warc_commands.proofs.MakingLemmas.{refused, some_of}
-use Rattle.warc_commands.proofs.ProgramLemmas.{told_as}
+use Rattle.warc_commands.proofs.ProgramLemmas.{reported_as}
 use Rattle.warc_commands.proofs.write.write.Goals as goal
 
 pub returns-in-Ok-None-clause-ends : goal.returns-in-Ok-None-clause-ends
@@ -14,8 +14,8 @@ returns-in-Ok-None-clause-ends g c = inr (inl (record {
       refused c.refusal_of.result _ (c.refusal_of.ensures bytes (ltb-true _ _ (sym (c.in-Ok-None.ensures.long bytes held) ∙ ap is_none c.in-Ok-None.field-0-is)));
   sound = c.in-Ok-None.ensures.failed;
   untouched = refl;
-  told = c.tell_unmade.ensures.told;
-  status_is = c.tell_unmade.ensures.status;
+  reported = c.report_unmade.ensures.reported;
+  status_is = c.report_unmade.ensures.status;
 }))
 
 pub returns-in-Err-make_by-clause-ends : goal.returns-in-Err-make_by-clause-ends
@@ -24,8 +24,8 @@ returns-in-Err-make_by-clause-ends g c = inr (inl (record {
   is = λ bytes held. c.in-Err-make_by.ensures bytes (c.deref.ensures.value ∙ some_of _ c.in-Ok-Some.field-0-is (c.in-Ok-Some.ensures.bytes bytes held));
   sound = c.in-Ok-Some.ensures.failed;
   untouched = refl;
-  told = c.tell_unmade-in-Err-make_by.ensures.told;
-  status_is = c.tell_unmade-in-Err-make_by.ensures.status;
+  reported = c.report_unmade-in-Err-make_by.ensures.reported;
+  status_is = c.report_unmade-in-Err-make_by.ensures.status;
 }))
 
 pub returns-in-Ok-render_one-clause-ends : goal.returns-in-Ok-render_one-clause-ends
@@ -33,7 +33,7 @@ returns-in-Ok-render_one-clause-ends g c = inl (record {
   is = λ bytes held. record {
     content = c.in-Ok.framed;
     is = c.in-Ok.ensures bytes (c.deref.ensures.value ∙ some_of _ c.in-Ok-Some.field-0-is (c.in-Ok-Some.ensures.bytes bytes held));
-    told = c.in-Ok-render_one.ensures.told;
+    reported = c.in-Ok-render_one.ensures.reported;
   };
   unfailed = c.in-Ok-render_one.ensures.cause;
   sound = c.in-Ok-Some.ensures.failed;
@@ -51,6 +51,6 @@ returns-clause-ends g c = inr (inr (inr (record {
   };
   failed = c.in-Err-render_one.ensures.cause;
   sound = c.in-Ok-Some.ensures.failed;
-  told = told_as (ap (λ e. told_line (out_fault_text e)) c.in-Err-render_one.ensures.write) c.tell_cut-in-Err-render_one.ensures.told;
-  status_is = c.tell_cut-in-Err-render_one.ensures.status;
+  reported = reported_as (ap (λ e. reported_line (out_fault_text e)) c.in-Err-render_one.ensures.write) c.report_cut-in-Err-render_one.ensures.reported;
+  status_is = c.report_cut-in-Err-render_one.ensures.status;
 })))

@@ -1,5 +1,5 @@
 use Rattle.std.proofs.Common.{List, Ok, Err, Result, sym, ◌∙◌, ℕ}
-use Rattle.warc_field.specs.Area.{Pair, Reads, SpellsFields, TellsBadLine, area_of}
+use Rattle.warc_field.specs.Area.{Pair, Reads, SpellsFields, ReportsBadLine, area_of}
 use Rattle.warc_field.specs.declared.area.AreaFault.{AreaFault}
 use Rattle.warc_field.specs.declared.area.AreaFault.TheVariants.{Line, Memory}
 use Rattle.warc_field.proofs.FaultLemmas.{read-first_bad_line}
@@ -16,7 +16,7 @@ only_at (Ok x) area fields h spells = sym (area-reads area fields spells) ∙ h
 only_at (Err Memory) area fields h spells = tt
 only_at (Err (Line at)) area fields h spells = sym (area-reads area fields spells) ∙ h
 
-bad_at : (r : Result (List Pair) AreaFault) (area : List ℕ) → Reads (λ f. f) r (area_of area) → IfErr r (TellsBadLine area)
+bad_at : (r : Result (List Pair) AreaFault) (area : List ℕ) → Reads (λ f. f) r (area_of area) → IfErr r (ReportsBadLine area)
 bad_at (Ok fields) area h = tt
 bad_at (Err Memory) area h = tt
 bad_at (Err (Line at)) area h = read-first_bad_line area at h

@@ -1,5 +1,5 @@
 use Rattle.std.proofs.Common.{◌≡◌, ℕ, ◌+◌, ◌-◌, ◌++◌, length, sym, ap, ◌∙◌, arith, add-zero, Some}
-use Rattle.warc_frame.proofs.StreamEnds.{none_in_front, found_behind, first_in_piece, none_in_piece}
+use Rattle.warc_frame.proofs.StreamEnds.{none_in_front, found_after, first_in_piece, none_in_piece}
 use Rattle.warc_frame.proofs.EmptyLineLemmas.{empty-len}
 use Rattle.warc_frame.proofs.ends.find_end.Goals as goal
 
@@ -10,7 +10,7 @@ pub returns-then-ends_at-clause-end : goal.returns-then-ends_at-clause-end
 returns-then-ends_at-clause-end c =
     let n : ℕ = length c.args.kept.now in
     let i : ℕ = c.loop-place.place in
-    (found_behind (c.args.kept.now ++ c.args.piece.now) (n + i) c.loop-place.invariant (sym c.ends_at.ensures ∙ c.if-ends_at.true)).1
+    (found_after (c.args.kept.now ++ c.args.piece.now) (n + i) c.loop-place.invariant (sym c.ends_at.ensures ∙ c.if-ends_at.true)).1
     ∙ ap Some (let e : n + i + 1 - 4 ≡ n + (i + 1) - 4 = omega arith in e)
 
 pub returns-in_err-place-clause-end : goal.returns-in_err-place-clause-end

@@ -1,5 +1,5 @@
 use Rattle.std.proofs.Common.{◌-◌, ap, arith, drop, length-drop, length-take, subst}
-use Rattle.warc_field.specs.Area.{TellsWithin}
+use Rattle.warc_field.specs.Area.{ReportsWithin}
 use Rattle.warc_frame.specs.declared.fault.Fault.{Fault}
 use Rattle.warc_frame.proofs.HeadLemmas.{head_room, head_within}
 use Rattle.warc_frame.proofs.LengthLemmas.{spelled_head}
@@ -20,7 +20,7 @@ slice_bounds-read_area_in-end g c = omega (arith, head_within _ _ c.requires.len
 pub returns-in-Err-Line-clause-by : goal.returns-in-Err-Line-clause-by
 returns-in-Err-Line-clause-by g c =
     let text = c.args.text.now in
-    let within = subst (TellsWithin _) c.in-Err-Line.field-0-is c.in-Err-Line.ensures.within in
+    let within = subst (ReportsWithin _) c.in-Err-Line.field-0-is c.in-Err-Line.ensures.within in
     let offset = ap (λ (f : Fault). f.offset) c.at.ensures in
     omega (
       arith,

@@ -43,7 +43,7 @@ pub returns-in_err-finish-clause-fault : goal.returns-in_err-finish-clause-fault
 returns-in_err-finish-clause-fault g c =
     let p = err_from_is_err_and c.from_residual-in_err-finish.result c.from_residual-in_err-finish.ensures.1 in
     let done : List ℕ = flat_map (λ p. p.now) (take c.loop-piece.piece-index c.args.pieces.now) in
-    let f = c.in_err-finish.ensures.history c.args.at done c.loop-piece.kept.told c.loop-piece.invariant.is_at in
+    let f = c.in_err-finish.ensures.history c.args.at done c.loop-piece.kept.reported c.loop-piece.invariant.is_at in
     let P : List ℕ → Type 0 = λ x. IsFrameFault c.args.at x c.in_err-finish.field-0.0 in
     rw (p.1, p.2) (λ other. subst P (joined_all (λ p. p.now) c.args.pieces.now c.loop-piece.piece-index (omega (arith, c.loop-piece-test.false))) f.1)
 
@@ -51,14 +51,14 @@ pub returns-in_err-finish-clause-memory : goal.returns-in_err-finish-clause-memo
 returns-in_err-finish-clause-memory g c =
     let p = err_from_is_err_and c.from_residual-in_err-finish.result c.from_residual-in_err-finish.ensures.1 in
     let done : List ℕ = flat_map (λ p. p.now) (take c.loop-piece.piece-index c.args.pieces.now) in
-    let f = c.in_err-finish.ensures.history c.args.at done c.loop-piece.kept.told c.loop-piece.invariant.is_at in
+    let f = c.in_err-finish.ensures.history c.args.at done c.loop-piece.kept.reported c.loop-piece.invariant.is_at in
     rw (p.1, p.2) (λ is. absurd (cut_off (sym (ap (λ (x : Fault). x.kind) f.0) ∙ is)))
 
 pub returns-clause-spelled : goal.returns-clause-spelled
 returns-clause-spelled g c =
     let done : List ℕ = flat_map (λ p. p.now) (take c.loop-piece.piece-index c.args.pieces.now) in
-    let f = c.in_ok-finish.ensures.history c.args.at done c.loop-piece.kept.told c.loop-piece.invariant.is_at in
-    let same = ap (λ (x : Keeping). x.told.records) c.kept-2.view_is in
+    let f = c.in_ok-finish.ensures.history c.args.at done c.loop-piece.kept.reported c.loop-piece.invariant.is_at in
+    let same = ap (λ (x : Keeping). x.reported.records) c.kept-2.view_is in
     let P : List ℕ → Type 0 = λ x. SpellsAll c.kept-2.inside.records.items x in
     let Q : List Record → Type 0 = λ x. SpellsAll x done in
     subst P (joined_all (λ p. p.now) c.args.pieces.now c.loop-piece.piece-index (omega (arith, c.loop-piece-test.false))) (subst Q (sym same) f.1)
@@ -66,8 +66,8 @@ returns-clause-spelled g c =
 pub returns-clause-only : goal.returns-clause-only
 returns-clause-only g c =
     let done : List ℕ = flat_map (λ p. p.now) (take c.loop-piece.piece-index c.args.pieces.now) in
-    let f = c.in_ok-finish.ensures.history c.args.at done c.loop-piece.kept.told c.loop-piece.invariant.is_at in
-    let same = ap (λ (x : Keeping). x.told.records) c.kept-2.view_is in
+    let f = c.in_ok-finish.ensures.history c.args.at done c.loop-piece.kept.reported c.loop-piece.invariant.is_at in
+    let same = ap (λ (x : Keeping). x.reported.records) c.kept-2.view_is in
     let P : List ℕ → Type 0 = λ x. SpellsAll c.kept-2.inside.records.items x in
     let Q : List Record → Type 0 = λ x. SpellsAll x done in
     let spelled = subst P (joined_all (λ p. p.now) c.args.pieces.now c.loop-piece.piece-index (omega (arith, c.loop-piece-test.false))) (subst Q (sym same) f.1) in

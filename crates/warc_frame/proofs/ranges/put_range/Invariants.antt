@@ -9,8 +9,8 @@ abbrev pub invariant-copying : goal.invariant-copying
 invariant-copying g l = record {
   within : l.done ≤ l.len;
   staged : (bytes : List ℕ) (start : Option (List ℕ)) (output : List ℕ) → (g.S.Source.seen l.fn.source).holds ≡ Some bytes
-      → IsStaged start output ((g.W.Sink.seen l.fn.out).tells) l.fn.buffer
-      → IsStaged start (output ++ take l.done (drop l.at bytes)) ((g.W.Sink.seen l.out).tells) l.buffer;
+      → IsStaged start output ((g.W.Sink.seen l.fn.out).reports) l.fn.buffer
+      → IsStaged start (output ++ take l.done (drop l.at bytes)) ((g.W.Sink.seen l.out).reports) l.buffer;
   read : ReadsOnly (IsInRange l.at l.len) l.done
       (g.S.Source.seen l.fn.source)
       (g.S.Source.seen l.source);

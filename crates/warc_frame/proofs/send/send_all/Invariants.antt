@@ -5,7 +5,7 @@ use Rattle.warc_frame.proofs.send.send_all.Given as goal
 abbrev pub invariant-writing : goal.invariant-writing
 invariant-writing g l = record {
   within : l.sent ≤ length l.piece;
-  told : (g.W.Sink.seen l.out).tells ≡ append_known ((g.W.Sink.seen l.fn.out).tells) (take l.sent l.piece);
+  reported : (g.W.Sink.seen l.out).reports ≡ append_known ((g.W.Sink.seen l.fn.out).reports) (take l.sent l.piece);
   sound : (g.W.Sink.seen l.out).faults ≡ (g.W.Sink.seen l.fn.out).faults;
 }
 

@@ -1,6 +1,6 @@
 use Rattle.std.proofs.Common.{◌∙◌, ap, filter, refl}
 use Rattle.std.specs.Prelude.{nat_lt}
-use Rattle.warc_index.specs.Kept.{key_entry}
+use Rattle.warc_index.specs.Addition.{key_entry}
 use Rattle.warc_index.proofs.KeptLemmas.{entry_taken_back}
 use Rattle.warc_index.proofs.addition.add_entries.Goals as goal
 

@@ -6,7 +6,7 @@ use Rattle.warc_lent.proofs.texts.check_text.Goals as goal
 pub returns-clause-findings : goal.returns-clause-findings
 returns-clause-findings g c = λ bytes held is.
     c.into_inner.ensures
-    ∙ taken_whole c.check.new.out.bytes c.new-lines.result.bytes _ (c.in_ok-check.ensures.checks.told bytes held is)
+    ∙ taken_whole c.check.new.out.bytes c.new-lines.result.bytes _ (c.in_ok-check.ensures.checks.reported bytes held is)
     (c.new-lines.ensures.bytes ∙ c.new.ensures.items)
 
 pub returns-in_err-check-clause-fails : goal.returns-in_err-check-clause-fails

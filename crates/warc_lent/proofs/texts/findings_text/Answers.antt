@@ -19,6 +19,6 @@ returns-clause-lines g c =
       is = is.listed;
       lines =
           c.into_inner.ensures
-          ∙ taken_whole c.check.new.out.bytes c.new-lines.result.bytes _ (c.in_ok-check.ensures.tells c.args.bytes.now is).told
+          ∙ taken_whole c.check.new.out.bytes c.new-lines.result.bytes _ (c.in_ok-check.ensures.reports c.args.bytes.now is).reported
           (c.new-lines.ensures.bytes ∙ c.new-2.ensures.items);
     }

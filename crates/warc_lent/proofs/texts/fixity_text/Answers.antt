@@ -18,6 +18,6 @@ returns-clause-lines g c = record {
   are = c.in-Ok.ensures.accepted c.args.bytes.now (ap Some c.new.ensures.bytes);
   lines =
       c.into_inner.ensures
-      ∙ taken_whole c.list.new.out.bytes c.new-lines.result.bytes _ c.in_ok-list.ensures.told
+      ∙ taken_whole c.list.new.out.bytes c.new-lines.result.bytes _ c.in_ok-list.ensures.reported
       (c.new-lines.ensures.bytes ∙ c.new-2.ensures.items);
 }

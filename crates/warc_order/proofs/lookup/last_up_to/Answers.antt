@@ -26,7 +26,7 @@ returns-in-Some-clause-within g c =
     (c.in-Some.ensures.some (slot_order c.args.entries.now) (slot_order_total c.args.entries.now)
     c.requires.order.ranked) in
     rw c.found_at.ensures (slot_in_order c.args.entries.now c.args.ranked.now.list c.in-Some.s.slot
-    c.requires.order found.stands).index
+    c.requires.order found.is_present).index
 
 pub returns-in-Some-clause-some : goal.returns-in-Some-clause-some
 returns-in-Some-clause-some g c =

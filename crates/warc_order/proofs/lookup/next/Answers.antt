@@ -17,7 +17,7 @@ returns-in-Some-clause-within g c =
     subst (λ s. IsFirstOf (slot_order c.args.entries.now) (λ f. is_le (slot_order c.args.entries.now f s))
     c.args.ranked.now.list c.in-Some.s.slot) c.slot_of.ensures c.in-Some.ensures.some in
     rw c.found_at.ensures (slot_in_order c.args.entries.now c.args.ranked.now.list c.in-Some.s.slot
-    c.requires.order.order found.stands).index
+    c.requires.order.order found.is_present).index
 
 pub returns-in-Some-clause-some : goal.returns-in-Some-clause-some
 returns-in-Some-clause-some g c =

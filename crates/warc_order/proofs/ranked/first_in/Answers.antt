@@ -5,6 +5,6 @@ use Rattle.warc_order.proofs.ranked.first_in.Goals as goal
 
 pub returns : goal.returns
 returns g c =
-    c.slot_behind.ensures
+    c.next_slot.ensures
     ∙ sym (find-end (g.T.SlotTest.passes c.args.test.now) (flattened (lists_of c.args.blocks.now)) _
     c.find_place-place.ensures.point)

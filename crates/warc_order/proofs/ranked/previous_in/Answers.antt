@@ -4,14 +4,14 @@ use Rattle.warc_order.specs.Ranking.{lists_of}
 use Rattle.warc_order.proofs.StepLemmas.{previous_found}
 use Rattle.warc_order.proofs.ranked.previous_in.Goals as goal
 
-pub returns-then-stands_at : goal.returns-then-stands_at
-returns-then-stands_at g c =
+pub returns-then-is_slot_at : goal.returns-then-is_slot_at
+returns-then-is_slot_at g c =
     let n : length (lists_of c.args.blocks.now) ≡ length c.args.blocks.now = length-map _ _ in
     c.slot_before.ensures
     ∙ previous_found (g.O.SlotOrder.compare c.args.order.now) (g.met.O.SlotOrder.total c.args.order.now) (lists_of
     c.args.blocks.now) c.args.place.block c.args.place.offset c.args.slot c.requires.strict (omega (
       arith,
       n,
-      (c.stands_at.ensures.block c.if-stands_at.true),
-    )) (c.stands_at.ensures.offset c.if-stands_at.true)
-    (c.stands_at.ensures.slot c.if-stands_at.true)
+      (c.is_slot_at.ensures.block c.if-is_slot_at.true),
+    )) (c.is_slot_at.ensures.offset c.if-is_slot_at.true)
+    (c.is_slot_at.ensures.slot c.if-is_slot_at.true)

@@ -12,8 +12,8 @@ overflow_sub-offset g c =
     somes c.args.blocks.now c.requires.blocks (c.args.place.block - 1) (omega arith) in
     omega (arith, c.length_of-offset.ensures)
 
-pub standing_at-requires-then-place-gt0-2-clause-offset : goal.standing_at-requires-then-place-gt0-2-clause-offset
-standing_at-requires-then-place-gt0-2-clause-offset g c =
+pub slot_at-requires-then-place-gt0-2-clause-offset : goal.slot_at-requires-then-place-gt0-2-clause-offset
+slot_at-requires-then-place-gt0-2-clause-offset g c =
     let some : 0 < length (slice_index_or (lists_of c.args.blocks.now) (c.args.place.block - 1) []) =
     somes c.args.blocks.now c.requires.blocks (c.args.place.block - 1) (omega arith) in
     omega (arith, c.length_of-offset.ensures)
@@ -25,7 +25,7 @@ returns-then-place-gt0 g c =
     let o : ℕ = c.args.place.offset in
     let at : start_of (lists_of c.args.blocks.now) b + o ≡ suc (start_of (lists_of c.args.blocks.now) b + (o - 1)) =
     omega arith in
-    ap Some c.standing_at.ensures
+    ap Some c.slot_at.ensures
     ∙ sym (ap (before_in (flattened (lists_of c.args.blocks.now))) at
     ∙ some_at (lists_of c.args.blocks.now) b (o - 1) (omega (arith, n)) (omega arith))
 
@@ -39,7 +39,7 @@ returns-then-place-gt0-2 g c =
     let last : ℕ = length (slice_index_or (lists_of c.args.blocks.now) (b - 1) []) - 1 in
     let at : start_of (lists_of c.args.blocks.now) b + o ≡ suc (start_of (lists_of c.args.blocks.now) (b - 1) + last) =
     end_before (lists_of c.args.blocks.now) b o (omega arith) (omega (arith, n)) (omega arith) some in
-    ap Some (c.standing_at-then-place-gt0-2.ensures ∙ ap (λ m. slice_index_or (slice_index_or (lists_of
+    ap Some (c.slot_at-then-place-gt0-2.ensures ∙ ap (λ m. slice_index_or (slice_index_or (lists_of
     c.args.blocks.now) (b - 1) []) (m - 1) blank) c.length_of-offset.ensures)
     ∙ sym (ap (before_in (flattened (lists_of c.args.blocks.now))) at
     ∙ some_at (lists_of c.args.blocks.now) (b - 1) last (omega (arith, n)) (omega arith))

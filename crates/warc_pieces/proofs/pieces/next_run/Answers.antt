@@ -6,11 +6,11 @@ use Rattle.warc_pieces.proofs.ReaderLemmas.{advances_by, end_few, end_given, few
 use Rattle.warc_pieces.proofs.pieces.next_run.Goals as goal
 
 pub returns-in_default-clause-gives : goal.returns-in_default-clause-gives
-returns-in_default-clause-gives g c = λ bytes held stands.
+returns-in_default-clause-gives g c = λ bytes held is_present.
     let run = c.read_run-count.result in
-    let (shows, read) = c.read_run-count.ensures.run bytes held stands.shows stands.within in
+    let (shows, read) = c.read_run-count.ensures.run bytes held is_present.shows is_present.within in
     end_given bytes c.args.walk.now.at run.count run.len run.end c.args.walk.now.failure c.read_run-count.new.window c.run_piece-piece.result c.requires.sound
-    c.in_default.is shows c.requires.inside stands.within read c.read_run-count.ensures.none c.run_piece-piece.ensures.none c.run_piece-piece.ensures.some
+    c.in_default.is shows c.requires.inside is_present.within read c.read_run-count.ensures.none c.run_piece-piece.ensures.none c.run_piece-piece.ensures.some
 
 pub returns-in_default-clause-advances : goal.returns-in_default-clause-advances
 returns-in_default-clause-advances g c =
@@ -22,12 +22,12 @@ returns-in_default-clause-advances g c =
     c.read_run-count.ensures.limit
 
 pub returns-in-Some-piece-clause-gives : goal.returns-in-Some-piece-clause-gives
-returns-in-Some-piece-clause-gives g c = λ bytes held stands.
+returns-in-Some-piece-clause-gives g c = λ bytes held is_present.
     let run = c.read_run-count.result in
     let at = c.args.walk.now.at in
-    let (shows, read) = c.read_run-count.ensures.run bytes held stands.shows stands.within in
+    let (shows, read) = c.read_run-count.ensures.run bytes held is_present.shows is_present.within in
     let kind = c.is_failure.ensures.failed c.if-is_failure.true in
-    let (now, fails) = failure_given bytes at run.count run.len run.end c.in-Some.fault c.read_run-count.new.window c.in-Some.is kind shows stands.within read in
+    let (now, fails) = failure_given bytes at run.count run.len run.end c.in-Some.fault c.read_run-count.new.window c.in-Some.is kind shows is_present.within read in
     (now, failure_piece bytes at run.count run.len (at + run.len) c.in-Some.fault c.in-Some-piece.piece c.in-Some-piece.ensures.some.0 c.in-Some-piece.ensures.some.1 fails)
 
 pub returns-in-Some-piece-clause-advances : goal.returns-in-Some-piece-clause-advances
@@ -41,14 +41,14 @@ returns-in-Some-piece-clause-advances g c =
     c.read_run-count.ensures.limit
 
 pub returns-in-Some-piece-2-clause-gives : goal.returns-in-Some-piece-2-clause-gives
-returns-in-Some-piece-2-clause-gives g c = λ bytes held stands.
+returns-in-Some-piece-2-clause-gives g c = λ bytes held is_present.
     let run = c.read_run-count.result in
     let at = c.args.walk.now.at in
     let failure = c.args.walk.now.failure in
-    let (shows, read) = c.read_run-count.ensures.run bytes held stands.shows stands.within in
+    let (shows, read) = c.read_run-count.ensures.run bytes held is_present.shows is_present.within in
     let kind = c.is_failure.ensures.found c.if-is_failure.false in
     let (now, is) = found_given bytes at run.count run.len run.end failure c.in-Some.fault c.read_run-count.new.window c.in-Some.is c.requires.sound kind.0 kind.1 shows
-    stands.within read in (
+    is_present.within read in (
       now,
       found_piece bytes at run.count run.len c.in-Some.fault failure c.in-Some-piece-2.piece c.requires.sound c.in-Some-piece-2.ensures.some.0
           c.in-Some-piece-2.ensures.some.1 is,
@@ -65,13 +65,13 @@ returns-in-Some-piece-2-clause-advances g c =
     goes c.read_run-count.ensures.limit
 
 pub returns-in-None-piece-clause-gives : goal.returns-in-None-piece-clause-gives
-returns-in-None-piece-clause-gives g c = λ bytes held stands.
+returns-in-None-piece-clause-gives g c = λ bytes held is_present.
     let run = c.read_run-count.result in
     let at = c.args.walk.now.at in
-    let (shows, read) = c.read_run-count.ensures.run bytes held stands.shows stands.within in
+    let (shows, read) = c.read_run-count.ensures.run bytes held is_present.shows is_present.within in
     let kind = c.is_failure.ensures.found c.if-is_failure.false in
     let (now, is) = found_given bytes at run.count run.len run.end c.args.walk.now.failure c.in-Some.fault c.read_run-count.new.window c.in-Some.is c.requires.sound
-    kind.0 kind.1 shows stands.within read in
+    kind.0 kind.1 shows is_present.within read in
     let zero = c.read_run-count.ensures.none (c.run_piece-piece.ensures.none c.in-None-piece.is) in
     let here : at + run.len ≡ at = omega (arith, zero) in
     let (then, gives) = c.next_damage.ensures.gives bytes (c.read_run-count.ensures.reads.kept ∙ held) now now.found in
@@ -79,34 +79,34 @@ returns-in-None-piece-clause-gives g c = λ bytes held stands.
     (then, subst P here gives)
 
 pub returns-in_default-clause-few : goal.returns-in_default-clause-few
-returns-in_default-clause-few g c = λ bytes held stands.
+returns-in_default-clause-few g c = λ bytes held is_present.
     let run = c.read_run-count.result in
     let at = c.args.walk.now.at in
     end_few bytes at (reached c.args.walk.now.window) (reached c.read_run-count.new.window) (g.S.Source.seen c.args.source.now) (g.S.Source.seen c.read_run-count.new.source) at run.count run.len
     c.run_piece-piece.result c.read_run-count.ensures.reads.bound c.run_piece-piece.ensures.none c.run_piece-piece.ensures.some
 
 pub returns-in-Some-piece-clause-few : goal.returns-in-Some-piece-clause-few
-returns-in-Some-piece-clause-few g c = λ bytes held stands.
+returns-in-Some-piece-clause-few g c = λ bytes held is_present.
     let run = c.read_run-count.result in
     let at = c.args.walk.now.at in
     run_few bytes at (reached c.args.walk.now.window) (reached c.read_run-count.new.window) (g.S.Source.seen c.args.source.now) (g.S.Source.seen c.read_run-count.new.source) at run.count run.len
     c.in-Some-piece.piece c.read_run-count.ensures.reads.bound c.in-Some-piece.ensures.some.0
 
 pub returns-in-Some-piece-2-clause-few : goal.returns-in-Some-piece-2-clause-few
-returns-in-Some-piece-2-clause-few g c = λ bytes held stands.
+returns-in-Some-piece-2-clause-few g c = λ bytes held is_present.
     let run = c.read_run-count.result in
     let at = c.args.walk.now.at in
     run_few bytes at (reached c.args.walk.now.window) (reached c.read_run-count.new.window) (g.S.Source.seen c.args.source.now) (g.S.Source.seen c.read_run-count.new.source) at run.count run.len
     c.in-Some-piece-2.piece c.read_run-count.ensures.reads.bound c.in-Some-piece-2.ensures.some.0
 
 pub returns-in-None-piece-clause-few : goal.returns-in-None-piece-clause-few
-returns-in-None-piece-clause-few g c = λ bytes held stands.
+returns-in-None-piece-clause-few g c = λ bytes held is_present.
     let run = c.read_run-count.result in
     let at = c.args.walk.now.at in
-    let (shows, read) = c.read_run-count.ensures.run bytes held stands.shows stands.within in
+    let (shows, read) = c.read_run-count.ensures.run bytes held is_present.shows is_present.within in
     let kind = c.is_failure.ensures.found c.if-is_failure.false in
     let (now, is) = found_given bytes at run.count run.len run.end c.args.walk.now.failure c.in-Some.fault c.read_run-count.new.window c.in-Some.is c.requires.sound
-    kind.0 kind.1 shows stands.within read in
+    kind.0 kind.1 shows is_present.within read in
     let none = c.run_piece-piece.ensures.none c.in-None-piece.is in
     let here : at + run.len ≡ at = omega (arith, c.read_run-count.ensures.none none) in
     few_after bytes at (at + run.len) run.count (reached c.args.walk.now.window) (reached c.read_run-count.new.window) (reached c.next_damage.new.walk.window) c.next_damage.result

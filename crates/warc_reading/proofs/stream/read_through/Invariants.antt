@@ -1,16 +1,16 @@
 use Rattle.std.proofs.Common.{◌≡◌, ℕ, ◌+◌, ◌-◌, ◌^◌, List, ◌++◌, length}
 use Rattle.warc_frame.specs.Decoding.{IsAt}
-use Rattle.warc_frame.specs.Told.{Told}
-use Rattle.warc_reading.specs.Stream.{Extends, Follows, HasGivenFrom, IsKeptOf, Since, Stands}
+use Rattle.warc_frame.specs.Reported.{Reported}
+use Rattle.warc_reading.specs.Stream.{Extends, Follows, HasGivenFrom, IsKeptOf, Since, IsReadSoFar}
 use Rattle.warc_reading.proofs.stream.read_through.Given as goal
 
 -- some bytes were read behind those of the records that were kept
 abbrev pub invariant-reading : goal.invariant-reading
 invariant-reading g l = record {
   taken : List ℕ;
-  told : Told;
-  is_at : IsAt l.fn.reading.begin taken told l.decoder;
-  stands : (bytes : List ℕ) (is : IsKeptOf g.L.Keep.keeps bytes (l.fn.reading.rows, l.fn.reading.beside)) → Stands g.L.Block.TakeBlock.has_seen (Since g.L.Keep.keeps is.listed.are.records) (bytes ++ taken) l.decoder l.reading;
+  reported : Reported;
+  is_at : IsAt l.fn.reading.begin taken reported l.decoder;
+  is_present : (bytes : List ℕ) (is : IsKeptOf g.L.Keep.keeps bytes (l.fn.reading.rows, l.fn.reading.beside)) → IsReadSoFar g.L.Block.TakeBlock.has_seen (Since g.L.Keep.keeps is.listed.are.records) (bytes ++ taken) l.decoder l.reading;
   rows : Extends l.fn.reading.rows l.reading.rows;
   given : HasGivenFrom l.fn.reading.begin
       (g.S.Source.seen l.fn.source)

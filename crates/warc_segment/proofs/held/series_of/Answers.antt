@@ -30,7 +30,7 @@ loop-next-preserved g c =
     c.loop-next.invariant.1 in
     let entry : IsEntry c.args.order.now c.args.facts.now c.in-Some.found.index c.continuation_at.result = record {
       facts = record { total = c.continuation_at.result.total; place = c.continuation_at.result.place };
-      stands = c.continuation_at.ensures.stands;
+      is_present = c.continuation_at.ensures.is_present;
       is = c.continuation_at.ensures.is;
     } in (
       subst (AreInSeries c.args.id.now (side_by_side c.args.order.now c.args.facts.now))

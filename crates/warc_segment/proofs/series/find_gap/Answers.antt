@@ -1,5 +1,5 @@
 use Rattle.std.proofs.Common.{◌≡◌, ◌+◌, length, arith}
-use Rattle.warc_segment.proofs.ContinuationLemmas.{unfinished, after_end, absent_within, total_told, whole_series}
+use Rattle.warc_segment.proofs.ContinuationLemmas.{unfinished, after_end, absent_within, total_reported, whole_series}
 use Rattle.warc_segment.proofs.series.find_gap.Goals as goal
 
 pub returns-in_default-find_end-clause-gap : goal.returns-in_default-find_end-clause-gap
@@ -23,7 +23,7 @@ pub returns-then-is_sum-clause-gap : goal.returns-then-is_sum-clause-gap
 returns-then-is_sum-clause-gap c =
     let end = c.in-Some-find_end.end in
     let last : end.index + 1 ≡ length c.args.series.now = omega (arith, c.in-Some-find_end.ensures.0) in
-    total_told c.args.size c.args.series.now end.index end.total _ c.requires c.in_default.ensures.value
+    total_reported c.args.size c.args.series.now end.index end.total _ c.requires c.in_default.ensures.value
     c.in-Some-find_end.ensures.1 last c.in_default-absent.ensures.value c.in_default-absent.ensures.none
     c.if-is_sum.ensures
 
@@ -38,6 +38,6 @@ pub returns-else-is_sum-clause-gap : goal.returns-else-is_sum-clause-gap
 returns-else-is_sum-clause-gap c =
     let end = c.in-Some-find_end.end in
     let last : end.index + 1 ≡ length c.args.series.now = omega (arith, c.in-Some-find_end.ensures.0) in
-    total_told c.args.size c.args.series.now end.index end.total _ c.requires c.in_default.ensures.value
+    total_reported c.args.size c.args.series.now end.index end.total _ c.requires c.in_default.ensures.value
     c.in-Some-find_end.ensures.1 last c.in_default-absent.ensures.value c.in_default-absent.ensures.none
     c.if-is_sum.ensures

@@ -3,7 +3,7 @@ use Rattle.warc_frame.specs.Record.{Record, block_len}
 use Rattle.warc_write.specs.Splitting.{has_room, piece_at, segment_fields}
 use Rattle.warc_write.proofs.PartLemmas.{refused_room, same_framed}
 use Rattle.warc_write.proofs.CutLemmas.{part_from}
-use Rattle.warc_write.proofs.SegmentLemmas.{segment_from, segment_told}
+use Rattle.warc_write.proofs.SegmentLemmas.{segment_from, segment_reported}
 use Rattle.warc_write.proofs.segments.segment.Goals as goal
 
 pub returns-in-Ok-clause-made : goal.returns-in-Ok-clause-made
@@ -28,6 +28,6 @@ returns-in-Err-clause-long g c =
     (part_from c.args.size c.block-block.result.now c.args.framed.now.block piece c.args.at _ part (c.part_at-part.ensures c.block-block.result.now refl) c.piece_at-piece.ensures c.digest.ensures c.block-block.ensures.block)
     (c.piece_at-piece.ensures ∙ ap (λ b. piece_at c.args.size b c.args.at) c.block-block.ensures.block)
     c.in_ok-from_slice.ensures.items in
-    let Told : Record → Type 0 = λ r. block_len r.fields ≡ Ok (length r.block) in
-    let told = subst Told (sym parts) (segment_told c.args.framed.now c.args.uuid.now c.args.size c.args.at c.block-block.ensures.framed c.block-block.ensures.short) in
-    ap has_room (sym parts) ∙ refused_room _ _ told c.in-Err.ensures.exact
+    let Reported : Record → Type 0 = λ r. block_len r.fields ≡ Ok (length r.block) in
+    let reported = subst Reported (sym parts) (segment_reported c.args.framed.now c.args.uuid.now c.args.size c.args.at c.block-block.ensures.framed c.block-block.ensures.short) in
+    ap has_room (sym parts) ∙ refused_room _ _ reported c.in-Err.ensures.exact

@@ -3,7 +3,7 @@ use Rattle.std.proofs.lemmas.Result.{IfErr-weaker, on_ok_weaker}
 use Rattle.warc_field.specs.Area.{canonical_fields}
 use Rattle.warc_field.specs.Lines.{crlf}
 use Rattle.warc_frame.proofs.LawLemmas.{same_out, same_staged}
-use Rattle.warc_write.proofs.RenderLemmas.{head_behind_line, head_from}
+use Rattle.warc_write.proofs.RenderLemmas.{head_after_line, head_from}
 use Rattle.warc_write.proofs.sent.put_head.Goals as goal
 
 pub returns : goal.returns
@@ -38,7 +38,7 @@ returns-in_err-put g c = record {
   cut = λ start output is.
       let cut = c.in_err-put.ensures.cut start output is in
       let longer = c.went_out_of_longer.ensures start _ _ (canonical_fields c.args.fields.now ++ crlf) _ cut in
-      let whole = same_out (head_behind_line c.args.version c.args.fields.now c.line.result.now output c.line.ensures.line) longer in
+      let whole = same_out (head_after_line c.args.version c.args.fields.now c.line.result.now output c.line.ensures.line) longer in
       search rules;
   cause = search rules;
   left = search rules;

@@ -1,7 +1,7 @@
 use Rattle.std.proofs.Common.{rules, refl}
 use Rattle.std.proofs.lemmas.Result.{IfErr-weaker, on_ok_weaker}
 use Rattle.warc_frame.proofs.LawLemmas.{same_out, same_staged}
-use Rattle.warc_write.proofs.RenderLemmas.{behind_head, record_from}
+use Rattle.warc_write.proofs.RenderLemmas.{after_head, record_from}
 use Rattle.warc_write.proofs.sent.put_record.Goals as goal
 
 pub returns : goal.returns
@@ -21,7 +21,7 @@ returns-in_err-put_head g c = record {
   out = search rules;
   cut = λ start output is.
       let r = c.args.framed.now in
-      let longer = c.went_out_of_longer.ensures start _ _ (behind_head r.block) _ (c.in_err-put_head.ensures.cut start output is) in
+      let longer = c.went_out_of_longer.ensures start _ _ (after_head r.block) _ (c.in_err-put_head.ensures.cut start output is) in
       let whole = same_out (record_from r c.version.result c.fields.result.now r.block output c.version.ensures c.fields.ensures.fields refl) longer in
       search rules;
   cause = search rules;

@@ -11,7 +11,7 @@ pub returns-in_err-next : goal.returns-in_err-next
 returns-in_err-next g c =
     let p = err_from_is_err_and c.from_residual.result c.from_residual.ensures.1 in
     rw (p.1, p.2) (record {
-      told = λ bytes held is are known judged. tt;
+      reported = λ bytes held is are known judged. tt;
       early = c.in_err-next.ensures.early;
       inside = c.in_err-next.ensures.inside;
       keeps = c.in_err-next.ensures.keeps;
@@ -22,8 +22,8 @@ pub returns : goal.returns
 returns g c =
     let next = c.in_ok-next.ensures in
     record {
-      told = λ bytes held is are known judged.
-          let (at, knows) = next.told bytes held is are known in
+      reported = λ bytes held is are known judged.
+          let (at, knows) = next.reported bytes held is are known in
           judged_next c.add_or_fail.result (contents is.are.records) c.args.position _ _ c.in_ok-next.next.head c.in_ok-next.next.verdict c.payload_value-value.result.now _ knows judged at (c.payload_value-value.ensures ∙ ap payload_value c.fields.ensures.fields) c.add_or_fail.ensures.ok;
       early = memory_early _ c.add_or_fail.ensures.memory;
       inside = next.inside;

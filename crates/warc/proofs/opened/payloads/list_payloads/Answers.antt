@@ -9,7 +9,7 @@ use Rattle.warc.proofs.opened.payloads.list_payloads.Goals as goal
 
 pub listing-init : goal.listing-init
 listing-init g c = record {
-  staged = c.new-buffer.ensures.begins ((g.W.Sink.seen c.args.out.now).tells);
+  staged = c.new-buffer.ensures.begins ((g.W.Sink.seen c.args.out.now).reports);
   sound = refl;
 }
 
@@ -34,22 +34,22 @@ returns-in_err-put_payload_if g c =
     let next = ap (λ t. payload_lines c.args.payloads.now (take i c.args.rows.now) ++ t) line ∙ lines_next (payload_line_at c.args.payloads.now) c.args.rows.now i c.in-Some.row at in
     let whole = same_out (all_payload_lines c.args.payloads.now c.args.rows.now (i + 1) (counts_line (payload_counts c.args.payloads.now.verdicts)))
     (longer _ (same_out next (c.in_err-put_payload_if.ensures.cut _ _ c.listing.invariant.staged))) in
-    record { told = search rules; cut = search rules; write = search rules; cause = search rules }
+    record { reported = search rules; cut = search rules; write = search rules; cause = search rules }
 
 pub returns-in_err-put_counts : goal.returns-in_err-put_counts
 returns-in_err-put_counts g c =
     let text = whole_payloads c.args.payloads.now c.args.rows.now c.listing.position _ c.counts.result c.len-position-end.ensures (omega (arith, c.listing-test.false)) c.counts.ensures in
     let whole = same_out text (c.in_err-put_counts.ensures.cut _ _ c.listing.invariant.staged) in
-    record { told = search rules; cut = search rules; write = search rules; cause = search rules }
+    record { reported = search rules; cut = search rules; write = search rules; cause = search rules }
 
 pub returns-in_err-flush : goal.returns-in_err-flush
 returns-in_err-flush g c =
     let text = whole_payloads c.args.payloads.now c.args.rows.now c.listing.position _ c.counts.result c.len-position-end.ensures (omega (arith, c.listing-test.false)) c.counts.ensures in
     let whole = c.in_err-flush.ensures.cut _ _ (same_staged text (c.in_ok-put_counts.ensures.out _ _ c.listing.invariant.staged)) in
-    record { told = search rules; cut = search rules; write = search rules; cause = search rules }
+    record { reported = search rules; cut = search rules; write = search rules; cause = search rules }
 
 pub returns : goal.returns
 returns g c =
     let text = whole_payloads c.args.payloads.now c.args.rows.now c.listing.position _ c.counts.result c.len-position-end.ensures (omega (arith, c.listing-test.false)) c.counts.ensures in
-    let told = c.in_ok-flush.ensures.told _ _ (same_staged text (c.in_ok-put_counts.ensures.out _ _ c.listing.invariant.staged)) in
-    record { told = search rules; cut = search rules; write = search rules; cause = search rules }
+    let reported = c.in_ok-flush.ensures.reported _ _ (same_staged text (c.in_ok-put_counts.ensures.out _ _ c.listing.invariant.staged)) in
+    record { reported = search rules; cut = search rules; write = search rules; cause = search rules }

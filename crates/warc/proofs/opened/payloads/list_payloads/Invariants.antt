@@ -6,6 +6,6 @@ use Rattle.warc.proofs.opened.payloads.list_payloads.Given as goal
 -- the lines of the rows so far are staged, and no write has failed
 abbrev pub invariant-listing : goal.invariant-listing
 invariant-listing g l = record {
-  staged : IsStaged ((g.W.Sink.seen l.fn.out).tells) (payload_lines l.payloads (take l.position l.rows)) ((g.W.Sink.seen l.out).tells) l.buffer;
+  staged : IsStaged ((g.W.Sink.seen l.fn.out).reports) (payload_lines l.payloads (take l.position l.rows)) ((g.W.Sink.seen l.out).reports) l.buffer;
   sound : (g.W.Sink.seen l.out).faults ≡ (g.W.Sink.seen l.fn.out).faults;
 }

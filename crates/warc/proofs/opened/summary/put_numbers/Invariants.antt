@@ -7,7 +7,7 @@ use Rattle.warc.proofs.opened.summary.put_numbers.Given as goal
 -- the lines so far are staged, and no write has failed
 abbrev pub invariant-putting : goal.invariant-putting
 invariant-putting g l = record {
-  staged : (start : Option (List ℕ)) (output : List ℕ) → IsStaged start output ((g.W.Sink.seen l.fn.out).tells) l.fn.buffer
-      → IsStaged start (output ++ concat (map (λ n. number_line (n.0.now, n.1)) (take l.number-index l.numbers))) ((g.W.Sink.seen l.out).tells) l.buffer;
+  staged : (start : Option (List ℕ)) (output : List ℕ) → IsStaged start output ((g.W.Sink.seen l.fn.out).reports) l.fn.buffer
+      → IsStaged start (output ++ concat (map (λ n. number_line (n.0.now, n.1)) (take l.number-index l.numbers))) ((g.W.Sink.seen l.out).reports) l.buffer;
   sound : (g.W.Sink.seen l.out).faults ≡ (g.W.Sink.seen l.fn.out).faults;
 }

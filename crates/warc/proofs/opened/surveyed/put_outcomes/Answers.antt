@@ -14,7 +14,7 @@ returns-in_default g c = record {
   all = tt;
   out = λ start output is. tt;
   cut = λ start output is.
-      let P : ℕ → Type 0 = λ n. WentOut start output ((g.W.Sink.seen c.args.out.now).tells) n in
+      let P : ℕ → Type 0 = λ n. WentOut start output ((g.W.Sink.seen c.args.out.now).reports) n in
       longer _ (subst P (sym c.sent.ensures) (staged_went_out start _ output _ is));
   inside = λ bytes is off. refl;
   keeps = record { kept = refl; watched = refl };

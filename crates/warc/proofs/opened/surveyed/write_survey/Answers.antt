@@ -14,11 +14,11 @@ returns-in_err-put_known g c =
     let kept : SurveyKept = record { index = p.lookup.index; parts = p.lookup.parts; judged = p.digests; wanted = p.wanted; segmented = p.segmented.items; findings = map all_of p.findings } in
     let summary = c.summary_of-summary.result in
     let counted = summary_as {rows = rows} {x = summary} c.deref.ensures.value c.verdicts.ensures c.summary_of-summary.ensures in
-    let start = (g.W.Sink.seen c.args.out.now).tells in
+    let start = (g.W.Sink.seen c.args.out.now).reports in
     let known = c.in_err-put_known.ensures in
     let e = err_from_is_err_and c.from_residual.result c.from_residual.ensures.1 in
     rw (e.1, e.2) (writes_as kept c.args.parts.now c.parts.view_is (record {
-      told = λ bytes held is has. tt;
+      reported = λ bytes held is has. tt;
       cut = λ bytes held is has.
           let judged = survey_judged bytes rows kept is has summary counted c.head_of_spelled.ensures in
           survey_begun bytes rows kept is has summary counted _ _ _ ((known.puts bytes is.are.records judged).cut start [] (c.new-buffer.ensures.begins start));
@@ -35,12 +35,12 @@ returns-in_err-put_outcomes g c =
     let kept : SurveyKept = record { index = p.lookup.index; parts = p.lookup.parts; judged = p.digests; wanted = p.wanted; segmented = p.segmented.items; findings = map all_of p.findings } in
     let summary = c.summary_of-summary.result in
     let counted = summary_as {rows = rows} {x = summary} c.deref.ensures.value c.verdicts.ensures c.summary_of-summary.ensures in
-    let start = (g.W.Sink.seen c.args.out.now).tells in
+    let start = (g.W.Sink.seen c.args.out.now).reports in
     let known = c.in_ok-put_known.ensures in
     let puts = c.in_err-put_outcomes.ensures in
     let e = err_from_is_err_and c.from_residual-in_err-put_outcomes.result c.from_residual-in_err-put_outcomes.ensures.1 in
     rw (e.1, e.2) (writes_as kept c.args.parts.now c.parts.view_is (record {
-      told = λ bytes held is has. tt;
+      reported = λ bytes held is has. tt;
       cut = λ bytes held is has.
           let judged = survey_judged bytes rows kept is has summary counted c.head_of_spelled.ensures in
           let staged = (known.puts bytes is.are.records judged).out start [] (c.new-buffer.ensures.begins start) in
@@ -59,12 +59,12 @@ returns-in_err-flush g c =
     let kept : SurveyKept = record { index = p.lookup.index; parts = p.lookup.parts; judged = p.digests; wanted = p.wanted; segmented = p.segmented.items; findings = map all_of p.findings } in
     let summary = c.summary_of-summary.result in
     let counted = summary_as {rows = rows} {x = summary} c.deref.ensures.value c.verdicts.ensures c.summary_of-summary.ensures in
-    let start = (g.W.Sink.seen c.args.out.now).tells in
+    let start = (g.W.Sink.seen c.args.out.now).reports in
     let known = c.in_ok-put_known.ensures in
     let puts = c.in_ok-put_outcomes.ensures in
     let e = err_from_is_err_and c.from_residual-in_err-flush.result c.from_residual-in_err-flush.ensures.1 in
     rw (e.1, e.2) (writes_as kept c.args.parts.now c.parts.view_is (record {
-      told = λ bytes held is has. tt;
+      reported = λ bytes held is has. tt;
       cut = λ bytes held is has.
           let judged = survey_judged bytes rows kept is has summary counted c.head_of_spelled.ensures in
           let staged = puts.out start _ ((known.puts bytes is.are.records judged).out start [] (c.new-buffer.ensures.begins start)) in
@@ -83,15 +83,15 @@ returns g c =
     let kept : SurveyKept = record { index = p.lookup.index; parts = p.lookup.parts; judged = p.digests; wanted = p.wanted; segmented = p.segmented.items; findings = map all_of p.findings } in
     let summary = c.summary_of-summary.result in
     let counted = summary_as {rows = rows} {x = summary} c.deref.ensures.value c.verdicts.ensures c.summary_of-summary.ensures in
-    let start = (g.W.Sink.seen c.args.out.now).tells in
+    let start = (g.W.Sink.seen c.args.out.now).reports in
     let known = c.in_ok-put_known.ensures in
     let puts = c.in_ok-put_outcomes.ensures in
     writes_as kept c.args.parts.now c.parts.view_is (record {
-      told = λ bytes held is has.
+      reported = λ bytes held is has.
           let judged = survey_judged bytes rows kept is has summary counted c.head_of_spelled.ensures in
           let staged = puts.out start _ ((known.puts bytes is.are.records judged).out start [] (c.new-buffer.ensures.begins start)) in
           let outcomes = puts.are bytes held is has.found (survey_known bytes rows kept is has summary counted) in
-          survey_out bytes rows kept is has summary counted _ _ puts.captures outcomes puts.all (c.in_ok-flush.ensures.told start _ staged);
+          survey_out bytes rows kept is has summary counted _ _ puts.captures outcomes puts.all (c.in_ok-flush.ensures.reported start _ staged);
       cut = λ bytes held is has. tt;
       inside = puts.inside;
       keeps = puts.keeps;

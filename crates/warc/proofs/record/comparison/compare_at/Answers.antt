@@ -12,7 +12,7 @@ use Rattle.warc.proofs.record.comparison.compare_at.Goals as goal
 
 pub returns-in_default : goal.returns-in_default
 returns-in_default g c = record {
-  told = λ bytes held is are known. tt;
+  reported = λ bytes held is are known. tt;
   early = refl;
   inside = λ bytes is off. refl;
   keeps = record { kept = refl; watched = refl };
@@ -28,7 +28,7 @@ returns-in_err-head g c =
     let p = err_from_is_err_and c.from_residual.result c.from_residual.ensures.1 in
     let at : slice_get c.args.rows.now c.args.position ≡ Some c.in-Some.row = sym c.get.ensures ∙ c.in-Some.is in
     rw (p.1, p.2) (record {
-      told = λ bytes held is are known. tt;
+      reported = λ bytes held is are known. tt;
       early = c.in_err-head.ensures.early;
       inside = λ bytes (is, are).
           let (p, there, same) = placed is.are.records c.args.position c.in-Some.row (ap (λ l. slice_get l c.args.position) (sym is.are.rows_are) ∙ at) in
@@ -43,10 +43,10 @@ returns-in-Ok g c =
     let head = c.in_ok-head.ensures in
     let next = c.in-Ok.ensures in
     record {
-      told = λ bytes held is are known.
+      reported = λ bytes held is are known.
           let (p, there, same) = placed is.are.records c.args.position c.in-Some.row (ap (λ l. slice_get l c.args.position) (sym is.are.rows_are) ∙ at) in
           let fields = head.read bytes held (text_at_row c.head_of_spelled.ensures bytes c.args.rows.now c.args.position c.in-Some.row is p there same) in
-          let (has, knows) = next.told bytes (head.reads.kept ∙ held) is are known (record { placed = p; there = there; row_is = same; fields_are = fields }) in
+          let (has, knows) = next.reported bytes (head.reads.kept ∙ held) is are known (record { placed = p; there = there; row_is = same; fields_are = fields }) in
           (record { content = p.content; there = content_at is.are.records c.args.position p there; fields_are = fields; is = has }, knows);
       early = tt;
       inside = λ bytes is.
@@ -62,7 +62,7 @@ returns-in-Err g c =
     let head = c.in_ok-head.ensures in
     let next = c.in-Err.ensures in
     record {
-      told = λ bytes held is are known. tt;
+      reported = λ bytes held is are known. tt;
       early = next.early;
       inside = λ bytes is.
           let (p, there, same) = placed is.0.are.records c.args.position c.in-Some.row (ap (λ l. slice_get l c.args.position) (sym is.0.are.rows_are) ∙ at) in

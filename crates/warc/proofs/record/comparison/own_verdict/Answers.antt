@@ -7,12 +7,12 @@ use Rattle.warc_checking.proofs.JudgeLemmas.{block_there}
 use Rattle.warc.proofs.PayloadLemmas.{block_here, own_early, own_made}
 use Rattle.warc.proofs.record.comparison.own_verdict.Goals as goal
 
-pub returns-in-Some-clause-told : goal.returns-in-Some-clause-told
-returns-in-Some-clause-told g c = λ bytes held is same.
+pub returns-in-Some-clause-reported : goal.returns-in-Some-clause-reported
+returns-in-Some-clause-reported g c = λ bytes held is same.
     own_early c.has_one_payload.ensures.block is.placed.content c.args.fields.now c.in-Some.verdict same c.in-Some.ensures
 
-pub returns-in-Ok-clause-told : goal.returns-in-Ok-clause-told
-returns-in-Ok-clause-told g c = λ bytes held is same.
+pub returns-in-Ok-clause-reported : goal.returns-in-Ok-clause-reported
+returns-in-Ok-clause-reported g c = λ bytes held is same.
     let start = ap (λ (r : Row). r.block_start) c.row.view_is in
     let len = ap (λ (r : Row). r.block_len) c.row.view_is in
     own_made is.placed.content c.args.fields.now _ _ c.algorithm_for-algorithm.result c.in-Ok.digest c.payload_verdict.result same

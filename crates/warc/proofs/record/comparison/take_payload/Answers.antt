@@ -21,7 +21,7 @@ returns-in-Ok g c =
     let at = sym c.get.ensures ∙ c.in-Some.is in
     record {
       taken = λ bytes held is are.
-          let (has, knows) = c.in-Ok.ensures.told bytes held is are (c.new-digested.ensures (contents is.are.records)) in (has.content, has.there, has.is);
+          let (has, knows) = c.in-Ok.ensures.reported bytes held is are (c.new-digested.ensures (contents is.are.records)) in (has.content, has.there, has.is);
       absent = (λ e. absurd (cc e), λ none. absurd (cc (sym at ∙ none)));
       inside = c.in-Ok.ensures.inside;
       keeps = c.in-Ok.ensures.keeps;

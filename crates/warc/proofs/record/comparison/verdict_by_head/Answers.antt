@@ -8,7 +8,7 @@ use Rattle.warc.proofs.record.comparison.verdict_by_head.Goals as goal
 
 pub returns-in-Nobody : goal.returns-in-Nobody
 returns-in-Nobody g c = record {
-  told = λ bytes held is are known at. (
+  reported = λ bytes held is are known at. (
     judged_some (contents is.are.records) c.args.position at.placed.content c.fields-fields.result.now c.typed-typed.result.kind _ (c.fields-fields.ensures.fields ∙ at.fields_are) (c.states_payload.ensures.some c.if-not-states_payload.false)
         (ap (λ (r : Reading). r.kind) (c.typed-typed.ensures ∙ ap reading_of (sym c.fields-fields.ensures.fields))) (c.in-Nobody.ensures (contents is.are.records) c.args.position at.placed.content _ refl),
     known,
@@ -21,8 +21,8 @@ returns-in-Nobody g c = record {
 
 pub returns-in-Ok : goal.returns-in-Ok
 returns-in-Ok g c = record {
-  told = λ bytes held is are known at.
-      let (has, knows) = c.in-Ok.ensures.told bytes held is are known in (
+  reported = λ bytes held is are known at.
+      let (has, knows) = c.in-Ok.ensures.reported bytes held is are known in (
         judged_some (contents is.are.records) c.args.position at.placed.content c.fields-fields.result.now c.typed-typed.result.kind _ (c.fields-fields.ensures.fields ∙ at.fields_are) (c.states_payload.ensures.some c.if-not-states_payload.false)
             (ap (λ (r : Reading). r.kind) (c.typed-typed.ensures ∙ ap reading_of (sym c.fields-fields.ensures.fields)))
             (c.in-Origin.ensures (contents is.are.records) c.args.position at.placed.content _
@@ -37,7 +37,7 @@ returns-in-Ok g c = record {
 
 pub returns-in-Err : goal.returns-in-Err
 returns-in-Err g c = record {
-  told = λ bytes held is are known at. tt;
+  reported = λ bytes held is are known at. tt;
   early = c.in-Err.ensures.early;
   inside = λ there. c.in-Err.ensures.inside;
   keeps = c.in-Err.ensures.keeps;
@@ -48,11 +48,11 @@ pub returns-in-Ok-own_verdict : goal.returns-in-Ok-own_verdict
 returns-in-Ok-own_verdict g c =
     let own = c.in-Ok-own_verdict.ensures in
     record {
-      told = λ bytes held is are known at. (
+      reported = λ bytes held is are known at. (
         judged_some (contents is.are.records) c.args.position at.placed.content c.fields-fields.result.now c.typed-typed.result.kind _ (c.fields-fields.ensures.fields ∙ at.fields_are) (c.states_payload.ensures.some c.if-not-states_payload.false)
             (ap (λ (r : Reading). r.kind) (c.typed-typed.ensures ∙ ap reading_of (sym c.fields-fields.ensures.fields)))
             (c.in-Itself.ensures (contents is.are.records) c.args.position at.placed.content _
-            (own.told bytes held (text_at_row c.head_of_spelled.ensures bytes c.args.rows.now c.args.position c.args.row.now is at.placed at.there at.row_is) (c.fields-fields.ensures.fields ∙ at.fields_are))),
+            (own.reported bytes held (text_at_row c.head_of_spelled.ensures bytes c.args.rows.now c.args.position c.args.row.now is at.placed at.there at.row_is) (c.fields-fields.ensures.fields ∙ at.fields_are))),
         known,
       );
       early = tt;
@@ -65,7 +65,7 @@ pub returns-in-Err-own_verdict : goal.returns-in-Err-own_verdict
 returns-in-Err-own_verdict g c =
     let own = c.in-Err-own_verdict.ensures in
     record {
-      told = λ bytes held is are known at. tt;
+      reported = λ bytes held is are known at. tt;
       early = own.early;
       inside = λ there bytes (is, are). block_inside c.head_of_spelled.ensures c.args.rows.now c.args.position c.args.row.now _ there own.reads bytes is;
       keeps = record { kept = own.reads.kept; watched = own.reads.watched };
@@ -74,7 +74,7 @@ returns-in-Err-own_verdict g c =
 
 pub returns-then-not-states_payload : goal.returns-then-not-states_payload
 returns-then-not-states_payload g c = record {
-  told = λ bytes held is are known at.
+  reported = λ bytes held is are known at.
       (judged_none (contents is.are.records) c.args.position at.placed.content c.fields-fields.result.now (c.fields-fields.ensures.fields ∙ at.fields_are) (c.states_payload.ensures.none c.if-not-states_payload.true), known);
   early = tt;
   inside = λ there bytes is off. refl;

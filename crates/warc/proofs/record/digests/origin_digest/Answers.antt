@@ -18,8 +18,8 @@ returns-in-Ok-digest_joined g c =
     let items = c.in-Ok.found.places.items in
     let path : Path = record { chosen = c.args.origin; given = c.args.origin } in
     record {
-      told = λ bytes held is parts.
-          let at = found.told bytes held is parts in
+      reported = λ bytes held is parts.
+          let at = found.reported bytes held is parts in
           let (joined, whole, places) = places_are bytes is.are.records c.args.origin at.placed is.are.spelled at.there items c.places_are_of_records.ensures at.places_are in
           digest_made is.are.records c.args.origin at.placed joined c.args.algorithm c.in-Ok-digest_joined.digest at.there whole
           (given.digest bytes (found.keeps.kept ∙ held) at.placed.content joined (record {
@@ -44,7 +44,7 @@ returns g c =
     let given = c.in-Err-digest_joined.ensures in
     let items = c.in-Ok.found.places.items in
     record {
-      told = λ bytes held is parts. tt;
+      reported = λ bytes held is parts. tt;
       early = refl;
       inside = λ bytes is parts.
           let stays = found.inside bytes is parts in
@@ -52,7 +52,7 @@ returns g c =
       keeps = preserves_both found.keeps (record { kept = given.reads.kept; watched = given.reads.watched });
       fails = fails_after found.keeps.kept found.fails.may
           (fails_more (λ bytes held (is, parts, within).
-          let at = found.told bytes (sym found.keeps.kept ∙ held) is parts in
+          let at = found.reported bytes (sym found.keeps.kept ∙ held) is parts in
           let (joined, whole, places) = places_are bytes is.are.records c.args.origin at.placed is.are.spelled at.there items c.places_are_of_records.ensures at.places_are in
           record { joined = joined; short = is.short; places_are = subst (λ l. ArePlacesOf bytes l joined) (sym c.deref.ensures.value) places })
           (fails_as _ _ given.fails));

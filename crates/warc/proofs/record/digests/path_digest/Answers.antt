@@ -9,13 +9,13 @@ use Rattle.warc.proofs.record.digests.path_digest.Goals as goal
 
 pub returns-in-Ok : goal.returns-in-Ok
 returns-in-Ok g c = record {
-  told = λ bytes held is are known.
+  reported = λ bytes held is are known.
       IfOk-weaker c.digest_once.result _ _
       (λ digest (has, knows). (
         path_digested (contents is.are.records) c.args.position c.in-Ok.path c.args.algorithm digest (sym (path_by_links is.are.records c.args.position) ∙ sym (c.in-Ok.ensures is.are.records are)) has,
         knows,
       ))
-      (c.digest_once.ensures.told bytes held is are.parts_are known);
+      (c.digest_once.ensures.reported bytes held is are.parts_are known);
   early = c.digest_once.ensures.early;
   inside = λ bytes (is, are). c.digest_once.ensures.inside bytes is are.parts_are;
   keeps = c.digest_once.ensures.keeps;
@@ -24,7 +24,7 @@ returns-in-Ok g c = record {
 
 pub returns-in-Err : goal.returns-in-Err
 returns-in-Err g c = record {
-  told = λ bytes held is are known.
+  reported = λ bytes held is are known.
       (path_undigested (contents is.are.records) c.args.position _ c.args.algorithm (sym (path_by_links is.are.records c.args.position) ∙ sym (c.in-Err.ensures is.are.records are)), known);
   early = tt;
   inside = λ bytes is off. refl;

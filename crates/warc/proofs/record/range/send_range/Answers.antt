@@ -5,7 +5,7 @@ use Rattle.warc.proofs.record.range.send_range.Goals as goal
 pub returns-in_err-put_range-clause-sends : goal.returns-in_err-put_range-clause-sends
 returns-in_err-put_range-clause-sends g c =
     let p = err_from_is_err_and c.from_residual.result c.from_residual.ensures.1 in
-    let start = (g.W.Sink.seen c.args.out.now).tells in
+    let start = (g.W.Sink.seen c.args.out.now).reports in
     rw (p.1, p.2) (record {
       out = λ bytes text held says. tt;
       cut = λ bytes text held says. c.in_err-put_range.ensures.emits.cut bytes text held says start [] (c.new-buffer.ensures.begins start);
@@ -15,10 +15,10 @@ returns-in_err-put_range-clause-sends g c =
 
 pub returns-clause-sends : goal.returns-clause-sends
 returns-clause-sends g c =
-    let start = (g.W.Sink.seen c.args.out.now).tells in
+    let start = (g.W.Sink.seen c.args.out.now).reports in
     record {
       out = λ bytes text held says.
-          c.in_ok-flush.ensures.told start _ (c.in_ok-put_range.ensures.emits.out bytes text held says start [] (c.new-buffer.ensures.begins start));
+          c.in_ok-flush.ensures.reported start _ (c.in_ok-put_range.ensures.emits.out bytes text held says start [] (c.new-buffer.ensures.begins start));
       cut = λ bytes text held says. tt;
       cause = search rules;
       fails = record { may = search rules; failed = λ bytes held is. search rules };
@@ -27,7 +27,7 @@ returns-clause-sends g c =
 pub returns-in_err-flush-clause-sends : goal.returns-in_err-flush-clause-sends
 returns-in_err-flush-clause-sends g c =
     let p = err_from_is_err_and c.from_residual-in_err-flush.result c.from_residual-in_err-flush.ensures.1 in
-    let start = (g.W.Sink.seen c.args.out.now).tells in
+    let start = (g.W.Sink.seen c.args.out.now).reports in
     rw (p.1, p.2) (record {
       out = λ bytes text held says. tt;
       cut = λ bytes text held says.

@@ -2,12 +2,12 @@ use Rattle.std.proofs.Common.{[], ℕ, List, length, subst, sym, ◌∙◌, ap, 
 use Rattle.std.proofs.Math.Seq.{take-length}
 use Rattle.std.proofs.lemmas.List.{append-nil}
 use Rattle.warc_frame.specs.Spelling.{Spells}
-use Rattle.warc.proofs.TakeLemmas.{memory_told, same_found}
+use Rattle.warc.proofs.TakeLemmas.{memory_reported, same_found}
 use Rattle.warc.proofs.record.whole.whole_record.Goals as goal
 
 pub returns-in-Err-clause-only : goal.returns-in-Err-clause-only
 returns-in-Err-clause-only g c = λ r s.
-    c.fault_of.ensures.memory (memory_told c.in-Err.fault.kind c.in-Err.fault.offset _ (λ e. cc e) (c.in-Err.ensures.only r c.args.text.now [] s (sym (append-nil c.args.text.now))))
+    c.fault_of.ensures.memory (memory_reported c.in-Err.fault.kind c.in-Err.fault.offset _ (λ e. cc e) (c.in-Err.ensures.only r c.args.text.now [] s (sym (append-nil c.args.text.now))))
 
 pub returns-then-len-text-clause-only : goal.returns-then-len-text-clause-only
 returns-then-len-text-clause-only g c = λ r s.

@@ -17,9 +17,9 @@ returns-in_err-origin g c =
     rw (p.1, p.2) (λ way leads.
     let found = c.in_err-origin.ensures in
     record {
-      told = λ bytes held is are.
+      reported = λ bytes held is are.
           fault_replayed (Unit {0}) c.reasons_are_answers.ensures c.fails_before_all.ensures c.places_are_of_records.ensures bytes is.are.records (way (contents is.are.records)) c.args.path c.in_err-origin.field-0.0 _
-          is.are.spelled (leads.is bytes is are) (leads.ends bytes is are) found.early (found.told bytes held is are.parts_are);
+          is.are.spelled (leads.is bytes is are) (leads.ends bytes is are) found.early (found.reported bytes held is are.parts_are);
       reads = λ bytes held is are. on_path 2 is.are.records _ c.args.path (leads.is bytes is are) (read_less 0 2 (λ n. omega arith) is.are.records _ (found.reads bytes held is are.parts_are));
       inside = λ bytes (is, are). (found.inside bytes is are.parts_are).asks;
       keeps = found.keeps;
@@ -33,8 +33,8 @@ returns g c = λ way leads.
     let given = c.replay_joined.ensures in
     let items = c.in_ok-origin.origin.places.items in
     record {
-      told = λ bytes held is are.
-          let at = found.told bytes held is are.parts_are in
+      reported = λ bytes held is are.
+          let at = found.reported bytes held is are.parts_are in
           let (joined, whole, places) = places_are bytes is.are.records c.args.path.given at.placed is.are.spelled at.there items c.places_are_of_records.ensures at.places_are in
           given.replayed bytes (found.keeps.kept ∙ held) (contents is.are.records) (way (contents is.are.records)) (record {
             origin = read_record at.placed.content;
@@ -45,7 +45,7 @@ returns g c = λ way leads.
             places_are = subst (λ l. ArePlacesOf bytes l joined) (sym c.deref.ensures.value) places;
           });
       reads = λ bytes held is are.
-          let at = found.told bytes held is are.parts_are in
+          let at = found.reported bytes held is are.parts_are in
           let places = places_in bytes is.are.records c.args.path.given is.are.spelled items at c.places_are_of_records.ensures c.places_are_as_long.ensures in
           on_path 2 is.are.records _ c.args.path (leads.is bytes is are)
           (then_read 0 2 2 (λ n. omega arith) is.are.records _ items c.deref.result.now _ (found.reads bytes held is are.parts_are) places c.deref.ensures.value
@@ -57,7 +57,7 @@ returns g c = λ way leads.
       late = given.late;
       fails = fails_after found.keeps.kept found.fails.may
           (fails_more (λ bytes held (is, are).
-          let at = found.told bytes (sym found.keeps.kept ∙ held) is are.parts_are in
+          let at = found.reported bytes (sym found.keeps.kept ∙ held) is are.parts_are in
           let (joined, whole, places) = places_are bytes is.are.records c.args.path.given at.placed is.are.spelled at.there items c.places_are_of_records.ensures at.places_are in
           record { joined = joined; short = is.short; places_are = subst (λ l. ArePlacesOf bytes l joined) (sym c.deref.ensures.value) places }) given.fails);
     }

@@ -13,7 +13,7 @@ returns-in-Ok g c =
 
 pub returns-in-Err : goal.returns-in-Err
 returns-in-Err g c = record {
-  told = λ bytes held is are. (
+  reported = λ bytes held is are. (
     (c.reasons_are_answers.ensures (contents is.are.records) _).0 c.in-Err.unfound
         (sym (path_by_index is.are.records c.args.uri.now c.args.moment.now) ∙ sym (c.in-Err.ensures is.are.records are)),
     refl,

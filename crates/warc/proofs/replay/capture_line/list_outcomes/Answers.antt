@@ -9,7 +9,7 @@ use Rattle.warc.proofs.replay.capture_line.list_outcomes.Goals as goal
 pub listing-init : goal.listing-init
 unfolding captures_text
 listing-init g c = record {
-  staged = c.new-buffer.ensures.begins ((g.W.Sink.seen c.args.out.now).tells);
+  staged = c.new-buffer.ensures.begins ((g.W.Sink.seen c.args.out.now).reports);
   sound = refl;
 }
 
@@ -26,17 +26,17 @@ returns-in_err-put_line g c =
     let p = err_from_is_err_and c.from_residual.result c.from_residual.ensures.1 in
     let next = text_next c.args.rows.now c.args.outcomes.now c.listing.outcome-index c.outcome-item.result c.listing-test.true c.outcome-item.is in
     let cut = same_out (sym (text_front c.args.rows.now c.args.outcomes.now (c.listing.outcome-index + 1))) (longer _ (same_out next (c.in_err-put_line.ensures.cut _ _ c.listing.invariant.staged))) in
-    rw (p.1, p.2) (record { told = search rules; cut = search rules; write = search rules; cause = search rules })
+    rw (p.1, p.2) (record { reported = search rules; cut = search rules; write = search rules; cause = search rules })
 
 pub returns-in_err-flush : goal.returns-in_err-flush
 returns-in_err-flush g c =
     let p = err_from_is_err_and c.from_residual-in_err-flush.result c.from_residual-in_err-flush.ensures.1 in
     let text = ap (λ l. captures_text c.args.rows.now (map outcome_seen l)) (take_all _ _ c.listing-test.false) in
     let cut = c.in_err-flush.ensures.cut _ _ (same_staged text c.listing.invariant.staged) in
-    rw (p.1, p.2) (record { told = search rules; cut = search rules; write = search rules; cause = search rules })
+    rw (p.1, p.2) (record { reported = search rules; cut = search rules; write = search rules; cause = search rules })
 
 pub returns : goal.returns
 returns g c =
     let text = ap (λ l. captures_text c.args.rows.now (map outcome_seen l)) (take_all _ _ c.listing-test.false) in
-    let told = c.in_ok-flush.ensures.told _ _ (same_staged text c.listing.invariant.staged) in
-    record { told = search rules; cut = search rules; write = search rules; cause = search rules }
+    let reported = c.in_ok-flush.ensures.reported _ _ (same_staged text c.listing.invariant.staged) in
+    record { reported = search rules; cut = search rules; write = search rules; cause = search rules }

@@ -7,6 +7,6 @@ use Rattle.warc.proofs.replay.capture_line.list_outcomes.Given as goal
 -- the lines of the outcomes so far are staged, and no write has failed
 abbrev pub invariant-listing : goal.invariant-listing
 invariant-listing g l = record {
-  staged : IsStaged ((g.W.Sink.seen l.fn.out).tells) (captures_text l.rows (map outcome_seen (take l.outcome-index l.outcomes))) ((g.W.Sink.seen l.out).tells) l.buffer;
+  staged : IsStaged ((g.W.Sink.seen l.fn.out).reports) (captures_text l.rows (map outcome_seen (take l.outcome-index l.outcomes))) ((g.W.Sink.seen l.out).reports) l.buffer;
   sound : (g.W.Sink.seen l.out).faults ≡ (g.W.Sink.seen l.fn.out).faults;
 }

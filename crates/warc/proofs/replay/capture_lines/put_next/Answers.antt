@@ -15,7 +15,7 @@ pub returns-in_err-put_line-clause-puts : goal.returns-in_err-put_line-clause-pu
 returns-in_err-put_line-clause-puts g c =
     let p = err_from_is_err_and c.from_residual.result c.from_residual.ensures.1 in
     let next = c.in-Ok.ensures in
-    rw (p.1, p.2) (puts_cut _ _ _ _ c.args.position (outcome_seen c.in-Ok.outcome) next.chosen next.told next.inside next.keeps next.fails.may c.in_err-put_line.ensures)
+    rw (p.1, p.2) (puts_cut _ _ _ _ c.args.position (outcome_seen c.in-Ok.outcome) next.chosen next.reported next.inside next.keeps next.fails.may c.in_err-put_line.ensures)
 
 pub returns-in_err-put_line-clause-remembers : goal.returns-in_err-put_line-clause-remembers
 returns-in_err-put_line-clause-remembers g c = c.in-Ok.ensures.remembers
@@ -23,7 +23,7 @@ returns-in_err-put_line-clause-remembers g c = c.in-Ok.ensures.remembers
 pub returns-clause-puts : goal.returns-clause-puts
 returns-clause-puts g c =
     let next = c.in-Ok.ensures in
-    puts_one _ _ _ _ c.args.position (outcome_seen c.in-Ok.outcome) next.chosen next.told next.inside next.keeps next.fails.may c.in_ok-put_line.ensures
+    puts_one _ _ _ _ c.args.position (outcome_seen c.in-Ok.outcome) next.chosen next.reported next.inside next.keeps next.fails.may c.in_ok-put_line.ensures
 
 pub returns-clause-remembers : goal.returns-clause-remembers
 returns-clause-remembers g c = c.in-Ok.ensures.remembers

@@ -7,7 +7,7 @@ pub returns : goal.returns
 returns g c =
     let judged = c.judge_each.ensures in
     record {
-      told = λ bytes held is are. judged.told bytes held is are (subst (λ l. AreKnownBlocks l is.are.records) (sym c.new-known.ensures) (nothing_known is.are.records));
+      reported = λ bytes held is are. judged.reported bytes held is are (subst (λ l. AreKnownBlocks l is.are.records) (sym c.new-known.ensures) (nothing_known is.are.records));
       early = judged.early;
       inside = judged.inside;
       keeps = judged.keeps;

@@ -12,7 +12,7 @@ use Rattle.warc.proofs.replay.captures.judge_each.Goals as goal
 
 pub judging-init : goal.judging-init
 judging-init g c = record {
-  told = λ bytes held is are known. record {
+  reported = λ bytes held is are known. record {
     each = rw c.new-outcomes.ensures.items tt;
     right = nothing_found _ _ is.are.records c.in-Ok.ensures known;
   };
@@ -28,11 +28,11 @@ judging-preserved g c =
     let next = c.in_ok-outcome.ensures in
     let added = c.in-Ok-push_outcome.ensures in
     record {
-      told = λ bytes held is are known.
-          let before = old.told bytes held is are known in
+      reported = λ bytes held is are known.
+          let before = old.reported bytes held is are known in
           record {
             each = subst (λ l. AllByRecursion (IsOutcome (contents is.are.records)) (map outcome_seen l)) (sym added)
-                (more_outcomes (contents is.are.records) c.judging.outcomes.items c.in_ok-outcome.outcome before.each (next.told bytes (old.keeps.kept ∙ held) is are before.right));
+                (more_outcomes (contents is.are.records) c.judging.outcomes.items c.in_ok-outcome.outcome before.each (next.reported bytes (old.keeps.kept ∙ held) is are before.right));
             right = next.remembers bytes (old.keeps.kept ∙ held) is are before.right;
           };
       chosen = ap (λ l. map (λ o. o.chosen) l) added ∙ chosen_more c.judging.outcomes.items c.in_ok-outcome.outcome
@@ -45,9 +45,9 @@ judging-preserved g c =
 
 pub returns : goal.returns
 returns g c = record {
-  told = λ bytes held is are known. record {
+  reported = λ bytes held is are known. record {
     chosen = chosen_seen c.judging.outcomes.items ∙ c.judging.invariant.chosen ∙ take_all _ _ c.judging-test.false;
-    each = (c.judging.invariant.told bytes held is are known).each;
+    each = (c.judging.invariant.reported bytes held is are known).each;
   };
   early = tt;
   inside = c.judging.invariant.inside;
@@ -61,7 +61,7 @@ returns-in_err-outcome g c =
     let old = c.judging.invariant in
     let next = c.in_err-outcome.ensures in
     rw (p.1, p.2) (record {
-      told = λ bytes held is are known. tt;
+      reported = λ bytes held is are known. tt;
       early = next.early;
       inside = asks_on old.keeps old.inside next;
       keeps = preserves_both old.keeps next.keeps;
@@ -74,7 +74,7 @@ returns-in_default-push_outcome g c =
     let old = c.judging.invariant in
     let next = c.in_ok-outcome.ensures in
     record {
-      told = λ bytes held is are known. tt;
+      reported = λ bytes held is are known. tt;
       early = refl;
       inside = asks_on old.keeps old.inside next;
       keeps = preserves_both old.keeps next.keeps;

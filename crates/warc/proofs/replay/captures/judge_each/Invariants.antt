@@ -10,7 +10,7 @@ use Rattle.warc.proofs.replay.captures.judge_each.Given as goal
 -- the outcomes so far, and what was found of the blocks that are joined to each origin
 abbrev pub invariant-judging : goal.invariant-judging
 invariant-judging g l = record {
-  told : IfHeld ((g.S.Source.seen l.fn.source).holds) (λ bytes. (is : IsArchiveOf bytes l.rows) → AreOf is.are.records l.lookup.index l.lookup.parts
+  reported : IfHeld ((g.S.Source.seen l.fn.source).holds) (λ bytes. (is : IsArchiveOf bytes l.rows) → AreOf is.are.records l.lookup.index l.lookup.parts
       → AreKnownBlocks l.known is.are.records → AreSoFar is.are.records l.known l.found l.outcomes.items);
   chosen : map (λ o. o.chosen) l.outcomes.items ≡ take l.position-index l.positions;
   inside : AsksInside l.rows l.lookup.index l.lookup.parts (g.S.Source.seen l.fn.source) (g.S.Source.seen l.source);

@@ -16,9 +16,9 @@ returns-in_err-origin g c =
     let found = c.in_err-origin.ensures in
     record {
       held = λ bytes held is are. record {
-        located = λ tells.
-            fault_replayed (Unit {0}) c.reasons_are_answers.ensures c.fails_before_all.ensures c.places_are_of_records.ensures bytes is.are.records (way (contents is.are.records)) c.args.path c.in_err-origin.field-0.0 tells
-            is.are.spelled (leads.is bytes is are) (leads.ends bytes is are) found.early (found.told bytes held is are.parts_are);
+        located = λ reports.
+            fault_replayed (Unit {0}) c.reasons_are_answers.ensures c.fails_before_all.ensures c.places_are_of_records.ensures bytes is.are.records (way (contents is.are.records)) c.args.path c.in_err-origin.field-0.0 reports
+            is.are.spelled (leads.is bytes is are) (leads.ends bytes is are) found.early (found.reported bytes held is are.parts_are);
         reads = on_path 1 is.are.records _ c.args.path (leads.is bytes is are) (read_less 0 1 (λ n. omega arith) is.are.records _ (found.reads bytes held is are.parts_are));
       };
       early = found.early;
@@ -34,7 +34,7 @@ returns g c = λ way leads.
     let items = c.in_ok-origin.origin.places.items in
     record {
       held = λ bytes held is are.
-          let at = found.told bytes held is are.parts_are in
+          let at = found.reported bytes held is are.parts_are in
           let (joined, whole, places) = places_are bytes is.are.records c.args.path.given at.placed is.are.spelled at.there items c.places_are_of_records.ensures at.places_are in
           record {
             located = given.located bytes (found.keeps.kept ∙ held) (contents is.are.records) (way (contents is.are.records)) (record {
@@ -57,7 +57,7 @@ returns g c = λ way leads.
       keeps = preserves_both found.keeps (record { kept = given.reads.kept; watched = given.reads.watched });
       fails = fails_after found.keeps.kept found.fails.may
           (fails_more (λ bytes held (is, are).
-          let at = found.told bytes (sym found.keeps.kept ∙ held) is are.parts_are in
+          let at = found.reported bytes (sym found.keeps.kept ∙ held) is are.parts_are in
           let (joined, whole, places) = places_are bytes is.are.records c.args.path.given at.placed is.are.spelled at.there items c.places_are_of_records.ensures at.places_are in
           record { joined = joined; short = is.short; places_are = subst (λ l. ArePlacesOf bytes l joined) (sym c.deref.ensures.value) places }) given.fails);
     }

@@ -15,7 +15,7 @@ use Rattle.warc.proofs.replay.origin.origin_at.Goals as goal
 
 pub returns-in_default-buffer_for : goal.returns-in_default-buffer_for
 returns-in_default-buffer_for g c = record {
-  told = λ bytes held is parts. tt;
+  reported = λ bytes held is parts. tt;
   reads = λ bytes held is parts. reads_nothing;
   inside = λ bytes is parts. record { asks = λ off. refl; ends = tt };
   early = refl;
@@ -25,7 +25,7 @@ returns-in_default-buffer_for g c = record {
 
 pub returns-in_default : goal.returns-in_default
 returns-in_default g c = record {
-  told = λ bytes held is parts. tt;
+  reported = λ bytes held is parts. tt;
   reads = λ bytes held is parts. reads_nothing;
   inside = λ bytes is parts. record { asks = λ off. refl; ends = tt };
   early = refl;
@@ -41,7 +41,7 @@ pub returns : goal.returns
 returns g c =
     let given = c.origin_through.ensures in
     record {
-      told = λ bytes held is parts.
+      reported = λ bytes held is parts.
           let (p, there, same) = placed is.are.records c.args.position c.in-Some.row (ap (λ l. slice_get l c.args.position) (sym is.are.rows_are) ∙ sym c.get.ensures ∙ c.in-Some.is) in
           let can = checkable_archive c.head_of_spelled.ensures bytes c.args.rows.now is c.args.rows.now refl in
           made_found is.are.records c.args.position p c.in-Some.row c.origin_through.result there same

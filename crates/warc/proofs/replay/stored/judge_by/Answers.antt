@@ -4,7 +4,7 @@ use Rattle.warc.proofs.replay.stored.judge_by.Goals as goal
 
 pub returns-in-Ok : goal.returns-in-Ok
 returns-in-Ok g c = record {
-  told = c.in-Ok.ensures.told;
+  reported = c.in-Ok.ensures.reported;
   early = tt;
   inside = c.in-Ok.ensures.inside;
   keeps = c.in-Ok.ensures.keeps;

@@ -14,7 +14,7 @@ returns-in_err-origin g c =
     let p = err_from_is_err_and c.from_residual.result c.from_residual.ensures.1 in
     let found = c.in_err-origin.ensures in
     rw (p.1, p.2) (record {
-      told = λ bytes held is parts. gap_looked (Unit {0}) (Unit {0}) bytes is.are.records c.args.position c.in_err-origin.field-0.0 is.are.spelled c.places_are_of_records.ensures (found.told bytes held is parts);
+      reported = λ bytes held is parts. gap_looked (Unit {0}) (Unit {0}) bytes is.are.records c.args.position c.in_err-origin.field-0.0 is.are.spelled c.places_are_of_records.ensures (found.reported bytes held is parts);
       reads = λ bytes held is parts. record { reads = read_less 0 1 (λ n. omega arith) is.are.records _ (found.reads bytes held is parts); places = tt };
       inside = λ bytes is parts. record { asks = (found.inside bytes is parts).asks; ends = tt };
       early = found.early;
@@ -29,8 +29,8 @@ returns-in-Err g c =
     let items = c.in_ok-origin.origin.places.items in
     let path : Path = record { chosen = c.args.position; given = c.args.position } in
     record {
-      told = λ bytes held is parts.
-          let at = found.told bytes held is parts in
+      reported = λ bytes held is parts.
+          let at = found.reported bytes held is parts in
           let (joined, whole, places) = places_are bytes is.are.records c.args.position at.placed is.are.spelled at.there items c.places_are_of_records.ensures at.places_are in
           look_failed (Unit {0}) (Unit {0}) bytes is.are.records c.args.position at.placed joined c.in-Err.fault at.there whole
           (given.judged bytes (found.keeps.kept ∙ held) at.placed.content joined (record {
@@ -43,19 +43,19 @@ returns-in-Err g c =
           }) at.http_is (c.deref.ensures.value ∙ at.type_is));
       reads = λ bytes held is parts. record {
         reads =
-            let at = found.told bytes held is parts in
+            let at = found.reported bytes held is parts in
             then_read 0 1 1 (λ n. omega arith) is.are.records _ items c.deref-2.result.now _ (found.reads bytes held is parts)
             (places_in bytes is.are.records c.args.position is.are.spelled items at c.places_are_of_records.ensures c.places_are_as_long.ensures) c.deref-2.ensures.value (omega arith) given.reads;
         places = tt;
       };
       inside = λ bytes is parts.
           let stays = found.inside bytes is parts in
-          record { asks = then_inside bytes items c.deref-2.result.now (g.S.Source.seen c.args.source.now) (g.S.Source.seen c.origin_at.new.source) (g.S.Source.seen c.judge_joined.new.source) found.keeps.watched stays.asks stays.ends c.deref-2.ensures.value given.reads.near; ends = tt };
+          record { asks = then_inside bytes items c.deref-2.result.now (g.S.Source.seen c.args.source.now) (g.S.Source.seen c.origin_at.new.source) (g.S.Source.seen c.find_stored.new.source) found.keeps.watched stays.asks stays.ends c.deref-2.ensures.value given.reads.near; ends = tt };
       early = given.early;
       keeps = preserves_both found.keeps (record { kept = given.reads.kept; watched = given.reads.watched });
       fails = fails_after found.keeps.kept found.fails.may
           (fails_more (λ bytes held (is, parts, within).
-          let at = found.told bytes (sym found.keeps.kept ∙ held) is parts in
+          let at = found.reported bytes (sym found.keeps.kept ∙ held) is parts in
           let (joined, whole, places) = places_are bytes is.are.records c.args.position at.placed is.are.spelled at.there items c.places_are_of_records.ensures at.places_are in
           record { joined = joined; short = is.short; places_are = subst (λ l. ArePlacesOf bytes l joined) (sym c.deref-2.ensures.value) places })
           (fault_fails (Unit {0}) (Unit {0}) c.in-Err.fault given.fails));
@@ -68,8 +68,8 @@ returns-in-Ok g c =
     let items = c.in_ok-origin.origin.places.items in
     let path : Path = record { chosen = c.args.position; given = c.args.position } in
     record {
-      told = λ bytes held is parts.
-          let at = found.told bytes held is parts in
+      reported = λ bytes held is parts.
+          let at = found.reported bytes held is parts in
           let (joined, whole, places) = places_are bytes is.are.records c.args.position at.placed is.are.spelled at.there items c.places_are_of_records.ensures at.places_are in
           look_made bytes is.are.records c.args.position at.placed joined c.in-Ok.stored c.in_ok-origin.origin.places is.short at.there whole places
           (given.judged bytes (found.keeps.kept ∙ held) at.placed.content joined (record {
@@ -81,7 +81,7 @@ returns-in-Ok g c =
             places_are = subst (λ l. ArePlacesOf bytes l joined) (sym c.deref-2.ensures.value) places;
           }) at.http_is (c.deref.ensures.value ∙ at.type_is));
       reads = λ bytes held is parts.
-          let at = found.told bytes held is parts in
+          let at = found.reported bytes held is parts in
           let places = places_in bytes is.are.records c.args.position is.are.spelled items at c.places_are_of_records.ensures c.places_are_as_long.ensures in
           record {
             reads = then_read 0 1 1 (λ n. omega arith) is.are.records _ items c.deref-2.result.now _ (found.reads bytes held is parts) places c.deref-2.ensures.value (omega arith) given.reads;
@@ -89,7 +89,7 @@ returns-in-Ok g c =
           };
       inside = λ bytes is parts.
           let stays = found.inside bytes is parts in
-          record { asks = then_inside bytes items c.deref-2.result.now (g.S.Source.seen c.args.source.now) (g.S.Source.seen c.origin_at.new.source) (g.S.Source.seen c.judge_joined.new.source) found.keeps.watched stays.asks stays.ends c.deref-2.ensures.value given.reads.near; ends = stays.ends };
+          record { asks = then_inside bytes items c.deref-2.result.now (g.S.Source.seen c.args.source.now) (g.S.Source.seen c.origin_at.new.source) (g.S.Source.seen c.find_stored.new.source) found.keeps.watched stays.asks stays.ends c.deref-2.ensures.value given.reads.near; ends = stays.ends };
       early = tt;
       keeps = preserves_both found.keeps (record { kept = given.reads.kept; watched = given.reads.watched });
       fails = record { may = given.fails.may ∙ found.fails.may; failed = λ bytes held is. given.fails.may ∙ found.fails.may };

@@ -15,7 +15,7 @@ returns-in_err-origin g c =
     let p = err_from_is_err_and c.from_residual.result c.from_residual.ensures.1 in
     let found = c.in_err-origin.ensures in
     rw (p.1, p.2) (record {
-      told = λ bytes held is parts one all. gap_found (Unit {0}) (Unit {0}) bytes is.are.records c.args.position c.in_err-origin.field-0.0 is.are.spelled c.places_are_of_records.ensures (found.told bytes held is parts);
+      reported = λ bytes held is parts one all. gap_found (Unit {0}) (Unit {0}) bytes is.are.records c.args.position c.in_err-origin.field-0.0 is.are.spelled c.places_are_of_records.ensures (found.reported bytes held is parts);
       early = found.early;
       inside = λ bytes is parts. (found.inside bytes is parts).asks;
       keeps = found.keeps;
@@ -29,8 +29,8 @@ returns g c =
     let items = c.in_ok-origin.origin.places.items in
     let path : Path = record { chosen = c.args.position; given = c.args.position } in
     record {
-      told = λ bytes held is parts one all.
-          let at = found.told bytes held is parts in
+      reported = λ bytes held is parts one all.
+          let at = found.reported bytes held is parts in
           let (joined, whole, places) = places_are bytes is.are.records c.args.position at.placed is.are.spelled at.there items c.places_are_of_records.ensures at.places_are in
           stored_found is.are.records c.args.position at.placed joined c.judge_known.result at.there whole
           (given.judged bytes (found.keeps.kept ∙ held) at.placed.content joined (record {
@@ -50,7 +50,7 @@ returns g c =
       keeps = preserves_both found.keeps (record { kept = given.reads.kept; watched = given.reads.watched });
       fails = fails_after found.keeps.kept found.fails.may
           (fails_more (λ bytes held (is, parts, within).
-          let at = found.told bytes (sym found.keeps.kept ∙ held) is parts in
+          let at = found.reported bytes (sym found.keeps.kept ∙ held) is parts in
           let (joined, whole, places) = places_are bytes is.are.records c.args.position at.placed is.are.spelled at.there items c.places_are_of_records.ensures at.places_are in
           record { joined = joined; short = is.short; places_are = subst (λ l. ArePlacesOf bytes l joined) (sym c.deref-2.ensures.value) places })
           given.fails);

@@ -11,7 +11,7 @@ pub returns-in_err-look : goal.returns-in_err-look
 returns-in_err-look g c =
     let p = err_from_is_err_and c.from_residual.result c.from_residual.ensures.1 in
     rw (p.1, p.2) (record {
-      told = λ bytes held is parts. nothing_sent (Unit {0}) (contents is.are.records) c.args.position c.in_err-look.field-0.0 _ bytes c.in_err-look.ensures.early (c.in_err-look.ensures.told bytes held is parts);
+      reported = λ bytes held is parts. nothing_sent (Unit {0}) (contents is.are.records) c.args.position c.in_err-look.field-0.0 _ bytes c.in_err-look.ensures.early (c.in_err-look.ensures.reported bytes held is parts);
       reads = origin_read_less c.in_err-look.ensures;
       inside = asked_within c.in_err-look.ensures;
       silent = (early_late {X = Unit {0}} c.in_err-look.field-0.0 (g.W.Sink.seen c.args.out.now) c.in_err-look.ensures.early).silent;
@@ -22,8 +22,8 @@ returns-in_err-look g c =
 
 pub returns-in-Ok : goal.returns-in-Ok
 returns-in-Ok g c = record {
-  told = λ bytes held is parts.
-      let look = c.in_ok-look.ensures.told bytes held is parts in
+  reported = λ bytes held is parts.
+      let look = c.in_ok-look.ensures.reported bytes held is parts in
       all_sent (contents is.are.records) c.args.position c.in_ok-look.look.stored (text_at c.deref.result.now bytes) _ _ look.0
       (ap (λ l. text_at l bytes) c.deref.ensures.value ∙ look.1)
       (c.in-Ok.ensures.sends.out bytes _ (c.in_ok-look.ensures.keeps.kept ∙ held) (subst (λ l. LieIn l bytes) (sym c.deref.ensures.value) look.2, refl));
@@ -43,8 +43,8 @@ returns-in-Ok g c = record {
 
 pub returns-in-Err : goal.returns-in-Err
 returns-in-Err g c = record {
-  told = λ bytes held is parts.
-      let look = c.in_ok-look.ensures.told bytes held is parts in
+  reported = λ bytes held is parts.
+      let look = c.in_ok-look.ensures.reported bytes held is parts in
       front_sent (Unit {0}) (contents is.are.records) c.args.position _ c.in-Err.fault (text_at c.deref.result.now bytes) _ _ look.0
       (ap (λ l. text_at l bytes) c.deref.ensures.value ∙ look.1)
       (c.in-Err.ensures.sends.cut bytes _ (c.in_ok-look.ensures.keeps.kept ∙ held) (subst (λ l. LieIn l bytes) (sym c.deref.ensures.value) look.2, refl));
@@ -57,7 +57,7 @@ returns-in-Err g c = record {
   };
   fails = fails_after c.in_ok-look.ensures.keeps.kept c.in_ok-look.ensures.fails.may
       (fails_more (λ bytes held (is, parts, within).
-      let look = c.in_ok-look.ensures.told bytes (sym c.in_ok-look.ensures.keeps.kept ∙ held) is parts in
+      let look = c.in_ok-look.ensures.reported bytes (sym c.in_ok-look.ensures.keeps.kept ∙ held) is parts in
       (_, (subst (λ l. LieIn l bytes) (sym c.deref.ensures.value) look.2, refl))) c.in-Err.ensures.sends.fails);
   cause = c.in-Err.ensures.sends.cause;
 }

@@ -31,7 +31,7 @@ returns-in-Ok-marked_positions g c =
     subst (λ (marks : List Mark). AreWhere (λ p. marks_needed (mark_in marks p)) (length marks) closed) left
     c.in-Ok-marked_positions.ensures in
     record {
-      told = λ bytes held is are.
+      reported = λ bytes held is are.
           let all = map indexed_record is.are.records in
           let many : length rows ≡ length all = as_many bytes rows is ∙ sym (length-map is.are.records indexed_record) in
           let ways : AreMarked (next_of all) positions c.mark_ways.new.marks =
@@ -40,7 +40,7 @@ returns-in-Ok-marked_positions g c =
           (subst (λ (n : ℕ). All (λ p. p < n) positions) many c.requires.below) in
           let plain : HasNoSegment c.mark_ways.new.marks =
           c.mark_ways.ensures.plain (none_segment c.deref_mut.result.now c.len.result first) in
-          let taken = c.in_ok-take_all.ensures.takes.told bytes held is are.parts_are (subst HasNoSegment (sym back) plain) in
+          let taken = c.in_ok-take_all.ensures.takes.reported bytes held is are.parts_are (subst HasNoSegment (sym back) plain) in
           closed_are bytes rows positions closed c.deref_mut-2.result.now c.take_all.new.marks is long
           (subst (AreMarked (next_of all) positions) (sym back) ways) taken listed;
       are = subst (λ (n : ℕ). ArePositions n closed) long listed.are;

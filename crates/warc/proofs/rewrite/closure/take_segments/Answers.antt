@@ -9,8 +9,8 @@ taking-preserved-then-is_free g c =
     let old = c.taking.invariant in
     record {
       same = old.same;
-      told = λ bytes held is parts none.
-          taken_past is.are.records c.taking.position c.args.marks.now c.taking.marks (old.told bytes held is parts none)
+      reported = λ bytes held is parts none.
+          taken_past is.are.records c.taking.position c.args.marks.now c.taking.marks (old.reported bytes held is parts none)
           (c.is_free.ensures.free c.if-is_free.true);
       reads = heads_past c.args.rows.now c.taking.position old.reads;
       sound = old.sound;
@@ -24,12 +24,12 @@ taking-preserved g c =
     let (row, at) = some_at c.args.rows.now c.taking.position within in
     record {
       same = next.same ∙ old.same;
-      told = λ bytes held is parts none.
-          let before = old.told bytes held is parts none in
+      reported = λ bytes held is parts none.
+          let before = old.reported bytes held is parts none in
           let (p, there) = record_there bytes c.args.rows.now c.taking.position is within in
           let inside = c.is_free.ensures.marked c.if-is_free.false (omega (arith, old.same, c.requires.table, within)) in
           taken_next is.are.records c.taking.position p c.args.marks.now c.taking.marks c.take_segments_of.new.marks before
-          there inside (next.takes.told bytes (old.reads.kept ∙ held) is p there parts before.taken);
+          there inside (next.takes.reported bytes (old.reads.kept ∙ held) is p there parts before.taken);
       reads = heads_more c.args.rows.now c.taking.position row at old.reads (next.takes.reads row at);
       sound = next.takes.fails.may ∙ old.sound;
     }
@@ -42,7 +42,7 @@ returns-in_err-take_segments_of-clause-takes g c =
     let within : c.taking.position < length c.args.rows.now = omega (arith, c.taking-test.true, c.len-position-end.ensures) in
     let (row, at) = some_at c.args.rows.now c.taking.position within in
     rw (p.1, p.2) (record {
-      told = λ bytes held is parts none. tt;
+      reported = λ bytes held is parts none. tt;
       early = next.takes.early;
       reads = heads_all c.args.rows.now (c.taking.position + 1)
           (heads_more c.args.rows.now c.taking.position row at old.reads (next.takes.reads row at));
@@ -53,9 +53,9 @@ pub returns-clause-takes : goal.returns-clause-takes
 returns-clause-takes g c =
     let old = c.taking.invariant in
     record {
-      told = λ bytes held is parts none.
+      reported = λ bytes held is parts none.
           taken_fewer is.are.records (length c.args.rows.now) c.taking.position c.args.marks.now c.taking.marks
-          (omega (arith, c.taking-test.false, c.len-position-end.ensures)) (old.told bytes held is parts none);
+          (omega (arith, c.taking-test.false, c.len-position-end.ensures)) (old.reported bytes held is parts none);
       early = tt;
       reads = heads_all c.args.rows.now c.taking.position old.reads;
       fails = fails_never old.sound;

@@ -11,7 +11,7 @@ use Rattle.warc.proofs.rewrite.closure.take_segments.Given as goal
 abbrev pub invariant-taking : goal.invariant-taking
 invariant-taking g l = record {
   same : length l.marks ≡ length l.fn.marks;
-  told : IfHeld ((g.S.Source.seen l.fn.source).holds) (λ bytes. (is : IsArchiveOf bytes l.rows) → ArePartsOf is.are.records l.parts
+  reported : IfHeld ((g.S.Source.seen l.fn.source).holds) (λ bytes. (is : IsArchiveOf bytes l.rows) → ArePartsOf is.are.records l.parts
       → HasNoSegment l.fn.marks → AreTakenOf is.are.records l.position l.fn.marks l.marks);
   reads : ReadsOnly (IsInHead l.rows) (heads_len (take l.position l.rows)) (g.S.Source.seen l.fn.source) (g.S.Source.seen l.source);
   sound : (g.S.Source.seen l.source).faults ≡ (g.S.Source.seen l.fn.source).faults;

@@ -9,10 +9,10 @@ use Rattle.warc.proofs.rewrite.closure.take_segments_of.Goals as goal
 
 pub returns-in-Ok-clause-takes : goal.returns-in-Ok-clause-takes
 returns-in-Ok-clause-takes g c = record {
-  told = λ bytes held is p there parts taken.
+  reported = λ bytes held is p there parts taken.
       let many = c.requires.table ∙ (as_many bytes c.args.rows.now is ∙ sym (length-map is.are.records placed_record)) in
       subst (λ (h : Reading). TakesSeries (pieces_of is.are.records) h c.args.marks.now c.take_series.new.marks)
-      (c.typed.ensures ∙ ap reading_of (c.in_ok-head.ensures.told bytes held is p there))
+      (c.typed.ensures ∙ ap reading_of (c.in_ok-head.ensures.reported bytes held is p there))
       (c.in-Ok.ensures.takes (map placed_record is.are.records) parts many taken);
   early = tt;
   reads = c.in_ok-head.ensures.reads;

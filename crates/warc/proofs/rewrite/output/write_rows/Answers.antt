@@ -12,10 +12,10 @@ returns-in_default-clause-sends g c = record {
 
 pub returns-clause-sends : goal.returns-clause-sends
 returns-clause-sends g c =
-    let start = (g.W.Sink.seen c.args.out.now).tells in
+    let start = (g.W.Sink.seen c.args.out.now).reports in
     record {
       out = λ bytes text held are.
-          c.in_ok-flush.ensures.told start _ (c.in_ok-put_records.ensures.emits.out bytes text held are start [] (c.new-buffer.ensures.begins start));
+          c.in_ok-flush.ensures.reported start _ (c.in_ok-put_records.ensures.emits.out bytes text held are start [] (c.new-buffer.ensures.begins start));
       cut = λ bytes text held are. tt;
       cause = search rules;
       fails = record { may = search rules; failed = λ bytes held is. search rules };
@@ -24,7 +24,7 @@ returns-clause-sends g c =
 pub returns-in_err-put_records-clause-sends : goal.returns-in_err-put_records-clause-sends
 returns-in_err-put_records-clause-sends g c =
     let p = err_from_is_err_and c.from_residual.result c.from_residual.ensures.1 in
-    let start = (g.W.Sink.seen c.args.out.now).tells in
+    let start = (g.W.Sink.seen c.args.out.now).reports in
     rw (p.1, p.2) (record {
       out = λ bytes text held are. tt;
       cut = λ bytes text held are. c.in_err-put_records.ensures.emits.cut bytes text held are start [] (c.new-buffer.ensures.begins start);
@@ -35,7 +35,7 @@ returns-in_err-put_records-clause-sends g c =
 pub returns-in_err-flush-clause-sends : goal.returns-in_err-flush-clause-sends
 returns-in_err-flush-clause-sends g c =
     let p = err_from_is_err_and c.from_residual-in_err-flush.result c.from_residual-in_err-flush.ensures.1 in
-    let start = (g.W.Sink.seen c.args.out.now).tells in
+    let start = (g.W.Sink.seen c.args.out.now).reports in
     rw (p.1, p.2) (record {
       out = λ bytes text held are. tt;
       cut = λ bytes text held are.

@@ -1,16 +1,16 @@
 use Rattle.std.proofs.Common.{take_all, sym, subst, List, ℕ}
 use Rattle.std.specs.Prelude.{Contains}
-use Rattle.warc.proofs.StandingLemmas.{unnamed_next, named_here}
+use Rattle.warc.proofs.StatusLemmas.{unnamed_next, named_here}
 use Rattle.warc.proofs.rewrite.remainder.has_named.Goals as goal
 
 pub looking-preserved : goal.looking-preserved
 looking-preserved c =
-    unnamed_next c.args.positions.now c.looking.position-index c.args.standings.now c.looking-test.true c.looking.invariant
+    unnamed_next c.args.positions.now c.looking.position-index c.args.statuses.now c.looking-test.true c.looking.invariant
     (c.is_named.ensures.no c.if-is_named.false)
 
 pub returns-then-is_named-clause-yes : goal.returns-then-is_named-clause-yes
 returns-then-is_named-clause-yes c is =
-    named_here c.args.positions.now c.looking.position-index c.args.standings.now c.looking-test.true
+    named_here c.args.positions.now c.looking.position-index c.args.statuses.now c.looking-test.true
     (c.is_named.ensures.yes c.if-is_named.true)
 
 pub returns-clause-no : goal.returns-clause-no

@@ -1,7 +1,7 @@
 use Rattle.warc.specs.Marks.{AreWhere}
-use Rattle.warc.specs.Standings.{needs_none, standing_at}
+use Rattle.warc.specs.Statuses.{needs_none, status_at}
 use Rattle.warc.proofs.rewrite.remainder.kept_positions.Given as goal
 
 -- the kept positions so far
 abbrev pub invariant-listing : goal.invariant-listing
-invariant-listing g l = AreWhere (λ p. needs_none (standing_at l.standings p)) l.position l.positions.items
+invariant-listing g l = AreWhere (λ p. needs_none (status_at l.statuses p)) l.position l.positions.items

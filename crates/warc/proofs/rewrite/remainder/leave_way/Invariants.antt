@@ -3,15 +3,15 @@ use Rattle.warc_index.specs.Captures.{Indexed}
 use Rattle.warc_index.specs.Orders.{IsIndexOf}
 use Rattle.warc_index.specs.Referents.{next_of}
 use Rattle.warc_index.specs.Walks.{walk}
-use Rattle.warc.specs.Standings.{LeavesWay}
+use Rattle.warc.specs.Statuses.{LeavesWay}
 use Rattle.warc.proofs.rewrite.remainder.leave_way.Given as goal
 
 -- the places so far are left out
 abbrev pub invariant-leaving : goal.invariant-leaving
 invariant-leaving g l = record {
-  same : length l.standings ≡ length l.fn.standings;
-  way : (all : List Indexed) → IsIndexOf all l.index → length l.fn.standings ≡ length all → record {
-    leaves : LeavesWay (next_of all) l.position l._step l.fn.standings l.standings;
+  same : length l.statuses ≡ length l.fn.statuses;
+  way : (all : List Indexed) → IsIndexOf all l.index → length l.fn.statuses ≡ length all → record {
+    leaves : LeavesWay (next_of all) l.position l._step l.fn.statuses l.statuses;
     here : walk (next_of all) l.position l._step ≡ Some l.at;
   };
 }

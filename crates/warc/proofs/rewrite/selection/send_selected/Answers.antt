@@ -4,10 +4,10 @@ use Rattle.warc.proofs.rewrite.selection.send_selected.Goals as goal
 
 pub returns-clause-sends : goal.returns-clause-sends
 returns-clause-sends g c =
-    let start = (g.W.Sink.seen c.args.out.now).tells in
+    let start = (g.W.Sink.seen c.args.out.now).reports in
     record {
       out = λ bytes text held are.
-          c.in_ok-flush.ensures.told start _ (c.in_ok-put_selected.ensures.emits.out bytes text held are start [] (c.new-buffer.ensures.begins start));
+          c.in_ok-flush.ensures.reported start _ (c.in_ok-put_selected.ensures.emits.out bytes text held are start [] (c.new-buffer.ensures.begins start));
       cut = λ bytes text held are. tt;
       cause = search rules;
       fails = record { may = search rules; failed = λ bytes held is. search rules };
@@ -16,7 +16,7 @@ returns-clause-sends g c =
 pub returns-in_err-put_selected-clause-sends : goal.returns-in_err-put_selected-clause-sends
 returns-in_err-put_selected-clause-sends g c =
     let p = err_from_is_err_and c.from_residual.result c.from_residual.ensures.1 in
-    let start = (g.W.Sink.seen c.args.out.now).tells in
+    let start = (g.W.Sink.seen c.args.out.now).reports in
     rw (p.1, p.2) (record {
       out = λ bytes text held are. tt;
       cut = λ bytes text held are. c.in_err-put_selected.ensures.emits.cut bytes text held are start [] (c.new-buffer.ensures.begins start);
@@ -27,7 +27,7 @@ returns-in_err-put_selected-clause-sends g c =
 pub returns-in_err-flush-clause-sends : goal.returns-in_err-flush-clause-sends
 returns-in_err-flush-clause-sends g c =
     let p = err_from_is_err_and c.from_residual-in_err-flush.result c.from_residual-in_err-flush.ensures.1 in
-    let start = (g.W.Sink.seen c.args.out.now).tells in
+    let start = (g.W.Sink.seen c.args.out.now).reports in
     rw (p.1, p.2) (record {
       out = λ bytes text held are. tt;
       cut = λ bytes text held are.

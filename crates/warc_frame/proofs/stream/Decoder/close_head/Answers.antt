@@ -18,7 +18,7 @@ invariant_of-self-in-Err g c =
     let place : c.if-is_empty.self-inside.position ≡ c.self.inside.position = elim c.if-is_empty.branch [ then-is_empty w ↦ rw w.self-inside-is refl | else-is_empty+else-is_err w ↦ rw w.self-inside-is refl ] in
     let same : c.if-is_empty.self-inside.matched ≡ c.self.inside.matched = elim c.if-is_empty.branch [ then-is_empty w ↦ rw w.self-inside-is refl | else-is_empty+else-is_err w ↦ rw w.self-inside-is refl ] in
     subst (λ x. IsSound c.if-is_empty.self-inside.position x c.if-is_empty.self-inside.matched) (sym c.clear.ensures.items)
-    (sound_between c.if-is_empty.self-inside.position c.if-is_empty.self-inside.matched (omega (arith, place, c.self.invariant.limit)) (omega (arith, same, c.self.invariant.fewer)) (omega (arith, place, same, c.self.invariant.behind)))
+    (sound_between c.if-is_empty.self-inside.position c.if-is_empty.self-inside.matched (omega (arith, place, c.self.invariant.limit)) (omega (arith, same, c.self.invariant.fewer)) (omega (arith, place, same, c.self.invariant.following)))
 
 pub returns-in-Ok-clause-closes : goal.returns-in-Ok-clause-closes
 returns-in-Ok-clause-closes g c =

@@ -1,6 +1,6 @@
 use Rattle.std.proofs.Common.{[], sym, subst, arith}
 use Rattle.warc_frame.specs.Decoding.{IsAt, IsSound}
-use Rattle.warc_frame.specs.Told.{nothing}
+use Rattle.warc_frame.specs.Reported.{nothing}
 use Rattle.warc_frame.specs.declared.stream.Phase.TheVariants as phases
 use Rattle.warc_frame.proofs.StreamSteps.{begun, sound_between}
 use Rattle.warc_frame.proofs.stream.Decoder.new.Goals as goal

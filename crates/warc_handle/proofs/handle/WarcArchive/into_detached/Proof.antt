@@ -33,7 +33,7 @@ use Rattle.std.proofs.alloc.Global.TheLaws as heap_laws
 use Rattle.std.specs.contracts.impls.GlobalAllocator.TheImpl as of_heap
 use Rattle.warc_handle.specs.Handle.{open_row}
 use Rattle.warc_handle.specs.contracts.handle.WarcArchive as handle
-use Rattle.warc_handle.proofs.Values.{pair_val, Detached, detached_fits, detached_in, handle_val, handle_told, by_open, ptr_fits}
+use Rattle.warc_handle.proofs.Values.{pair_val, Detached, detached_fits, detached_in, handle_val, handle_reported, by_open, ptr_fits}
 use Rattle.warc_handle.specs.contracts.handle.WarcArchive.into_detached.{ended, clauses}
 use Rattle.warc_handle.specs.contracts.handle.WarcArchive.into_detached.Key.{name as #self}
 use Rattle.warc_handle.proofs.handle.WarcArchive.into_detached.Statement.{statement}
@@ -62,12 +62,12 @@ into_detached_spec 𝓤 𝓛 𝓜 𝓡 wired =
     let Run : List Val → SProp 𝓤 = λ ws. WpFn 𝓤 H 𝓣.C 𝓣.Λ fn ws Post in
     let Out : RattleType = type_at E.signature.result z.0.0 in
     let tokens = raw (alive 𝓛 E.signature z.0.0 z.0.1) in
-    let told = handle_told v.at v.is_open z.0.4.0 are.0.0 in
+    let reported = handle_reported v.at v.is_open z.0.4.0 are.0.0 in
     qed 𝓛 ((tokens ⊛ ‵ (owns (types_at E.signature.params z.0.0) z.0.3 z.0.4)) ∷ ‵ ftrue ∷ []) ∵
     move ! (1 ∷ []) $ drop ! $ split ! $ move ! (1 ∷ []) $ fsplit ! $ fsplit ! $ drop ! $ move ! (1 ∷ []) $ fsplit ! $
     handle_tells (record { row = Z; laws = laws; g = g; d = impl [] tnil dnil; drops = impl [] tnil dnil }) ! a z.0.4.1.0
     (λ h words fits.
-    move ! (2 ∷ 0 ∷ []) $ regoal ! (λ (us : List Val). prop (Run us)) (λ i. told i ++ (words i ++ [])) refl $
+    move ! (2 ∷ 0 ∷ []) $ regoal ! (λ (us : List Val). prop (Run us)) (λ i. reported i ++ (words i ++ [])) refl $
     by_open ! v.at v.is_open
     (λ shut. let given : Val = handle_val v.at false in
     let made : Val = live 0 vnil in

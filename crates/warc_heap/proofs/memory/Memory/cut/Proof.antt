@@ -24,7 +24,7 @@ use Rattle.std_alloc.proofs.Pairs.{pair_of, pair_val}
 use Rattle.warc_heap.specs.Units.{room_of}
 use Rattle.warc_heap.specs.contracts.memory.Memory as memory
 use Rattle.warc_heap.proofs.Rooms.{cuts}
-use Rattle.warc_heap.proofs.Values.{param_at, memory_val, memory_own, memory_told, memory_made}
+use Rattle.warc_heap.proofs.Values.{param_at, memory_val, memory_own, memory_reported, memory_made}
 use Rattle.warc_heap.specs.contracts.memory.Memory.cut.{ended, clauses}
 use Rattle.warc_heap.specs.contracts.memory.Memory.cut.Key.{name as #self}
 use Rattle.warc_heap.proofs.memory.Memory.cut.Statement.{statement}
@@ -45,14 +45,14 @@ cut_spec 𝓤 𝓛 𝓜 𝓡 wired =
     let x = a.0 in
     let n = a.1.0 in
     let bytes = a.1.1.0 in
-    let told = memory_told x.at z.0.4.0 are.0.0 in
+    let reported = memory_reported x.at z.0.4.0 are.0.0 in
     let Asked : Type 0 = (n ≤ x.units) × (bytes ≡ n * 16) in
     qed 𝓛 ((raw (alive 𝓛 T.signature z.0.0 z.0.1) ⊛ ‵ (owns (types_at T.signature.params z.0.0) a z.0.4)) ∷ raw (fact 𝓤 Asked) ∷ []) ∵ move ! (1 ∷ []) $ heard ! Asked (λ asked. split ! $ move ! (1 ∷ []) $
     fsplit ! $ fsplit ! $ drop ! $ move ! (1 ∷ []) $ drop ! $
     in_a_block ! x.at (λ p. room_of x.units p) (id⊢ 𝓤 (never 𝓤)) (λ b o at.
     let front : Ptr = block_ptr b o in let rest : Ptr = block_ptr b (o + n * 16) in
     use1 𝓛 (‵ (room_of n front) ⊛ ‵ (room_of (x.units - n) rest)) (cuts 𝓛 b o n x.units asked.0) $ split ! $
-    regoal ! (λ (us : List Val). prop (WpFn 𝓤 H C Λ fn us Post)) (λ i. (told ∙ ap (λ (p : Ptr). memory_val p ∷ []) at) i ++ (are.1.0.0 i ++ (are.1.1.0.0 i ++ []))) refl $
+    regoal ! (λ (us : List Val). prop (WpFn 𝓤 H C Λ fn us Post)) (λ i. (reported ∙ ap (λ (p : Ptr). memory_val p ∷ []) at) i ++ (are.1.0.0 i ++ (are.1.1.0.0 i ++ []))) refl $
     enter ! C Λ fn (memory_val front ∷ vint w64 n ∷ vint w64 bytes ∷ []) Post $
     alloc_all ! (λ l. pass_all ! refl ((tt, (tt, tt)), ((tt, record { fits = are.1.0.1 }), ((tt, record { fits = are.1.1.0.1 }), tt))) $ let En : Env 𝓤 𝓛.H = env fn.locals l in
     sets ! (of_opd ! (get_in ! (fld ! refl (stop !)) (sub ! 0 refl (whole !)))) refl (tt, tt) $

@@ -32,8 +32,8 @@ goes : (all : List Indexed) (p : ℕ) (es : _) (links : List Link) (l : Link) (r
     step_of all p ≡ ok_then (λ (q : ℕ). Ok (Some q)) result
 goes all p es links l result placed on is leads =
     let r : IsRevisitAt all p = revisit_at all p on in
-    step_goes all p on r.it r.stands
-    ∙ ap (ok_then (λ (q : ℕ). Ok (Some q))) (sym (leads r.it r.stands r.capture
+    step_goes all p on r.it r.is_present
+    ∙ ap (ok_then (λ (q : ℕ). Ok (Some q))) (sym (leads r.it r.is_present r.capture
     (is ∙ (ap (λ ls. link_at ls p) placed.links ∙ r.link))))
 
 pub returns-in-Ok : goal.returns-in-Ok

@@ -5,7 +5,7 @@ use Rattle.warc_order.specs.Columns.{values}
 use Rattle.warc_order.specs.Entries.{Entry, entry_at}
 use Rattle.warc_index.specs.declared.link.Role.{Role}
 use Rattle.warc_index.specs.declared.link.Role.TheVariants.{Other}
-use Rattle.warc_index.specs.Links.{link, bare_link, link_at, told, at_start, links_in}
+use Rattle.warc_index.specs.Links.{link, bare_link, link_at, reported, at_start, links_in}
 use Rattle.warc_index.proofs.LinkLemmas.{length_links, link_in, middle_at}
 use Rattle.warc_index.proofs.link.Links.link.Goals as goal
 
@@ -26,7 +26,7 @@ read : (roles : List Role) (middles : List ℕ) (es : List Entry) (i middle : �
     first ≡ take middle text → second ≡ drop middle text → mark ≡ (entry_at es i).mark →
     link role first second mark ≡ link_at (links_in roles middles es) i
 read roles middles es i middle role text first second mark m t lt r text_is n a b mark_is =
-    rw (a, b, mark_is, text_is, n) (ap (λ x. told x (get_or middles i 0) (entry_at es i)) r ∙ sym (link_in i roles
+    rw (a, b, mark_is, text_is, n) (ap (λ x. reported x (get_or middles i 0) (entry_at es i)) r ∙ sym (link_in i roles
     middles es role (bare_link Other) m t lt))
 
 pub returns : goal.returns

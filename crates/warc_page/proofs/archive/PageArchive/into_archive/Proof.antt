@@ -26,7 +26,7 @@ use Rattle.std.proofs.ResultValues.{and_tt}
 use Rattle.std.specs.declared.option.Option.TheVariants.{None, Some}
 use Rattle.warc_page.specs.Handle.{reference_row}
 use Rattle.warc_page.specs.contracts.archive.PageArchive as handle
-use Rattle.warc_page.proofs.Values.{handle_val, handle_told, by_open, ptr_fits}
+use Rattle.warc_page.proofs.Values.{handle_val, handle_reported, by_open, ptr_fits}
 use Rattle.warc_page.specs.contracts.archive.PageArchive.into_archive.{ended, clauses}
 use Rattle.warc_page.specs.contracts.archive.PageArchive.into_archive.Key.{name as #self}
 use Rattle.warc_page.proofs.archive.PageArchive.into_archive.Statement.{statement}
@@ -47,10 +47,10 @@ into_archive_spec 𝓤 𝓛 𝓜 𝓡 wired =
     let Run : List Val → SProp 𝓤 = λ ws. WpFn 𝓤 H 𝓣.C 𝓣.Λ fn ws Post in
     let Out : RattleType = type_at E.signature.result z.0.0 in
     let tokens = raw (alive 𝓛 E.signature z.0.0 z.0.1) in
-    let told = handle_told v.at v.is_open z.0.4.0 are.0.0 in
+    let reported = handle_reported v.at v.is_open z.0.4.0 are.0.0 in
     qed 𝓛 ((tokens ⊛ ‵ (owns (types_at E.signature.params z.0.0) z.0.3 z.0.4)) ∷ ‵ ftrue ∷ []) ∵
     move ! (1 ∷ []) $ drop ! $ split ! $ move ! (1 ∷ []) $ fsplit ! $ fsplit ! $ drop ! $
-    regoal ! (λ (us : List Val). prop (Run us)) (λ i. told i ++ []) refl $
+    regoal ! (λ (us : List Val). prop (Run us)) (λ i. reported i ++ []) refl $
     by_open ! v.at v.is_open
     (λ shut. let given : Val = handle_val v.at false in
     let made : Val = live 0 vnil in

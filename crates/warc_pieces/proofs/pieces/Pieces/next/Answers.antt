@@ -11,7 +11,7 @@ invariant_of-self g c = (
   c.step.ensures.may,
   λ bytes held.
       let was = sym c.step.ensures.kept ∙ held in
-      c.step.ensures.stands bytes was (c.self.invariant.1 bytes was),
+      c.step.ensures.is_present bytes was (c.self.invariant.1 bytes was),
 )
 
 pub returns-clause-gives : goal.returns-clause-gives
@@ -19,13 +19,13 @@ returns-clause-gives g c = λ bytes.
     let P : Reader g.row.S.Denot → Type 0 = λ was. (g.S.Source.seen was.source).holds ≡ Some bytes → (pieces : List Piece) → AreGiven bytes was.at was.failure pieces
     → GivesMore bytes c.step.new.walk.at c.step.new.walk.failure pieces c.step.result in
     subst P c.self.view_is (λ held pieces given.
-    let stands = c.self.invariant.1 bytes held in
+    let is_present = c.self.invariant.1 bytes held in
     next_gives bytes c.self.inside.walk.at c.step.new.walk.at c.self.inside.walk.failure c.step.new.walk.failure pieces c.step.result
-    (λ none. c.step.ensures.gives none bytes held stands)
+    (λ none. c.step.ensures.gives none bytes held is_present)
     (λ f is.
     let again = c.step.ensures.failed f is in
     (again.0, ap (λ (w : Walk g.row.A.Denot). w.at) again.1))
-    stands.stopped given)
+    is_present.stopped given)
 
 pub returns-clause-few : goal.returns-clause-few
 returns-clause-few g c = λ none bytes.

@@ -3,7 +3,7 @@ use Rattle.std.specs.List.{slice_get}
 use Rattle.std.proofs.lemmas.List.{length-map}
 use Rattle.std.proofs.lemmas.Option.{slice_get_read}
 use Rattle.warc_reading.specs.Rows.{unpacked}
-use Rattle.warc_reading.specs.declared.rows.Entry.{Entry}
+use Rattle.warc_reading.specs.declared.rows.RowEntry.{RowEntry}
 use Rattle.warc_reading.proofs.RowLemmas.{end_is, entry_at, rows_unpacked}
 use Rattle.warc_reading.proofs.rows.Rows.end.Goals as goal
 
@@ -17,6 +17,6 @@ returns-clause-end g c = λ bytes of.
     let last : c.in-Some.last + 1 ≡ length (map unpacked entries) = omega (arith, c.in-Some.ensures, c.len.ensures, c.self.inside.entries.ok.0, length-map entries unpacked) in
     let seen = rows_unpacked c.self.inside.texts.items entries ∙ c.self.view_is in
     let end = end_is c.self.inside.texts.items bytes c.args.self.now (map unpacked entries) c.in-Some.last (unpacked packed) of seen (entry_at entries c.in-Some.last packed is) last in
-    let at = ap (λ (e : Entry). e.block_start) c.entry-entry.ensures in
-    let len = ap (λ (e : Entry). e.block_len) c.entry-entry.ensures in
+    let at = ap (λ (e : RowEntry). e.block_start) c.entry-entry.ensures in
+    let len = ap (λ (e : RowEntry). e.block_len) c.entry-entry.ensures in
     omega (arith, end, at, len, of.short, c.saturating_add-block_end.ensures, c.saturating_add.ensures, c.min.ensures)

@@ -3,17 +3,17 @@ use Rattle.warc.proofs.opened.fixity.Fixity.list.Goals as goal
 
 pub returns-in_err-put_fixity : goal.returns-in_err-put_fixity
 returns-in_err-put_fixity g c =
-    let whole = c.in_err-put_fixity.ensures.cut _ _ (c.new-buffer.ensures.begins ((g.W.Sink.seen c.args.out.now).tells)) in
-    record { told = search rules; cut = search rules; write = search rules; cause = search rules }
+    let whole = c.in_err-put_fixity.ensures.cut _ _ (c.new-buffer.ensures.begins ((g.W.Sink.seen c.args.out.now).reports)) in
+    record { reported = search rules; cut = search rules; write = search rules; cause = search rules }
 
 pub returns-in_err-flush : goal.returns-in_err-flush
 returns-in_err-flush g c =
-    let staged = c.in_ok-put_fixity.ensures.out _ _ (c.new-buffer.ensures.begins ((g.W.Sink.seen c.args.out.now).tells)) in
+    let staged = c.in_ok-put_fixity.ensures.out _ _ (c.new-buffer.ensures.begins ((g.W.Sink.seen c.args.out.now).reports)) in
     let whole = c.in_err-flush.ensures.cut _ _ staged in
-    record { told = search rules; cut = search rules; write = search rules; cause = search rules }
+    record { reported = search rules; cut = search rules; write = search rules; cause = search rules }
 
 pub returns : goal.returns
 returns g c =
-    let staged = c.in_ok-put_fixity.ensures.out _ _ (c.new-buffer.ensures.begins ((g.W.Sink.seen c.args.out.now).tells)) in
-    let told = c.in_ok-flush.ensures.told _ _ staged in
-    record { told = search rules; cut = search rules; write = search rules; cause = search rules }
+    let staged = c.in_ok-put_fixity.ensures.out _ _ (c.new-buffer.ensures.begins ((g.W.Sink.seen c.args.out.now).reports)) in
+    let reported = c.in_ok-flush.ensures.reported _ _ staged in
+    record { reported = search rules; cut = search rules; write = search rules; cause = search rules }
