@@ -12,7 +12,7 @@ tree=$copy/zogwedu
 mkdir "$tree"
 (cd "$here/.." && git ls-files -z | xargs -0 tar -cf - bin out/lib out/man out/completions out/python zogwedu.html) |
     tar -xf - -C "$tree" --no-same-owner
-version=$(sed -n 's/^const VERSION: &str = "\(.*\)";$/\1/p' "$tree/crates/warc_arguments/src/words.rt")
+version=$(sed -n 's/^pub(crate) const VERSION: &str = "\(.*\)";$/\1/p' "$tree/crates/warc_arguments/src/help.rt")
 day=$(sed -n "s/^## $version (\(.*\))$/\1/p" "$tree/CHANGELOG.md")
 cp -r "$tree/packaging/debian" "$tree/debian"
 sed -i -e "s/@VERSION@/$version/; s/@DATE@/$(date -R -u -d "$day")/" "$tree/debian/changelog"

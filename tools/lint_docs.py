@@ -79,7 +79,7 @@ def calls_elsewhere() -> Iterator[str]:
 def commands_elsewhere() -> Iterator[str]:
     """Commands that the program has and a page hasn't, or the other way round."""
     own = set(
-        re.findall(r'^        name: "(\w+)",\n        about:', read("crates/warc_arguments/src/words.rt"), re.MULTILINE)
+        re.findall(r'^        name: "(\w+)",\n        about:', read("crates/warc_arguments/src/help.rt"), re.MULTILINE)
     )
     sections = set(re.findall(r"^## warc (\w+)$", read("docs/PROGRAM.md"), re.MULTILINE))
     rows = set(re.findall(r"^\| `warc (\w+)", read("README.md"), re.MULTILINE))

@@ -1,5 +1,5 @@
 #!/usr/bin/env python3
-"""Makes the exit statuses of docs/PROGRAM.md from the help texts in crates/warc_arguments/src/words.rt: the matrix of
+"""Makes the exit statuses of docs/PROGRAM.md from the help texts in crates/warc_arguments/src/help.rt: the matrix of
 commands and statuses, and the section of each command.
 
 Usage: make_statuses.py
@@ -16,10 +16,10 @@ from dataclasses import dataclass
 
 from shared import TOP, matched, read
 
-WORDS = "crates/warc_arguments/src/words.rt"
+WORDS = "crates/warc_arguments/src/help.rt"
 PAGE = "docs/PROGRAM.md"
-CONSTANT = re.compile(r'^const (\w+): &str =\s+"(.*?)";$', re.MULTILINE | re.DOTALL)
-FLAG = re.compile(r'^const (\w+): Word = Word \{\n    name: "([\w-]+)",$', re.MULTILINE)
+CONSTANT = re.compile(r'^(?:pub\(crate\) )?const (\w+): &str =\s+"(.*?)";$', re.MULTILINE | re.DOTALL)
+FLAG = re.compile(r'^(?:pub\(crate\) )?const (\w+): Word = Word \{\n    name: "([\w-]+)",$', re.MULTILINE)
 ENTRY = re.compile(
     r'^    CommandEntry \{\n        name: "(\w+)",\n        about: .*\n        notes: (\w+),\n(?:.*\n){2}'
     r"        flags: &\[(.*)\],$",

@@ -6,7 +6,7 @@ import re
 import shutil
 
 TOP = os.path.dirname(os.path.dirname(os.path.abspath(__file__)))
-WORDS = f"{TOP}/crates/warc_arguments/src/words.rt"
+WORDS = f"{TOP}/crates/warc_arguments/src/help.rt"
 
 
 def read(path: str) -> str:
@@ -32,7 +32,7 @@ def put_copy(source: str, to: str, mode: int = 0o755) -> None:
 def version() -> str:
     """The version of the program, which is written in one place alone."""
     with open(WORDS, encoding="utf-8") as text:
-        return matched(re.search(r'^const VERSION: &str = "(.*)";$', text.read(), re.MULTILINE))[1]
+        return matched(re.search(r'^pub\(crate\) const VERSION: &str = "(.*)";$', text.read(), re.MULTILINE))[1]
 
 
 def without_comment(line: str) -> str:

@@ -16,7 +16,7 @@ import unittest
 TOP = os.path.dirname(os.path.dirname(os.path.dirname(os.path.abspath(__file__))))
 COPIED = ("Makefile", "README.md", "CHANGELOG.md", "CONTRIBUTING.md", "LICENSE-APACHE", "LICENSE-MIT")
 FOLDERS = ("tools", "shell", "collection", "docs", "examples", "rust", "python")
-WORDS = "crates/warc_arguments/src/words.rt"
+WORDS = "crates/warc_arguments/src/help.rt"
 STAND_INS = (
     "bin/warc",
     "out/warc-collection",

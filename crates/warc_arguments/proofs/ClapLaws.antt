@@ -15,8 +15,8 @@ use Rattle.clap.specs.declared.parser.matches.ArgMatches.TheViews.{out-ArgMatche
 use Rattle.clap.specs.declared.parser.matches.Found.{Found}
 use Rattle.clap.proofs.SimpleLemmas.{plain_fields}
 use Rattle.clap.proofs.WalkLemmas.{first_value-rows}
-use Rattle.warc_arguments.specs.declared.words.CommandFault.{CommandFault}
-use Rattle.warc_arguments.specs.declared.words.CommandFault.TheVariants.{Usage, Memory}
+use Rattle.warc_arguments.specs.declared.parser.CommandFault.{CommandFault}
+use Rattle.warc_arguments.specs.declared.parser.CommandFault.TheVariants.{Usage, Memory}
 use Rattle.warc_arguments.specs.Command.{Asked}
 use Rattle.warc_arguments.specs.CommandLine.{IsReportedBy, asked_in, asked_of, flags_in, is_flagged, is_request, named, text_of, warc_app}
 

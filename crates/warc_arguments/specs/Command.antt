@@ -2,10 +2,10 @@
 use Rattle.std.specs.Prelude.{Bool, true, false, List, [], ◌∷◌, ◌++◌, codes, Option, Some, None, option_map}
 use Rattle.std.specs.Option.{option_to_list}
 use Rattle.clap.specs.Walk.{Text}
-use Rattle.warc_arguments.specs.declared.words.Command.{Command}
-use Rattle.warc_arguments.specs.declared.words.Command.TheVariants as command
-use Rattle.warc_arguments.specs.declared.words.Draft.{Draft}
-use Rattle.warc_arguments.specs.declared.words.Request.{Request}
+use Rattle.warc_arguments.specs.declared.command.Command.{Command}
+use Rattle.warc_arguments.specs.declared.command.Command.TheVariants as command
+use Rattle.warc_arguments.specs.declared.command.Draft.{Draft}
+use Rattle.warc_arguments.specs.declared.command.Request.{Request}
 
 -- the words of `write` before the path of its file
 abbrev pub draft_texts : Draft → List Text

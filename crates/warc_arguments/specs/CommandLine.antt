@@ -8,11 +8,11 @@ use Rattle.clap.specs.declared.error.kind.ErrorKind.{ErrorKind}
 use Rattle.clap.specs.declared.error.kind.ErrorKind.TheVariants.{DisplayHelp, DisplayVersion}
 use Rattle.clap.specs.declared.builder.action.ArgAction.TheVariants.{SetTrue}
 use Rattle.warc_arguments.specs.Command.{Asked}
-use Rattle.warc_arguments.specs.declared.words.CommandFault.{CommandFault}
-use Rattle.warc_arguments.specs.declared.words.CommandEntry.{CommandEntry}
-use Rattle.warc_arguments.specs.declared.words.WordForm.{WordForm}
-use Rattle.warc_arguments.specs.declared.words.WordForm.TheVariants.{Required, Optional, Flag}
-use Rattle.warc_arguments.specs.declared.words.CommandFault.TheVariants.{Usage, Memory}
+use Rattle.warc_arguments.specs.declared.parser.CommandFault.{CommandFault}
+use Rattle.warc_arguments.specs.declared.help.CommandEntry.{CommandEntry}
+use Rattle.warc_arguments.specs.declared.help.WordForm.{WordForm}
+use Rattle.warc_arguments.specs.declared.help.WordForm.TheVariants.{Required, Optional, Flag}
+use Rattle.warc_arguments.specs.declared.parser.CommandFault.TheVariants.{Usage, Memory}
 
 -- a command's name, the names of the words that it requires, in order, of those after them that may be left out, and
 -- of its flags

@@ -5,9 +5,9 @@ use Rattle.clap.specs.Takes.{takes}
 use Rattle.clap.specs.Walk.{Text}
 use Rattle.warc_arguments.specs.Command.{asked_by}
 use Rattle.warc_arguments.specs.CommandLine.{IsReportedBy, asked_of, warc_app}
-use Rattle.warc_arguments.specs.declared.words.CommandFault.{CommandFault}
-use Rattle.warc_arguments.specs.declared.words.CommandFault.TheVariants.{Memory}
-use Rattle.warc_arguments.specs.declared.words.Request.{Request}
+use Rattle.warc_arguments.specs.declared.parser.CommandFault.{CommandFault}
+use Rattle.warc_arguments.specs.declared.parser.CommandFault.TheVariants.{Memory}
+use Rattle.warc_arguments.specs.declared.command.Request.{Request}
 
 -- what words name, as `parse` answers it
 pub record IsParsed (words : List Text) (parsed : Result Request CommandFault) : Type 0 where

@@ -2,14 +2,17 @@
 //! explained. Nothing here knows the format, so it is proved beside the crates that do.
 #![tactic(auto)]
 
+mod command;
 mod digits;
+mod help;
 mod line;
 mod lookup;
 mod numbers;
-mod words;
+mod parser;
 
+pub use command::{Command, Draft, Request};
 pub use digits::{UriFault, bytes_of};
 pub use line::CommandLine;
 pub use lookup::explanation_of;
 pub use numbers::EXPLANATIONS;
-pub use words::{Command, CommandFault, Draft, Request, parse};
+pub use parser::{CommandFault, parse};

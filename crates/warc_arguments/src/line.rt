@@ -2,7 +2,8 @@
 ghost use Rattle.std.specs.Prelude.{◌≡◌, map, string_bytes};
 ghost use Rattle.warc_arguments.specs.Parsed.{IsParsed};
 
-use crate::words::{CommandFault, Request, parse};
+use crate::command::Request;
+use crate::parser::{CommandFault, parse};
 use std::alloc::Global;
 use std::marker::Model;
 

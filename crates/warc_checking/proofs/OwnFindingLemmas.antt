@@ -13,10 +13,10 @@ use Rattle.warc_checking.specs.Checking.{about_record, line_text}
 use Rattle.warc_checking.specs.Lines.{record_lines}
 use Rattle.warc_checking.specs.Judged.{own_findings}
 use Rattle.warc_checking.specs.OwnFindings.{AreEnds, AreEndsFrom, AreNamed, IsNamed, IsPart, IsWithoutDigest, all_found, all_of, bad_at, each_with, found_at, found_by_part, found_from, found_with, finding_in, findings_of_part, finding_by_number, is_between, is_higher, is_lower, last_end, mark_at, marked, state_by, unjudged, with_bad, with_both, with_digest}
-use Rattle.warc_checking.specs.declared.own_findings.DigestState.{DigestState}
-use Rattle.warc_checking.specs.declared.own_findings.DigestState.TheVariants.{Outside, Unmarked, Marked}
-use Rattle.warc_checking.specs.declared.own_findings.PackedFinding.{PackedFinding}
-use Rattle.warc_checking.specs.declared.own_findings.FindingSpan.{FindingSpan}
+use Rattle.warc_checking.specs.declared.digest_state.DigestState.{DigestState}
+use Rattle.warc_checking.specs.declared.digest_state.DigestState.TheVariants.{Outside, Unmarked, Marked}
+use Rattle.warc_checking.specs.declared.finding_list.PackedFinding.{PackedFinding}
+use Rattle.warc_checking.specs.declared.finding_list.FindingSpan.{FindingSpan}
 use Rattle.warc_checking.proofs.CheckLemmas.{text_append}
 
 -- a part of a list stays when more follow

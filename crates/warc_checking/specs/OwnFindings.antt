@@ -15,10 +15,10 @@ use Rattle.warc_record.specs.Ids.{id_key}
 use Rattle.warc_reading.specs.Rereading.{AreCheckable}
 use Rattle.warc_checking.specs.Judged.{own_findings}
 use Rattle.warc_checking.specs.UsedIds.{HoldsIdsOf, Ids, IsAlone}
-use Rattle.warc_checking.specs.declared.own_findings.DigestState.{DigestState}
-use Rattle.warc_checking.specs.declared.own_findings.DigestState.TheVariants.{Outside, Unmarked, Marked}
-use Rattle.warc_checking.specs.declared.own_findings.PackedFinding.{PackedFinding}
-use Rattle.warc_checking.specs.declared.own_findings.FindingSpan.{FindingSpan}
+use Rattle.warc_checking.specs.declared.digest_state.DigestState.{DigestState}
+use Rattle.warc_checking.specs.declared.digest_state.DigestState.TheVariants.{Outside, Unmarked, Marked}
+use Rattle.warc_checking.specs.declared.finding_list.PackedFinding.{PackedFinding}
+use Rattle.warc_checking.specs.declared.finding_list.FindingSpan.{FindingSpan}
 
 -- the finding of a number, with the name of a field if it is about one
 abbrev pub finding_by_number : ℕ → List ℕ → SeenFinding

@@ -3,6 +3,9 @@
 
 mod batch;
 mod check;
+mod digest_state;
+mod finding_list;
+mod finding_parts;
 mod findings;
 pub mod laws;
 mod lines;

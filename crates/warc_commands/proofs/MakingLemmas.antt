@@ -11,7 +11,7 @@ use Rattle.warc_write.specs.Making.{Makes, Plan}
 use Rattle.warc_write.specs.declared.made.MakeFault.{MakeFault}
 use Rattle.warc_write.specs.declared.made.MakeFault.TheVariants.{Date, Text, TooLong, Memory, Kind as BadKind}
 use Rattle.warc_commands.specs.Program.{plan_of}
-use Rattle.warc_arguments.specs.declared.words.Draft.{Draft}
+use Rattle.warc_arguments.specs.declared.command.Draft.{Draft}
 
 -- one more piece
 pub read_more : (bytes items next buf : List ℕ) (n : ℕ) → items ≡ take (length items) bytes → n ≤ length buf → next ≡ items ++ take n buf

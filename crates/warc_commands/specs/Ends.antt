@@ -22,8 +22,8 @@ use Rattle.warc_commands.specs.Stored.{ReplayedAs, StoredEnds}
 use Rattle.warc_commands.specs.Summaries.{SummaryEnds}
 use Rattle.warc_commands.specs.Surveys.{SurveyEnds}
 use Rattle.warc_commands.specs.Uris.{UriEnds, uri_listed}
-use Rattle.warc_arguments.specs.declared.words.Command.{Command}
-use Rattle.warc_arguments.specs.declared.words.Command.TheVariants as command
+use Rattle.warc_arguments.specs.declared.command.Command.{Command}
+use Rattle.warc_arguments.specs.declared.command.Command.TheVariants as command
 
 -- how a run of the command ends, by the list that it reads beside its source, if it reads one
 abbrev pub Ends : Command → List ℕ → Devices → Devices → ℕ → Type 0

@@ -27,9 +27,9 @@ use Rattle.warc.specs.Forms.{split_texts}
 use Rattle.warc.specs.TakeText.{extract_fault_text}
 use Rattle.warc.specs.declared.fault.ExtractFault.{ExtractFault}
 use Rattle.warc.specs.declared.fault.ExtractFault.TheVariants.{NoRecord, Out as ExtractOut}
-use Rattle.warc_arguments.specs.declared.words.Draft.{Draft}
-use Rattle.warc_arguments.specs.declared.words.CommandFault.{CommandFault}
-use Rattle.warc_arguments.specs.declared.words.CommandFault.TheVariants.{Usage, Memory as OutOfMemory}
+use Rattle.warc_arguments.specs.declared.command.Draft.{Draft}
+use Rattle.warc_arguments.specs.declared.parser.CommandFault.{CommandFault}
+use Rattle.warc_arguments.specs.declared.parser.CommandFault.TheVariants.{Usage, Memory as OutOfMemory}
 use Rattle.warc_reading.specs.Opening.{IsRefusalOf, faults_after}
 use Rattle.warc_reading.specs.Archive.{AreGood, IsArchiveOf}
 use Rattle.warc_checking.specs.Checking.{Line, check_text, findings_of_archive}

@@ -2,8 +2,8 @@
 use Rattle.std.specs.Prelude.{◌≡◌, ℕ, ◌+◌, ◌*◌, ◌≤◌, false, true, length}
 use Rattle.warc_frame.specs.Record.{max_archive, max_block}
 use Rattle.warc_frame.specs.Seen.{AsksOnly, IfHeld, SeenSource}
-use Rattle.warc_arguments.specs.declared.words.Command.{Command}
-use Rattle.warc_arguments.specs.declared.words.Command.TheVariants as command
+use Rattle.warc_arguments.specs.declared.command.Command.{Command}
+use Rattle.warc_arguments.specs.declared.command.Command.TheVariants as command
 
 -- no byte above offset 2^48 is asked for
 abbrev pub AsksNear : SeenSource → SeenSource → Type 0

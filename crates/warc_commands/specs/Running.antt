@@ -18,9 +18,9 @@ use Rattle.warc_commands.specs.declared.runs.Location.{Location}
 use Rattle.warc_commands.specs.declared.runs.Location.TheVariants.{File, Memory as InMemory, Input, Nowhere}
 use Rattle.warc_commands.specs.declared.runs.RunSource.{RunSource}
 use Rattle.warc_commands.specs.declared.runs.RunSource.TheVariants as sources
-use Rattle.warc_arguments.specs.declared.words.Command.{Command}
-use Rattle.warc_arguments.specs.declared.words.CommandFault.{CommandFault}
-use Rattle.warc_arguments.specs.declared.words.Request.{Request}
+use Rattle.warc_arguments.specs.declared.command.Command.{Command}
+use Rattle.warc_arguments.specs.declared.parser.CommandFault.{CommandFault}
+use Rattle.warc_arguments.specs.declared.command.Request.{Request}
 
 -- what the system may give a run: for a path a file or an error; standard input as a file, if it is one; standard input
 -- as it comes

@@ -3,7 +3,7 @@ use Rattle.std.specs.List.{AllByRecursion}
 use Rattle.warc_record.specs.Findings.{SeenFinding}
 use Rattle.warc_quick.specs.PlainFindings.{all_plain}
 use Rattle.warc_checking.specs.OwnFindings.{IsWithoutDigest, each_with, shown_plain}
-use Rattle.warc_checking.specs.declared.own_findings.DigestState.TheVariants.{Unmarked}
+use Rattle.warc_checking.specs.declared.digest_state.DigestState.TheVariants.{Unmarked}
 use Rattle.warc_checking.proofs.OwnFindingLemmas.{all_more, each_more}
 use Rattle.warc_checking.proofs.own_findings.OwnFindings.add_plain.Goals as goal
 

@@ -1,4 +1,0 @@
-use Rattle.warc_arguments.proofs.words.first_parser.Goals as goal
-
-pub returns : goal.returns
-returns c = c.with_commands.ensures _ c.bare_parser.ensures

@@ -1,0 +1,250 @@
+//! What a command line asks for.
+ghost use Rattle.std.specs.Prelude.{◌≡◌, true, false, Some, option_map};
+ghost use Rattle.warc_arguments.specs.Command.{gives_bytes, list_word, opens_nothing, path_word, reads_once};
+
+/// What the program is asked to do. The texts are borrowed from the words.
+#[derive(Clone, Copy, Debug, PartialEq, Eq)]
+pub enum Command<'a> {
+    /// A line for each record.
+    List {
+        archive: &'a str,
+    },
+    /// A line for each finding.
+    Check {
+        archive: &'a str,
+    },
+    /// The block of the first record with an id.
+    Extract {
+        archive: &'a str,
+        id: &'a str,
+    },
+    /// The body for a URI as of the first instant of a date; as it is stored, also a coded one, if that is asked for.
+    Replay {
+        archive: &'a str,
+        uri: &'a str,
+        date: &'a str,
+        in_hex: bool,
+        stored: bool,
+    },
+    /// The body that the capture at a position gives; as it is stored, also a coded one, if that is asked for.
+    Body {
+        archive: &'a str,
+        position: &'a str,
+        stored: bool,
+    },
+    /// A line for each capture, of all or of a URI.
+    Captures {
+        archive: &'a str,
+        uri: Option<&'a str>,
+        in_hex: bool,
+    },
+    /// The records in canonical form.
+    Rewrite {
+        archive: &'a str,
+    },
+    /// The records as records of WARC 1.1.
+    Convert {
+        archive: &'a str,
+    },
+    /// The records split into segments of a number of bytes.
+    Split {
+        archive: &'a str,
+        size: &'a str,
+    },
+    /// The records whose positions the lines of a file name, or all others.
+    Select {
+        archive: &'a str,
+        positions: &'a str,
+        except: bool,
+        closed: bool,
+    },
+    /// One record, whose block is the bytes of a file.
+    Write {
+        draft: Draft<'a>,
+        file: &'a str,
+    },
+    /// The head of the record at a position.
+    Head {
+        archive: &'a str,
+        position: &'a str,
+    },
+    /// The block of the record at a position.
+    Block {
+        archive: &'a str,
+        position: &'a str,
+    },
+    /// A line for each block that isn't good by its digest; for each payload, if that is asked for.
+    Fixity {
+        archive: &'a str,
+        payload: bool,
+    },
+    /// A line for each run of good records and for each damage.
+    Pieces {
+        archive: &'a str,
+    },
+    /// The records before the first fault, or all good ones.
+    Salvage {
+        archive: &'a str,
+        all: bool,
+    },
+    /// What the archive holds, in numbers and dates.
+    Summary {
+        archive: &'a str,
+    },
+    /// What `list`, `fixity`, `check`, `summary` and `captures` give, in this order.
+    Survey {
+        archive: &'a str,
+    },
+    /// What a number that the program prints means, and what to do.
+    Explain {
+        number: &'a str,
+    },
+}
+
+/// What `write` makes a record of, beside its block.
+#[derive(Clone, Copy, Debug, PartialEq, Eq)]
+pub struct Draft<'a> {
+    /// `resource`, `metadata` or `conversion`, in any case.
+    pub kind: &'a str,
+    /// The target, without brackets.
+    pub uri: &'a str,
+    /// The date, as the record is to state it.
+    pub date: &'a str,
+    /// The UUID, in any form that `uuid` reads.
+    pub uuid: &'a str,
+    /// The content type.
+    pub content_type: &'a str,
+}
+
+impl<'a> Command<'a> {
+    /// The path of the file that the command reads; empty if it reads none.
+    pub fn path(&self) -> &'a str
+        ensures { result.now ≡ path_word self.now }
+    {
+        match self {
+            Command::List { archive } => archive,
+            Command::Check { archive } => archive,
+            Command::Extract { archive, id: _ } => archive,
+            Command::Replay {
+                archive,
+                uri: _,
+                date: _,
+                in_hex: _,
+                stored: _,
+            } => archive,
+            Command::Body {
+                archive,
+                position: _,
+                stored: _,
+            } => archive,
+            Command::Captures {
+                archive,
+                uri: _,
+                in_hex: _,
+            } => archive,
+            Command::Rewrite { archive } => archive,
+            Command::Convert { archive } => archive,
+            Command::Split { archive, size: _ } => archive,
+            Command::Select {
+                archive,
+                positions: _,
+                except: _,
+                closed: _,
+            } => archive,
+            Command::Write { draft: _, file } => file,
+            Command::Head {
+                archive,
+                position: _,
+            } => archive,
+            Command::Block {
+                archive,
+                position: _,
+            } => archive,
+            Command::Fixity {
+                archive,
+                payload: _,
+            } => archive,
+            Command::Pieces { archive } => archive,
+            Command::Salvage { archive, all: _ } => archive,
+            Command::Summary { archive } => archive,
+            Command::Survey { archive } => archive,
+            Command::Explain { number: _ } => "",
+        }
+    }
+
+    /// The path of the file that the command reads before its archive, if it reads two.
+    pub fn list_path(&self) -> Option<&'a str>
+        ensures { option_map (λ t. t.now) result ≡ list_word self.now }
+    {
+        match self {
+            Command::Select {
+                archive: _,
+                positions,
+                except: _,
+                closed: _,
+            } => Some(positions),
+            _ => None,
+        }
+    }
+
+    /// Whether the command can ask for each offset once, in order, so that it reads a pipe as it comes.
+    pub fn reads_once(&self) -> bool
+        ensures { result ≡ reads_once self.now }
+    {
+        match self {
+            Command::List { archive: _ }
+            | Command::Check { archive: _ }
+            | Command::Fixity {
+                archive: _,
+                payload: false,
+            }
+            | Command::Summary { archive: _ } => true,
+            _ => false,
+        }
+    }
+
+    /// Whether the output is bytes as they were captured, which a terminal gets as they are.
+    pub fn gives_bytes(&self) -> bool
+        ensures { result ≡ gives_bytes self.now }
+    {
+        match self {
+            Command::Block {
+                archive: _,
+                position: _,
+            }
+            | Command::Body {
+                archive: _,
+                position: _,
+                stored: _,
+            }
+            | Command::Extract { archive: _, id: _ }
+            | Command::Replay {
+                archive: _,
+                uri: _,
+                date: _,
+                in_hex: _,
+                stored: _,
+            } => true,
+            _ => false,
+        }
+    }
+
+    /// Whether the command opens no file and reads nothing.
+    pub fn opens_nothing(&self) -> bool
+        ensures { result ≡ opens_nothing self.now }
+    {
+        match self {
+            Command::Explain { number: _ } => true,
+            _ => false,
+        }
+    }
+}
+
+/// What words ask for: a command, whether no progress is to be shown, and whether the lines for people are to be
+/// written also if standard error is no terminal.
+#[derive(Clone, Copy, Debug, PartialEq, Eq)]
+pub struct Request<'a> {
+    pub command: Command<'a>,
+    pub quiet: bool,
+    pub hints: bool,
+}
