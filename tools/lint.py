@@ -12,7 +12,9 @@ It reports, a line each, and exits with 1 where there is any:
   tools/, bench/, packaging/ and shell/, and in Python, shell, C and Rust of tests/, collection/, python/, rust/ and c/;
 - a must-fail edit that doesn't apply (a text that isn't in its file exactly once), or that has no line `why:`;
 - a number of a paper or of a request in place of a plain name;
-- a file of src/ that doesn't begin with `//!`, which says what is in it.
+- a file of src/ that doesn't begin with `//!`, which says what is in it;
+- a name in src/ or specs/ with one of the words that docs/GLOSSARY.md gives up for another, such as `tells`, and a
+  file of src/ that is called by a gerund.
 """
 from __future__ import annotations
 
@@ -36,6 +38,13 @@ GHOST_IMPORT = re.compile(r"^\s*ghost use Rattle\.(\w+)\.specs\.(\w+)\.\{([^}]*)
 PRIVATE = "no public clause cites them"
 PUBLIC_FN = re.compile(r"^\s*pub (?:const )?fn (\w+)")
 PAPER = re.compile(r"\b(?:[DLTW][0-9]{1,2}(?:\.[0-9]+)?|R[0-9]{1,2}|[Rr]ow [0-9]+|document 0[1-4]|0[1-4], section)\b")
+# Names with a word that docs/GLOSSARY.md, "One word for one thing", gives up; code without its comments and strings.
+RETIRED = re.compile(
+    r"\b(?:\w*_)?(?:told|tells?|telling|behind|stands?|standings?)(?=_|\b)"
+    r"|\b\w*(?:Told|Tells?|Telling|Behind|Stands?|Standings?)(?=[A-Z_]|\b)"
+)
+NO_CODE = {".rt": re.compile(r'//[^\n]*|"(?:\\.|[^"\\])*"'), ".antt": re.compile(r'--[^\n]*|"(?:\\.|[^"\\])*"')}
+GERUND = re.compile(r"crates/\w+/src/(?:\w+/)*(?!listing\.)\w+ing\.rt")
 NO_PAPER = re.compile(r"T[0-9]{2}:|[0-9]T[0-9]|urn:uuid|--stored")
 
 
@@ -193,6 +202,20 @@ def without_head(top: str, paths: list[str]) -> Iterator[str]:
             yield path
 
 
+def retired_names(top: str, paths: list[str]) -> Iterator[str]:
+    for path in paths:
+        if not re.fullmatch(r"crates/\w+/(src/.*\.rt|specs/.*\.antt)", path):
+            continue
+        if GERUND.fullmatch(path):
+            yield f"{path}: a file is called by a noun"
+        blank = NO_CODE[os.path.splitext(path)[1]]
+        code = blank.sub(lambda found: "\n" * found[0].count("\n"), "\n".join(lines_of(top, path)))
+        for number, line in enumerate(code.split("\n"), 1):
+            found = RETIRED.search(line)
+            if found:
+                yield f"{path}:{number}: {found[0]}"
+
+
 def main(words: list[str]) -> int:
     top = words[0] if words else os.path.join(os.path.dirname(os.path.abspath(__file__)), "..")
     paths = files(top)
@@ -205,6 +228,7 @@ def main(words: list[str]) -> int:
             ("bad edit", bad_edits),
             ("number of a paper", numbers_of_papers),
             ("no first line //!", without_head),
+            ("retired name", retired_names),
         )
         for line in check(top, paths)
     ]
