@@ -73,6 +73,7 @@ pub fn quick_record(text: &[u8]) -> Option<QuickRecord<'_>>
 }
 
 /// The same record, with its findings, if they are known.
+#[inline(always)]
 pub fn record_with_findings(text: &[u8]) -> Option<QuickRecord<'_>>
     ensures { IfSome result (IsQuickRecord text.now) }
 {

@@ -193,8 +193,10 @@ pub fn field_rules() -> &'static [FieldRule]
 }
 
 /// Whether the kind is one of these.
+#[inline(always)]
 pub fn is_among(kind: Kind, kinds: &[Kind]) -> bool
     ensures { result ≡ is_among kind kinds.now }
 {
-    kinds.contains(&kind)
+    // `contains` isn't compiled in line, and this is asked for each rule.
+    kinds.iter().any(|other| *other == kind)
 }
