@@ -37,6 +37,19 @@ impl<A: Allocator + Copy> ByText<'_, A> {
             other => other,
         }
     }
+
+    /// Compares slots by all that orders them. Few hashes are equal, so this stays out of the loop that sorts.
+    #[inline(never)]
+    fn compare_entries(&self, a: Slot, b: Slot) -> Ordering
+        ensures { result ≡ slot_order self.now.entries.now a b }
+    {
+        let other = b.index as usize;
+        let mark = self.entries.mark(other);
+        match self.compare_key(a, b.hash, self.entries.text(other), mark) {
+            Ordering::Equal => a.index.cmp(&b.index),
+            unequal => unequal,
+        }
+    }
 }
 
 impl<A: Allocator + Copy> SlotOrder for ByText<'_, A> {
@@ -56,14 +69,7 @@ impl<A: Allocator + Copy> SlotOrder for ByText<'_, A> {
 
     fn compare(&self, a: Slot, b: Slot) -> Ordering {
         match a.hash.cmp(&b.hash) {
-            Ordering::Equal => {
-                let other = b.index as usize;
-                let mark = self.entries.mark(other);
-                match self.compare_key(a, b.hash, self.entries.text(other), mark) {
-                    Ordering::Equal => a.index.cmp(&b.index),
-                    unequal => unequal,
-                }
-            }
+            Ordering::Equal => self.compare_entries(a, b),
             unequal => unequal,
         }
     }
