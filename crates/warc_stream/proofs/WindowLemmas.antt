@@ -1,6 +1,6 @@
 -- A piece of a source, and its front in a buffer.
-use Rattle.std.proofs.Common.{◌≡◌, ℕ, ◌+◌, ◌-◌, ◌<◌, ◌≤◌, List, length, take, drop, sym, ap, subst, ◌∙◌, arith}
-use Rattle.std.proofs.lemmas.List.{drop-drop, drop-take, length-drop, length-take-le, take-take}
+use Rattle.std.proofs.Common.{◌≡◌, ℕ, ◌+◌, ◌-◌, ◌<◌, ◌≤◌, List, ◌++◌, length, take, drop, Result, Ok, Err, IfOk, sym, ap, subst, ◌∙◌, arith}
+use Rattle.std.proofs.lemmas.List.{drop-drop, drop-take, length-drop, length-take-le, take-append-le, take-take}
 use Rattle.warc_frame.specs.Device.{Gives}
 use Rattle.warc_stream.specs.Window.{IsCopiedFront, IsPieceOf}
 
@@ -45,3 +45,19 @@ whole_there items len from at same =
     let none : at - from ≡ 0 = omega (arith, same) in
     let all : len - (at - from) ≡ len = omega (arith, same) in
     ap (λ n. take n (drop (at - from) items)) all ∙ ap (λ k. take len (drop k items)) none
+
+-- what a read gives of a source is a piece, also at the front of a longer buffer
+pub piece_read : (bytes buf rest : List ℕ) (at n : ℕ) → n ≤ length buf → Gives bytes at buf n
+    → IsPieceOf bytes at (take n (buf ++ rest))
+piece_read bytes buf rest at n bound gives =
+    let front = take-append-le n buf rest bound in
+    let count : length (take n (buf ++ rest)) ≡ n = ap length front ∙ length-take-le n buf bound in record {
+      same = front ∙ gives.same ∙ ap (λ k. take k (drop at bytes)) (sym count);
+      within = omega (arith, count, gives.within);
+    }
+
+-- so it is where the read may fail
+pub piece_if_read : {E : Type 0} (bytes buf rest : List ℕ) (at : ℕ) (r : Result ℕ E) → IfOk r (λ n. n ≤ length buf)
+    → IfOk r (Gives bytes at buf) → IfOk r (λ n. IsPieceOf bytes at (take n (buf ++ rest)))
+piece_if_read bytes buf rest at (Ok n) bound gives = piece_read bytes buf rest at n bound gives
+piece_if_read bytes buf rest at (Err e) bound gives = tt

@@ -10,12 +10,16 @@ use std::alloc::{Allocator, Global};
 use std::marker::Model;
 use warc_frame::{ReadFault, Source, raise};
 
-/// How many bytes a window asks for at once.
+/// How many bytes a window asks for at once, where a read goes on after the last piece.
 const WINDOW: usize = 65_536;
 
+/// How many bytes it asks for where a read begins elsewhere. Most such reads are of a head, or of the front of a block.
+const JUMP: usize = 4_096;
+
 /// A source that is read through a window: it keeps the last piece that it read, and answers from it each read that
-/// begins there. Any other read asks the source once: a short one for a new piece, and one of 65,536 bytes or more for
-/// these alone. If there is no memory for a piece, none is kept.
+/// begins there. Any other read asks the source once. One of 65,536 bytes or more asks for these alone; a shorter one
+/// for a new piece, of 65,536 bytes if it goes on after the last piece, and else of 4,096. If there is no memory for a
+/// piece, none is kept.
 #[derive(Drop)]
 pub struct WindowSource<S: Source, A: Allocator = Global> {
     source: S,
@@ -54,6 +58,28 @@ fn copy_front(bytes: &[u8], buf: &mut [u8]) -> usize
     let count = bytes.len().min(buf.len());
     buf[..count].copy_from_slice(&bytes[..count]);
     count
+}
+
+/// Reads into the front of a buffer, at most this many bytes.
+fn read_front<S: Source>(
+    source: &mut S,
+    at: u64,
+    buf: &mut [u8],
+    most: usize,
+) -> Result<usize, ReadFault>
+    requires { most ≤ length buf.old }
+    ensures bytes { (bytes : List ℕ) → (S.seen source.old).holds ≡ Some bytes
+        → IfOk result (λ n. IsPieceOf bytes at (take n buf.new)) }
+    ensures some { (bytes : List ℕ) → (S.seen source.old).holds ≡ Some bytes
+        → IfOk result (λ n. at < length bytes → 0 < most → 0 < n) }
+    ensures within { IfOk result (λ n. n ≤ length buf.new) }
+    ensures len { length buf.new ≡ length buf.old }
+    ensures once { IsAskedOnce at (S.seen source.old) (S.seen source.new) }
+    ensures kept { (S.seen source.new).holds ≡ (S.seen source.old).holds }
+    ensures cause { (S.seen source.new).faults ≡ (if is_err result then
+        raised (S.seen source.old).faults else (S.seen source.old).faults) }
+{
+    source.read_at(at, &mut buf[..most])
 }
 
 impl<S: Source, A: Allocator + Copy> WindowSource<S, A> {
@@ -97,19 +123,34 @@ impl<S: Source, A: Allocator + Copy> WindowSource<S, A> {
         &self.buffer[(at - self.from) as usize..self.len]
     }
 
+    /// How many bytes of a new piece at an offset are asked for.
+    fn want(&self, at: u64) -> usize
+        ensures some { 0 < self.now.room → 0 < result }
+        ensures within { result ≤ self.now.room }
+    {
+        let room = self.buffer.len();
+        if self.from.checked_add(self.len as u64) == Some(at) {
+            return room;
+        }
+        room.min(JUMP)
+    }
+
     /// Reads a new piece.
     fn fill(&mut self, at: u64) -> Result<(), ReadFault>
-        ensures read { IsReadAt at self.old.room (is_err result) (S.seen self.old.source)
-            (S.seen self.new.source) }
+        ensures once { IsAskedOnce at (S.seen self.old.source) (S.seen self.new.source) }
+        ensures kept { (S.seen self.new.source).holds ≡ (S.seen self.old.source).holds }
+        ensures cause { (S.seen self.new.source).faults ≡ (if is_err result then
+            raised (S.seen self.old.source).faults else (S.seen self.old.source).faults) }
         ensures from { IfOk result (λ _. self.new.from ≡ at) }
         ensures some { (bytes : List ℕ) → (S.seen self.old.source).holds ≡ Some bytes
             → IfOk result (λ _. at < length bytes → 0 < self.old.room → 0 < length self.new.piece) }
         ensures reads { self.new.reads ≡ self.old.reads }
         ensures asked { self.new.asked ≡ self.old.asked }
     {
+        let want = self.want(at);
         self.len = 0;
         self.from = at;
-        self.len = self.source.read_at(at, &mut self.buffer)?;
+        self.len = read_front(&mut self.source, at, &mut self.buffer, want)?;
         Ok(())
     }
 
