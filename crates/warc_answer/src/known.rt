@@ -62,6 +62,9 @@ fn head_in_front<S: Source, A: Allocator + Copy>(
 }
 
 /// The HTTP head at the front of the joined blocks, none of which is bad, through a buffer that has room for any head.
+/// It stays out of line: else a caller would hold this buffer where it reads, through another one, blocks of which
+/// nothing is known.
+#[inline(never)]
 fn find_long_head<S: Source, A: Allocator + Copy>(
     alloc: A,
     source: &mut S,
