@@ -721,8 +721,10 @@ def old_runs(trial: Trial) -> None:
     done = trial.run("c", "prune", "--keep", "2")
     trial.judge(done.returncode == 0 and trial.count("c", "checks") == 2, "checks", trial.count("c", "checks"))
     trial.run("c", "report", trial.path("r.html"))
-    runs = re.findall(rb"<tr><td>(\d)</td>", read(trial.path("r.html")))
-    trial.judge(runs == [b"6", b"5", b"4", b"3", b"2", b"1"], "the report", runs)
+    for section in (b"Fixity from run to run", b"Payloads from run to run"):
+        part = read(trial.path("r.html")).partition(section)[2].partition(b"</table>")[0]
+        runs = re.findall(rb"<tr><td>(\d)</td>", part)
+        trial.judge(runs == [b"6", b"5", b"4", b"3", b"2", b"1"], "the report", (section, runs))
     trial.judge(trial.count("c", "runs") == 6, "runs")
     done = trial.run("c", "find", URI.decode())
     trial.judge(done.stdout.count(b"\n") == 1, "find", done.stdout)
