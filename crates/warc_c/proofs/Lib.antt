@@ -1,2 +1,3 @@
 mod ClosedLemmas
+mod GrowthLemmas
 mod RestLemmas

@@ -1,5 +1,5 @@
 -- What C is answered: a number, and no problem, or 0 and the problem's numbers. This project's own notion.
-use Rattle.std.specs.Prelude.{◌≡◌, ℕ, Bool, true, false, List, Option, Some, None, Result, Ok, Err}
+use Rattle.std.specs.Prelude.{◌≡◌, ℕ, Bool, true, false, List, Option, Some, None, Result, Ok, Err, IfErr}
 use Rattle.warc_payload.specs.Head.{front_of}
 use Rattle.warc_frame.specs.Seen.{Seen}
 use Rattle.warc_frame.specs.declared.fault.Fault.{Fault}
@@ -46,11 +46,12 @@ abbrev pub IsVerdictReported : Result ℕ Problem → ℕ → Numbers → Number
 IsVerdictReported (Ok verdict) answer old new = (answer ≡ verdict) × (new ≡ old)
 IsVerdictReported (Err problem) answer old new = (answer ≡ 2) × (new ≡ problem_numbers problem)
 
--- a call on a handle answers a result so, or that no archive is open
-pub record AnswersBy {X Y : Type 0} (Is : Result X Problem → Y → Numbers → Numbers → Type 0) (is_open : Bool)
-    (answer : Y) (before after : Numbers) : Type 0 where
+-- a call on a handle answers a result so: of an open archive, a problem that may be, or else that none is open
+pub record AnswersBy {X Y : Type 0} (Is : Result X Problem → Y → Numbers → Numbers → Type 0)
+    (MayBe : Problem → Type 0) (is_open : Bool) (answer : Y) (before after : Numbers) : Type 0 where
   pub result : Result X Problem
   pub answered : Is result answer before after
+  pub opened : is_open ≡ true → IfErr result MayBe
   pub closed : is_open ≡ false → result ≡ Err problems.NotOpen
 
 -- what was written so to a sink that reports no bytes, and whether it is done

@@ -1,5 +1,7 @@
 //! Where bodies lie, and what is said of them.
-ghost use Rattle.std.specs.Prelude.{◌≡◌};
+ghost use Rattle.std.specs.Prelude.{◌≡◌, true, Err, None};
+ghost use Rattle.warc_value.specs.Dates.{instant_of};
+ghost use Rattle.warc_lent.specs.Bodies.{IsNoBody, IsNoReplay};
 ghost use Rattle.warc_lent.specs.Buffers.{KeepsAfter};
 ghost use Rattle.warc_c.specs.Answered.{AnswersBy, IsAnswered};
 
@@ -21,7 +23,10 @@ pub extern "C" fn warc_rt_replay(
     spans: &mut [SpanNumbers],
     problem: &mut Numbers,
 ) -> usize
-    ensures answers { AnswersBy IsAnswered handle.old.is_open result problem.old problem.new }
+    ensures answers { AnswersBy IsAnswered (IsNoReplay (instant_of date.now)) handle.old.is_open result problem.old
+        problem.new }
+    ensures dated { handle.old.is_open ≡ true → instant_of date.now ≡ None →
+        IsAnswered (Err Problem.BadDate) result problem.old problem.new }
     ensures rest { KeepsAfter result spans.old spans.new }
     ensures stays { handle.new.is_open ≡ handle.old.is_open }
 {
@@ -45,7 +50,7 @@ pub extern "C" fn warc_rt_body(
     spans: &mut [SpanNumbers],
     problem: &mut Numbers,
 ) -> usize
-    ensures answers { AnswersBy IsAnswered handle.old.is_open result problem.old problem.new }
+    ensures answers { AnswersBy IsAnswered IsNoBody handle.old.is_open result problem.old problem.new }
     ensures rest { KeepsAfter result spans.old spans.new }
     ensures stays { handle.new.is_open ≡ handle.old.is_open }
 {

@@ -2,6 +2,7 @@
 ghost use Rattle.std.specs.Prelude.{◌≡◌, false, box_value, IfErr, IfOk};
 ghost use Rattle.std.specs.Bool.{OnFalse, OnTrue};
 ghost use Rattle.warc_reading.specs.Indexed.{IsIndexed};
+ghost use Rattle.warc_lent.specs.Growing.{IsNoGrowth};
 ghost use Rattle.warc_lent.specs.Texts.{IsRefusedFor};
 ghost use Rattle.warc_c.specs.Answered.{AnswersBy, AnswersFront, IsArchive, IsFlagged, IsRefusedBy};
 
@@ -65,7 +66,7 @@ pub extern "C" fn warc_rt_front(alloc: Global, bytes: &[u8], problem: &mut Numbe
 
 /// Reads on in bytes that begin with the old ones, over which the archive was opened. A refusal leaves the archive as
 /// it was, over the old bytes.
-#[tactic(auto, using(crate::proofs::ClosedLemmas::not_done))]
+#[tactic(auto, using(crate::proofs::ClosedLemmas::not_done, crate::proofs::GrowthLemmas::no_growth))]
 #[unsafe(no_mangle)]
 pub extern "C" fn warc_rt_grow(
     alloc: Global,
@@ -74,7 +75,7 @@ pub extern "C" fn warc_rt_grow(
     bytes: &'static [u8],
     problem: &mut Numbers,
 ) -> bool
-    ensures answers { AnswersBy IsFlagged handle.old.is_open result problem.old problem.new }
+    ensures answers { AnswersBy IsFlagged IsNoGrowth handle.old.is_open result problem.old problem.new }
     ensures stays { handle.new.is_open ≡ handle.old.is_open }
 {
     let Some(mut archive) = handle.take(alloc) else {

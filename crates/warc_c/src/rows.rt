@@ -1,6 +1,7 @@
 //! What is kept of records, and which records there are.
 ghost use Rattle.std.specs.Prelude.{◌≡◌, false};
 ghost use Rattle.warc_lent.specs.Buffers.{KeepsAfter};
+ghost use Rattle.warc_lent.specs.Problems.{IsMemory, IsNoRecord, IsNotGiven};
 ghost use Rattle.warc_c.specs.Answered.{AnswersBy, IsAnswered, IsVerdictReported};
 
 use crate::problems::{number_or_report, report, verdict_or_report};
@@ -37,7 +38,7 @@ pub extern "C" fn warc_rt_row(
     texts: &mut [u8],
     problem: &mut Numbers,
 ) -> usize
-    ensures answers { AnswersBy IsAnswered handle.old.is_open result problem.old problem.new }
+    ensures answers { AnswersBy IsAnswered IsNoRecord handle.old.is_open result problem.old problem.new }
     ensures stays { handle.new.is_open ≡ handle.old.is_open }
 {
     let Some(archive) = handle.take(alloc) else {
@@ -59,7 +60,7 @@ pub extern "C" fn warc_rt_verdict(
     position: usize,
     problem: &mut Numbers,
 ) -> u32
-    ensures answers { AnswersBy IsVerdictReported handle.old.is_open result problem.old problem.new }
+    ensures answers { AnswersBy IsVerdictReported IsNotGiven handle.old.is_open result problem.old problem.new }
     ensures stays { handle.new.is_open ≡ handle.old.is_open }
 {
     let Some(mut archive) = handle.take(alloc) else {
@@ -80,7 +81,7 @@ pub extern "C" fn warc_rt_stated_verdict(
     position: usize,
     problem: &mut Numbers,
 ) -> u32
-    ensures answers { AnswersBy IsVerdictReported handle.old.is_open result problem.old problem.new }
+    ensures answers { AnswersBy IsVerdictReported IsNotGiven handle.old.is_open result problem.old problem.new }
     ensures stays { handle.new.is_open ≡ handle.old.is_open }
 {
     let Some(mut archive) = handle.take(alloc) else {
@@ -101,7 +102,7 @@ pub extern "C" fn warc_rt_payload_verdict(
     position: usize,
     problem: &mut Numbers,
 ) -> u32
-    ensures answers { AnswersBy IsVerdictReported handle.old.is_open result problem.old problem.new }
+    ensures answers { AnswersBy IsVerdictReported IsNotGiven handle.old.is_open result problem.old problem.new }
     ensures stays { handle.new.is_open ≡ handle.old.is_open }
 {
     let Some(mut archive) = handle.take(alloc) else {
@@ -123,7 +124,7 @@ pub extern "C" fn warc_rt_captures(
     positions: &mut [usize],
     problem: &mut Numbers,
 ) -> usize
-    ensures answers { AnswersBy IsAnswered handle.old.is_open result problem.old problem.new }
+    ensures answers { AnswersBy IsAnswered IsMemory handle.old.is_open result problem.old problem.new }
     ensures rest { KeepsAfter result positions.old positions.new }
     ensures stays { handle.new.is_open ≡ handle.old.is_open }
 {

@@ -1,5 +1,7 @@
 //! Texts that C asks for whole: listings, findings, and how blocks compare with their digests.
 ghost use Rattle.std.specs.Prelude.{◌≡◌};
+ghost use Rattle.warc_lent.specs.Problems.{IsMemory};
+ghost use Rattle.warc_lent.specs.Texts.{IsUnreadable};
 ghost use Rattle.warc_c.specs.Answered.{AnswersBy, AnswersFixity, IsAnswered};
 
 use crate::problems::{number_or_report, report};
@@ -16,7 +18,7 @@ pub extern "C" fn warc_rt_list(
     out: &mut [u8],
     problem: &mut Numbers,
 ) -> usize
-    ensures answers { AnswersBy IsAnswered handle.old.is_open result problem.old problem.new }
+    ensures answers { AnswersBy IsAnswered IsMemory handle.old.is_open result problem.old problem.new }
     ensures stays { handle.new.is_open ≡ handle.old.is_open }
 {
     let Some(archive) = handle.take(alloc) else {
@@ -37,7 +39,7 @@ pub extern "C" fn warc_rt_check(
     out: &mut [u8],
     problem: &mut Numbers,
 ) -> usize
-    ensures answers { AnswersBy IsAnswered handle.old.is_open result problem.old problem.new }
+    ensures answers { AnswersBy IsAnswered IsUnreadable handle.old.is_open result problem.old problem.new }
     ensures stays { handle.new.is_open ≡ handle.old.is_open }
 {
     let Some(mut archive) = handle.take(alloc) else {

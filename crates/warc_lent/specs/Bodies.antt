@@ -79,6 +79,15 @@ pub record PutsNoneAt (bytes : List ℕ) (records : List Record) (position : ℕ
   pub problem_is : problem ≡ problem_of_body fault
   pub path : new ≡ path_numbers_at fault (path_at records position) old
 
+-- a replay as of a date gives no body: the date is none, or there is a reason, or a read or memory fails
+abbrev pub IsNoReplay : Option Instant → Problem → Type 0
+IsNoReplay None problem = problem ≡ BadDate
+IsNoReplay (Some moment) problem = (fault : ReplayFault) × (problem ≡ problem_of_replay fault)
+
+-- the record at a position gives no body, for such a fault, or as it is no capture or there is none
+abbrev pub IsNoBody : Problem → Type 0
+IsNoBody problem = (fault : BodyFault) × (problem ≡ problem_of_body fault)
+
 -- what is put for a URI as of a moment
 abbrev pub PutsFor : List ℕ → List Record → Result Path Unfound → Result ℕ Problem → AnswerNumbers → AnswerNumbers
     → List SpanNumbers → Type 0

@@ -27,6 +27,11 @@ begins_alike rows old new =
     && bytes_eq (part (last_head rows).0 (last_head rows).1 old) (part (last_head rows).0 (last_head rows).1 new)
 
 -- why an archive doesn't grow: the bytes are others, or they are refused, and not since a read failed
+abbrev pub IsNoGrowth : Problem → Type 0
+IsNoGrowth problem =
+    (problem ≡ problems.Changed) ⊎ ((fault : Fault) × (problem ≡ problems.Fault fault) × (fault.kind ≢ Read))
+
+-- the same of an archive of these rows: bytes are others exactly if they don't begin alike
 abbrev pub IsUngrown : List Row → List ℕ → List ℕ → Problem → Type 0
 IsUngrown rows old new problem =
     ((problem ≡ problems.Changed) × (begins_alike rows old new ≡ false))

@@ -1,5 +1,5 @@
 -- What goes wrong, as numbers and as a text. This project's own notion.
-use Rattle.std.specs.Prelude.{ℕ, List, codes, Result, Ok, Err}
+use Rattle.std.specs.Prelude.{◌≡◌, ℕ, List, codes, Result, Ok, Err}
 use Rattle.warc_frame.specs.FaultText.{fault_text}
 use Rattle.warc_frame.specs.declared.fault.Fault.{Fault}
 use Rattle.warc_frame.specs.declared.fault.FaultKind.{FaultKind}
@@ -133,6 +133,18 @@ abbrev pub problem_of_take : TakeFault → Problem
 problem_of_take takes.NoRecord = problems.NoRecord
 problem_of_take takes.Read = problems.Changed
 problem_of_take takes.Memory = problems.Memory
+
+-- the problem says that memory ran out
+abbrev pub IsMemory : Problem → Type 0
+IsMemory problem = problem ≡ problems.Memory
+
+-- there is no record
+abbrev pub IsNoRecord : Problem → Type 0
+IsNoRecord problem = problem ≡ problems.NoRecord
+
+-- a record isn't given: there is none, or its bytes changed, or memory ran out
+abbrev pub IsNotGiven : Problem → Type 0
+IsNotGiven problem = (fault : TakeFault) × (problem ≡ problem_of_take fault)
 
 -- what a source's failures go by: bytes that changed are a failed read, and no other problem is one
 abbrev pub read_failure_of : Problem → Result (Unit {0}) OutFault

@@ -1,5 +1,5 @@
 //! Bodies: what is said of them, and where they lie.
-ghost use Rattle.std.specs.Prelude.{◌≡◌, length, map, set, unwrap_or, IfOk, OnErr};
+ghost use Rattle.std.specs.Prelude.{◌≡◌, length, map, set, unwrap_or, IfErr, IfOk, OnErr, Err, None};
 ghost use Rattle.warc_value.specs.Dates.{instant_of};
 ghost use Rattle.warc_frame.specs.Effects.{FailsBy, Preserves};
 ghost use Rattle.warc_frame.specs.Seen.{IfHeld};
@@ -8,7 +8,7 @@ ghost use Rattle.warc_reading.specs.Indexed.{IsIndexed, IsUnchanged};
 ghost use Rattle.warc.specs.Replaying.{IsIndexedBy};
 ghost use Rattle.warc_lent.specs.Buffers.{HoldsFront, KeepsAfter};
 ghost use Rattle.warc_lent.specs.Problems.{problem_result};
-ghost use Rattle.warc_lent.specs.Bodies.{IsBodyPut, PutsAt, PutsReplay, answer_numbers, path_numbers, path_numbers_at, span_numbers};
+ghost use Rattle.warc_lent.specs.Bodies.{IsBodyPut, IsNoBody, IsNoReplay, PutsAt, PutsReplay, answer_numbers, path_numbers, path_numbers_at, span_numbers};
 
 use crate::problem::Problem;
 use crate::rows::flag_of;
@@ -152,6 +152,8 @@ pub fn put_replay<S: Source, A: Allocator + Copy>(
     ensures puts { IfHeld (S.seen archive.old.listing.source).holds (λ bytes. (is : IsIndexed bytes archive.old) →
         PutsReplay bytes (contents is.listed.are.records) uri.now (instant_of date.now) result answer.old answer.new
         spans.new) }
+    ensures refused { IfErr result (IsNoReplay (instant_of date.now)) }
+    ensures dated { instant_of date.now ≡ None → result ≡ Err Problem.BadDate }
     ensures rest { IfOk result (λ number. KeepsAfter number spans.old spans.new) }
     ensures same { OnErr result (spans.new ≡ spans.old) }
     ensures room { length spans.new ≡ length spans.old }
@@ -181,6 +183,7 @@ pub fn put_body<S: Source, A: Allocator + Copy>(
 ) -> Result<usize, Problem>
     ensures puts { IfHeld (S.seen archive.old.listing.source).holds (λ bytes. (is : IsIndexed bytes archive.old) →
         PutsAt bytes (contents is.listed.are.records) position result answer.old answer.new spans.new) }
+    ensures refused { IfErr result IsNoBody }
     ensures rest { IfOk result (λ number. KeepsAfter number spans.old spans.new) }
     ensures same { OnErr result (spans.new ≡ spans.old) }
     ensures room { length spans.new ≡ length spans.old }

@@ -3,6 +3,7 @@ ghost use Rattle.std.specs.Prelude.{◌≡◌, ℕ, List, length, map, IfErr, If
 ghost use Rattle.warc_reading.specs.Indexed.{IsIndexed, indexed_record};
 ghost use Rattle.warc_lent.specs.Buffers.{KeepsAfter};
 ghost use Rattle.warc_lent.specs.Captures.{AreCapturesPut};
+ghost use Rattle.warc_lent.specs.Problems.{IsMemory};
 
 use crate::buffers::put_positions;
 use crate::problem::Problem;
@@ -20,7 +21,7 @@ pub fn put_captures<S: Source, A: Allocator + Copy>(
     ensures captures { (bytes : List ℕ) → (is : IsIndexed bytes archive.now) →
         IfOk result (λ number. AreCapturesPut (map indexed_record is.listed.are.records) uri.now number out.new) }
     ensures rest { IfOk result (λ number. KeepsAfter number out.old out.new) }
-    ensures memory { IfErr result (λ problem. problem ≡ Problem.Memory) }
+    ensures memory { IfErr result IsMemory }
     ensures same { OnErr result (out.new ≡ out.old) }
     ensures room { length out.new ≡ length out.old }
 {

@@ -6,6 +6,7 @@ ghost use Rattle.warc.specs.Closure.{records_read};
 ghost use Rattle.warc.specs.Selecting.{ArePositions};
 ghost use Rattle.warc_reading.specs.Archive.{IsArchiveOf};
 ghost use Rattle.warc_reading.specs.Indexed.{IsIndexed};
+ghost use Rattle.warc_lent.specs.Problems.{IsMemory};
 ghost use Rattle.warc_lent.specs.Texts.{IsRefusedFor};
 ghost use Rattle.warc_frame.specs.Send.{sent_of};
 ghost use Rattle.warc_frame.specs.Spelling.{canonical};
@@ -108,7 +109,7 @@ fn named<A: Allocator>(
 ) -> Result<Vec<usize, A>, Problem>
     ensures named { IfOk result (λ named. AreNamedPositions count positions.now named.items) }
     ensures below { IfOk result (λ named. All (λ p. p < count) positions.now) }
-    ensures refused { IfErr result (λ problem. (problem ≡ Problem.Memory) ⊎ NamesNoRecord count positions.now problem) }
+    ensures refused { IfErr result (λ problem. IsMemory problem ⊎ NamesNoRecord count positions.now problem) }
 {
     if !are_below(positions, count) {
         return Err(Problem::NoRecord);
@@ -128,7 +129,7 @@ fn chosen<A: Allocator + Copy, S: Source>(
 ) -> Result<Vec<usize, A>, Problem>
     ensures chosen { IfOk result (λ chosen. AreChosen except (length listing.now.rows) positions.now chosen.items) }
     ensures below { IfOk result (λ chosen. All (λ p. p < length listing.now.rows) positions.now) }
-    ensures refused { IfErr result (λ problem. (problem ≡ Problem.Memory)
+    ensures refused { IfErr result (λ problem. IsMemory problem
         ⊎ NamesNoRecord (length listing.now.rows) positions.now problem) }
 {
     let named = named(alloc, listing.count(), positions)?;
@@ -188,7 +189,7 @@ fn closure<A: Allocator + Copy>(
     ensures closed { (is : IsIndexed archive.old.listing.source.bytes archive.old) → IfOk result (λ closed.
         AreClosedChoice except (records_read is.listed.are.records) positions.now closed.items) }
     ensures are { IfOk result (λ closed. ArePositions (length archive.old.listing.rows) closed.items) }
-    ensures memory { IfErr result (λ problem. problem ≡ Problem.Memory) }
+    ensures memory { IfErr result IsMemory }
     ensures rows { archive.new.listing.rows ≡ archive.old.listing.rows }
     ensures bytes { archive.new.listing.source.bytes ≡ archive.old.listing.source.bytes }
 {

@@ -7,6 +7,7 @@ ghost use Rattle.warc_lent.specs.Buffers.{HoldsFront, KeepsAfter};
 ghost use Rattle.warc.specs.Judged.{GivesVerdict};
 ghost use Rattle.warc.specs.declared.fault.TakeFault.{TakeFault as GhostFault};
 ghost use Rattle.warc_value.specs.declared.hash.Verdict.{Verdict as Found};
+ghost use Rattle.warc_lent.specs.Problems.{IsNoRecord, IsNotGiven};
 ghost use Rattle.warc_lent.specs.Rows.{IsRowPut, flag_of, row_numbers, row_texts, short_length, verdict_answer, verdict_number};
 
 use crate::buffers::put_text_at;
@@ -120,8 +121,8 @@ pub fn put_row<S: Source, A: Allocator>(
 ) -> Result<usize, Problem>
     ensures kept { IfOk result (λ answered. (row : Seen) × (slice_get archive.now.listing.rows position ≡ Some row) ×
         IsRowPut row answered numbers.new texts.old texts.new) }
-    ensures absent { IfErr result (λ problem. (problem ≡ Problem.NoRecord) ×
-        (slice_get archive.now.listing.rows position ≡ None)) }
+    ensures refused { IfErr result IsNoRecord }
+    ensures absent { OnErr result (slice_get archive.now.listing.rows position ≡ None) }
     ensures same { OnErr result ((numbers.new ≡ numbers.old) × (texts.new ≡ texts.old)) }
     ensures room { length texts.new ≡ length texts.old }
 {
@@ -141,6 +142,7 @@ pub fn verdict_at<S: Source, A: Allocator + Copy>(
     ensures judged { (answer : Result Found GhostFault) × GivesVerdict archive.old.listing.rows position
         (S.seen archive.old.listing.source) (S.seen archive.new.listing.source) answer ×
         (result ≡ verdict_answer answer) }
+    ensures refused { IfErr result IsNotGiven }
     ensures unchanged { IsUnchanged archive.old archive.new }
 {
     match archive.verdict(position) {

@@ -5,7 +5,7 @@ ghost use Rattle.warc_checking.specs.Checking.{check_text};
 ghost use Rattle.warc_reading.specs.Archive.{IsArchiveOf, contents};
 ghost use Rattle.warc_reading.specs.Indexed.{IsUnchanged};
 ghost use Rattle.warc_lent.specs.Buffers.{KeepsAfter};
-ghost use Rattle.warc_lent.specs.Problems.{problem_result, problem_text};
+ghost use Rattle.warc_lent.specs.Problems.{IsMemory, problem_result, problem_text};
 ghost use Rattle.warc_frame.specs.Effects.{FailsBy, Preserves};
 ghost use Rattle.warc_frame.specs.Seen.{IfHeld};
 ghost use Rattle.warc_lent.specs.Texts.{AreFindingsOf, IsFindingsOf, IsFixityOf, IsProblemPut, IsTextPut, IsRefusedFor, IsUnreadable, PutsFindings, PutsFixity};
@@ -29,7 +29,7 @@ pub fn list_text<A: Allocator + Copy, S: Source>(
     archive: &Archive<S, A>,
 ) -> Result<Vec<u8, A>, Problem>
     ensures lines { IfOk result (λ text. text.items ≡ listing archive.now.listing.rows) }
-    ensures memory { IfErr result (λ problem. problem ≡ Problem.Memory) }
+    ensures memory { IfErr result IsMemory }
 {
     let mut lines = MemSink::new(Vec::new(alloc));
     archive.list(&mut lines)?;
@@ -105,7 +105,7 @@ pub fn put_list<A: Allocator + Copy, S: Source>(
     out: &mut [u8],
 ) -> Result<usize, Problem>
     ensures lines { IfOk result (λ answered. IsTextPut (listing archive.now.listing.rows) answered out.new) }
-    ensures memory { IfErr result (λ problem. problem ≡ Problem.Memory) }
+    ensures memory { IfErr result IsMemory }
     ensures rest { IfOk result (λ answered. KeepsAfter answered out.old out.new) }
     ensures same { OnErr result (out.new ≡ out.old) }
     ensures room { length out.new ≡ length out.old }

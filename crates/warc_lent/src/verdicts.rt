@@ -1,11 +1,12 @@
 //! The verdicts on a block and on a payload by the digests that a record's head states, as numbers.
-ghost use Rattle.std.specs.Prelude.{◌≡◌, Option, Result};
+ghost use Rattle.std.specs.Prelude.{◌≡◌, Option, Result, IfErr};
 ghost use Rattle.warc.specs.Judged.{GivesStated};
 ghost use Rattle.warc.specs.PayloadVerdicts.{GivesPayload};
 ghost use Rattle.warc.specs.declared.fault.TakeFault.{TakeFault as GhostFault};
 ghost use Rattle.warc.specs.declared.record.payload.PayloadVerdict.{PayloadVerdict as Judged};
 ghost use Rattle.warc_reading.specs.Indexed.{IsUnchanged};
 ghost use Rattle.warc_value.specs.declared.hash.Verdict.{Verdict as Found};
+ghost use Rattle.warc_lent.specs.Problems.{IsNotGiven};
 ghost use Rattle.warc_lent.specs.Rows.{verdict_answer};
 ghost use Rattle.warc_lent.specs.Verdicts.{payload_answer, payload_number, unjudged_number};
 
@@ -52,6 +53,7 @@ pub fn stated_verdict_at<S: Source, A: Allocator + Copy>(
     ensures judged { (answer : Result Found GhostFault) × GivesStated archive.old.listing.rows position
         (S.seen archive.old.listing.source) (S.seen archive.new.listing.source) answer ×
         (result ≡ verdict_answer answer) }
+    ensures refused { IfErr result IsNotGiven }
     ensures unchanged { IsUnchanged archive.old archive.new }
 {
     match archive.stated_verdict(position) {
@@ -69,6 +71,7 @@ pub fn payload_verdict_at<S: Source, A: Allocator + Copy>(
     ensures judged { (answer : Result (Option Judged) GhostFault) × GivesPayload archive.old.listing.rows
         archive.old.index archive.old.parts position (S.seen archive.old.listing.source)
         (S.seen archive.new.listing.source) answer × (result ≡ payload_answer answer) }
+    ensures refused { IfErr result IsNotGiven }
     ensures unchanged { IsUnchanged archive.old archive.new }
 {
     match archive.payload_verdict(position) {

@@ -1,5 +1,5 @@
 -- The texts of rows, one more at a time, and the fault after them.
-use Rattle.std.proofs.Common.{◌≡◌, inr, ℕ, ◌+◌, List, [], ◌∷◌, ◌++◌, take, get_or, refl, sym, ap, ◌∙◌, Option, Some, None}
+use Rattle.std.proofs.Common.{◌≡◌, inr, ℕ, List, [], ◌∷◌, ◌++◌, refl, sym, ap, ◌∙◌, Option, Some, None}
 use Rattle.warc_frame.specs.Seen.{SeenSource}
 use Rattle.warc_frame.specs.declared.fault.Fault.{Fault}
 use Rattle.warc_reading.specs.Archive.{IsArchiveOf}

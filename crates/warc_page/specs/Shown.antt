@@ -1,6 +1,6 @@
 -- What a call puts into the page's buffers, and how it ends: in state 0, in state 1 where there is no result and a text
 -- says why, or in state 2 where memory doesn't suffice. This project's own notion.
-use Rattle.std.specs.Prelude.{◌≡◌, ◌⊎◌, ℕ, Bool, true, false, List, length, map, Option, Some, None, Result, Ok, Err, ⊤}
+use Rattle.std.specs.Prelude.{◌≡◌, ◌⊎◌, ℕ, Bool, true, false, List, length, map, Option, Some, None, Result, Ok, Err, IfErr, ⊤}
 use Rattle.std.specs.List.{flat_map}
 use Rattle.warc_value.specs.Dates.{Instant}
 use Rattle.warc_fixity.specs.Judged.{stated_verdict}
@@ -89,9 +89,12 @@ pub record Replies (Puts : Result ℕ Problem → Type 0) (outcome : PageOutcome
   pub puts : Puts answered
   pub ends : EndsWith answered outcome text
 
--- a number is answered, or some problem
-abbrev pub IsReply : PageOutcome → List ℕ → Type 0
-IsReply outcome text = (answered : Result ℕ Problem) × EndsWith answered outcome text
+-- a question is answered with a number or a problem: of an open archive, one that may be, or else that none is open
+pub record IsReply (MayBe : Problem → Type 0) (is_open : Bool) (outcome : PageOutcome) (text : List ℕ) : Type 0 where
+  pub answered : Result ℕ Problem
+  pub ends : EndsWith answered outcome text
+  pub opened : is_open ≡ true → IfErr answered MayBe
+  pub closed : is_open ≡ false → answered ≡ Err problems.NotOpen
 
 -- the position of the capture that is chosen is put, if one is
 abbrev pub IsChosenPut : Result ℕ Unfound → AnswerNumbers → AnswerNumbers → Type 0

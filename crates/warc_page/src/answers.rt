@@ -1,11 +1,11 @@
 //! What an open archive gives for the page's questions: where a body lies, or why there is none.
-ghost use Rattle.std.specs.Prelude.{◌≡◌, List, false, map};
+ghost use Rattle.std.specs.Prelude.{◌≡◌, List, None, true, map};
 ghost use Rattle.warc_value.specs.Dates.{instant_of};
 ghost use Rattle.warc_frame.specs.Seen.{IfHeld};
 ghost use Rattle.warc_reading.specs.Archive.{contents};
 ghost use Rattle.warc_reading.specs.Indexed.{AreOf, IsIndexed, indexed_record};
 ghost use Rattle.warc_reading.specs.Row.{Placed};
-ghost use Rattle.warc_lent.specs.Bodies.{PutsAt, PutsReplay};
+ghost use Rattle.warc_lent.specs.Bodies.{IsNoBody, IsNoReplay, PutsAt, PutsReplay};
 ghost use Rattle.warc_page.specs.Shown.{EndsBy, IsReply, PutsChosen, Replies};
 
 use crate::archive::PageArchive;
@@ -19,6 +19,7 @@ use warc_lent::{AnswerNumbers, Problem, SpanNumbers, put_body, put_replay};
 use warc_value::read_date;
 
 /// Puts the body that the capture at a position gives: what is said of it, and its spans.
+#[tactic(auto, using(crate::proofs::ReplyLemmas::reply))]
 fn body_at<S: Source, A: Allocator + Copy, B: Allocator>(
     alloc: B,
     archive: &mut Archive<S, A>,
@@ -30,13 +31,14 @@ fn body_at<S: Source, A: Allocator + Copy, B: Allocator>(
     ensures replies { IfHeld (S.seen archive.old.listing.source).holds (λ bytes. (is : IsIndexed bytes archive.old) →
         Replies (λ answered. PutsAt bytes (contents is.listed.are.records) position answered answer.old answer.new
         spans.new) result text.new) }
-    ensures ends { IsReply result text.new }
+    ensures ends { IsReply IsNoBody true result text.new }
 {
     let count = put_body(archive, position, answer, spans);
     end_with(alloc, count, text)
 }
 
 /// Puts the body for a URI as of a date, in the same way.
+#[tactic(auto, using(crate::proofs::ReplyLemmas::reply, crate::proofs::ReplyLemmas::dated))]
 fn body_for<S: Source, A: Allocator + Copy, B: Allocator>(
     alloc: B,
     archive: &mut Archive<S, A>,
@@ -49,7 +51,8 @@ fn body_for<S: Source, A: Allocator + Copy, B: Allocator>(
     ensures replies { IfHeld (S.seen archive.old.listing.source).holds (λ bytes. (is : IsIndexed bytes archive.old) →
         Replies (λ answered. PutsReplay bytes (contents is.listed.are.records) uri.now (instant_of date.now) answered
         answer.old answer.new spans.new) result text.new) }
-    ensures ends { IsReply result text.new }
+    ensures ends { IsReply (IsNoReplay (instant_of date.now)) true result text.new }
+    ensures dated { instant_of date.now ≡ None → EndsBy Problem.BadDate result.state result.length text.new }
 {
     let count = put_replay(archive, uri, date, answer, spans);
     end_with(alloc, count, text)
@@ -77,7 +80,7 @@ fn put_chosen<S: Source, A: Allocator + Copy>(
 /// the body, and the spans of the archive's bytes that it is, one after another, as many as there is room for. The
 /// outcome's length is their number. If there is no body, puts the text of the reason, and the positions of the path,
 /// if there is one.
-#[tactic(auto, using(crate::proofs::ReplyLemmas::no_reply))]
+#[tactic(auto, using(crate::proofs::ReplyLemmas::no_reply, crate::proofs::ReplyLemmas::reply_if_open))]
 #[unsafe(no_mangle)]
 pub extern "C" fn page_body(
     memory: Memory,
@@ -90,9 +93,7 @@ pub extern "C" fn page_body(
     outcome: &mut PageOutcome,
 )
     requires { memory.units ≡ units }
-    ensures ends { IsReply outcome.new text.new }
-    ensures closed { handle.old.is_open ≡ false →
-        EndsBy Problem.NotOpen outcome.new.state outcome.new.length text.new }
+    ensures ends { IsReply IsNoBody handle.old.is_open outcome.new text.new }
     ensures stays { handle.new.is_open ≡ handle.old.is_open }
 {
     let heap = Heap::new(memory, units);
@@ -106,7 +107,7 @@ pub extern "C" fn page_body(
 
 /// Asks an open archive for the body for a URI as of a date, as `warc replay` does. Puts the same as `page_body`, and
 /// also the position of the chosen capture if it gives no body.
-#[tactic(auto, using(crate::proofs::ReplyLemmas::no_reply))]
+#[tactic(auto, using(crate::proofs::ReplyLemmas::no_reply, crate::proofs::ReplyLemmas::reply_if_open))]
 #[unsafe(no_mangle)]
 pub extern "C" fn page_replay(
     memory: Memory,
@@ -120,9 +121,9 @@ pub extern "C" fn page_replay(
     outcome: &mut PageOutcome,
 )
     requires { memory.units ≡ units }
-    ensures ends { IsReply outcome.new text.new }
-    ensures closed { handle.old.is_open ≡ false →
-        EndsBy Problem.NotOpen outcome.new.state outcome.new.length text.new }
+    ensures ends { IsReply (IsNoReplay (instant_of date.now)) handle.old.is_open outcome.new text.new }
+    ensures dated { handle.old.is_open ≡ true → instant_of date.now ≡ None →
+        EndsBy Problem.BadDate outcome.new.state outcome.new.length text.new }
     ensures stays { handle.new.is_open ≡ handle.old.is_open }
 {
     let heap = Heap::new(memory, units);

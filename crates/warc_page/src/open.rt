@@ -1,5 +1,5 @@
 //! Archives that stay open between questions, over bytes that the page keeps where they are.
-ghost use Rattle.std.specs.Prelude.{◌≡◌, true, IfErr, IfOk};
+ghost use Rattle.std.specs.Prelude.{◌≡◌, ◌≢◌, true, IfErr, IfOk};
 ghost use Rattle.warc_reading.specs.Indexed.{IsIndexed};
 ghost use Rattle.warc_lent.specs.Texts.{IsRefusedFor};
 ghost use Rattle.warc_page.specs.Shown.{EndsOpened};
@@ -28,7 +28,7 @@ fn open_for_good(heap: &'static Heap, bytes: &'static [u8]) -> Result<&'static m
 }
 
 /// Opens an archive over these bytes, in the place of one that is open. Where they are refused, puts the text of the
-/// fault into the buffer, and one that is open stays so.
+/// fault into the buffer, and leaves the handle as it was.
 #[unsafe(no_mangle)]
 pub extern "C" fn page_open(
     memory: Memory,
@@ -41,7 +41,7 @@ pub extern "C" fn page_open(
     requires { memory.units ≡ units }
     ensures ends { EndsOpened bytes.now outcome.new text.new }
     ensures holds { outcome.new.state ≡ 0 → handle.new.is_open ≡ true }
-    ensures stays { handle.old.is_open ≡ true → handle.new.is_open ≡ true }
+    ensures same { outcome.new.state ≢ 0 → handle.new ≡ handle.old }
 {
     let Some(heap) = Heap::for_good(memory, units) else {
         *outcome = ended(MEMORY, 0);
