@@ -16,6 +16,11 @@ CAPTURES = (
 )
 OF_TARGET = "FROM captures JOIN files USING (file) WHERE state <> 'gone' AND target = ?"
 LATEST = "(SELECT instant %s AND instant <= ? ORDER BY instant DESC LIMIT 1)" % OF_TARGET
+# Of captures of one target and one instant in one file the program chooses the last one.
+IS_LAST = (
+    "position = (SELECT max(position) FROM captures AS other WHERE other.target = captures.target"
+    " AND other.instant = captures.instant AND other.file = captures.file)"
+)
 
 
 @dataclasses.dataclass(frozen=True)
@@ -66,10 +71,11 @@ def captures_where(catalogue: Catalogue, condition: str, values: Sequence[Any]) 
 
 
 def captures_of(catalogue: Catalogue, target: Stored, instant: Optional[str] = None) -> List[Capture]:
-    """The captures of a target: all by their instants, or those of the latest instant that isn't after one."""
+    """The captures of a target: all by their instants, or of the latest instant that isn't after one the last one of
+    each file."""
     if instant is None:
         return captures_where(catalogue, "target = ? ORDER BY instant, path, position", (target,))
-    condition = "target = ? AND instant = %s ORDER BY path, position" % LATEST
+    condition = "target = ? AND instant = %s AND %s ORDER BY path" % (LATEST, IS_LAST)
     return captures_where(catalogue, condition, (target, target, instant))
 
 
@@ -101,6 +107,11 @@ def next_instants(catalogue: Catalogue, target: Stored, after: str, most: int) -
     """The instants of the captures of a target after one, each once, as many as are asked for."""
     query = "SELECT DISTINCT instant %s AND instant > ? ORDER BY instant LIMIT ?" % OF_TARGET
     return [row[0] for row in catalogue.rows(query, (target, after, most))]
+
+
+def captures_at(catalogue: Catalogue, target: Stored, instant: str) -> List[Capture]:
+    """The captures of a target of just this instant, the last one of each file."""
+    return captures_where(catalogue, "target = ? AND instant = ? AND %s ORDER BY path" % IS_LAST, (target, instant))
 
 
 def captures_between(catalogue: Catalogue, target: Stored, first: str, last: str) -> List[Capture]:

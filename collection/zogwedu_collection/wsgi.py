@@ -19,7 +19,8 @@ import sqlite3
 import traceback
 from typing import Any, Callable, Dict, Iterable, Iterator, List, Mapping, NoReturn, Optional, Tuple
 
-from .captures import Capture, captures_as_of, captures_between, end_instant, next_instants, targets_from, unknown_files
+from .captures import Capture, captures_as_of, captures_at, captures_between, end_instant, next_instants, targets_from
+from .captures import unknown_files
 from .catalogue import Catalogue
 from .decode import package_for
 from .lending import Content, Lent, Reader, Unfit
@@ -240,7 +241,7 @@ class Application:
         *headers: Tuple[str, str],
     ) -> List[Capture]:
         """The captures of the first instant of a second, or else those as of its end."""
-        exact = captures_between(catalogue, paths.target, instants[0], instants[0])
+        exact = captures_at(catalogue, paths.target, instants[0])
         return exact or self.chosen(catalogue, paths, instants[1], is_memento, *headers)
 
     def timemap(self, form: str, environ: Environ, text: str) -> Response:

@@ -149,7 +149,7 @@ def first_bytes(trial: Trial) -> None:
         if b"odd" not in os.fsencode(str(path)):
             trial.judge(records == 2, "the records of %s" % path, records)
     done = trial.run("c", "replay", URI.decode(), "9999")
-    trial.judge(done.stdout == b"abc" and done.stderr.count(b"agrees") == 23, "a replay", done.stderr)
+    trial.judge(done.stdout == b"abc" and done.stderr.count(b"agrees") == 11, "a replay", done.stderr)
 
 
 def frames(trial: Trial) -> None:
@@ -336,6 +336,29 @@ def chained_revisits(trial: Trial) -> None:
     trial.judge(done.stdout == b"row", "a row of revisits", done.stderr)
     done = trial.run("c", "replay", URI.decode() + "ring", "9999", seconds=120)
     trial.judge(done.returncode == 1 and not done.stdout, "a ring of revisits", done.stderr)
+
+
+def same_instants(trial: Trial) -> None:
+    """Of two captures of one instant in a file the last one is chosen, as the program chooses it."""
+    path = put(trial.path("archives", "a.warc"), page(1, b"moved") + page(2, b"page") + page(3, b"x", URI + b"x"))
+    alone = subprocess.run([trial.warc, "replay", path, URI.decode(), "9999"], capture_output=True, check=False)
+    trial.run("c", "run", trial.path("archives"))
+    done = trial.run("c", "replay", URI.decode(), "9999")
+    is_right = (done.returncode, done.stdout) == (0, b"page") and alone.stdout == b"page"
+    trial.judge(is_right, "one file", done.stdout + done.stderr)
+    lines = trial.run("c", "find", URI.decode(), "9999").stdout.splitlines()
+    trial.judge(len(lines) == 1 and b"a.warc\t1\t" in lines[0], "find as of a date", lines)
+    trial.judge(trial.run("c", "find", URI.decode()).stdout.count(b"\n") == 2, "find")
+    put(trial.path("archives", "b.warc"), page(4, b"moved") + page(5, b"page"))
+    trial.run("c", "run")
+    done = trial.run("c", "replay", URI.decode(), "9999")
+    is_right = (done.returncode, done.stdout) == (0, b"page") and done.stderr.count(b"\nagrees: ") == 1
+    trial.judge(is_right, "two files that agree", done.stdout + done.stderr)
+    put(trial.path("archives", "c.warc"), page(6, b"page") + page(7, b"moved"))
+    trial.run("c", "run")
+    done = trial.run("c", "replay", URI.decode(), "9999")
+    is_right = (done.returncode, done.stdout) == (1, b"") and b"files disagree" in done.stderr
+    trial.judge(is_right, "a file that doesn't agree", done.stdout + done.stderr)
 
 
 def no_regular_files(trial: Trial) -> None:
@@ -1315,7 +1338,16 @@ PARTS: List[Callable[[Trial], None]] = [
         unchecked_blocks,
         changed_file,
     ),
-    *(small_mistakes, many_revisits, chained_revisits, no_regular_files, limited_time, torn_jobs, synced_jobs),
+    *(
+        small_mistakes,
+        same_instants,
+        many_revisits,
+        chained_revisits,
+        no_regular_files,
+        limited_time,
+        torn_jobs,
+        synced_jobs,
+    ),
     *(
         failing_load,
         killed_parent,
