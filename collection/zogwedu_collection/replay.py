@@ -25,6 +25,8 @@ from .unpack import PIECE, Damaged, pieces_of, write_all
 MOST_CANDIDATES = 64
 # The most captures that are asked what they lack, for one that is replayed.
 MOST_ASKED = 256
+# The most revisits of one file in a row, each of which names the next one.
+MOST_IN_ROW = 16
 UNRESOLVED = ("P4", "P5", "P7 Segment G2", "P7 Segment G4")
 NAMES = ("WARC-Refers-To", "WARC-Refers-To-Target-URI", "WARC-Refers-To-Date")
 # The most bytes of a record whose body is decoded.
@@ -280,8 +282,11 @@ class Replayer:
         return self.asked[key]
 
     def find_candidates(self, capture: Capture) -> List[Capture]:
-        """Looks for candidates, by what the capture lacks and names."""
+        """Looks for candidates, by what the capture lacks, or the revisit of its file that it leads to, and names."""
         reason = capture.reason or ""
+        if reason.startswith("P7"):
+            return self.of_series(capture)
+        capture, (name, uri, date) = self.end_of_row(capture)
         if reason.startswith("P4"):
             # The payload of a revisit that names nothing is that of a response or a resource of its target.
             return self.where(
@@ -290,19 +295,31 @@ class Replayer:
                 (capture.file, capture.file, capture.position),
                 "instant > '%s', instant DESC" % capture.instant.replace("'", ""),
             )
-        if reason.startswith("P7"):
-            return self.of_series(capture)
-        name, uri, date = self.named(capture)
-        found: List[Capture] = []
-        if name:
-            ids = "SELECT file, position FROM records WHERE lower(trim(id, '<>')) = ?"
-            condition = "(captures.file, position) IN (%s) AND captures.file <> ?" % ids
-            found = self.where(condition, (name.lower(), capture.file))
+        found = self.with_id(name, "captures.file <> ?", capture.file) if name else []
         if not found and uri and date:
             with contextlib.suppress(Trouble):
                 values = uri, instant_of(self.warc, date), capture.file
                 found = self.where("target = ? AND instant = ? AND captures.file <> ?", values)
         return found
+
+    def end_of_row(self, capture: Capture) -> Tuple[Capture, List[Optional[str]]]:
+        """The last of the revisits of one file each of which names the next one, and what it names itself."""
+        visited: Set[int] = set()
+        while True:
+            visited.add(capture.position)
+            names = self.named(capture)
+            own = self.with_id(names[0], "captures.file = ?", capture.file, "position") if names[0] else []
+            if not own or own[0].position in visited:
+                return capture, names
+            if len(visited) == MOST_IN_ROW:
+                say("only the first %d revisits of a row are looked at" % MOST_IN_ROW)
+                return capture, names
+            capture = own[0]
+
+    def with_id(self, name: str, where: str, file: int, order: str = "instant DESC") -> List[Capture]:
+        """The captures with an id, in a file or in others."""
+        ids = "SELECT file, position FROM records WHERE lower(trim(id, '<>')) = ?"
+        return self.where("(captures.file, position) IN (%s) AND %s" % (ids, where), (name.lower(), file), order)
 
     def where(self, condition: str, values: Sequence[object], order: str = "instant DESC") -> List[Capture]:
         ordered = "%s ORDER BY %s LIMIT %d" % (condition, order, MOST_CANDIDATES)

@@ -361,6 +361,35 @@ def same_instants(trial: Trial) -> None:
     trial.judge(is_right, "a file that doesn't agree", done.stdout + done.stderr)
 
 
+def chains_of_one_file(trial: Trial) -> None:
+    """A revisit that leads to another one of its own file, and that to another file, in a row and in a ring."""
+    folder, name = trial.path("archives"), "<urn:uuid:00000000-0000-4000-8000-%012d>"
+    fields = {"content_type": "application/http;msgtype=response", "WARC_Profile": REVISIT}
+    later = "2021-01-01T00:00:00Z"
+    pair = {"WARC_Refers_To_Target_URI": URI.decode() + "c", "WARC_Refers_To_Date": DATE}
+    same = {"WARC_Payload_Digest": "sha1:" + "A" * 32}
+    rows = (
+        record("revisit", 2, later, URI, HEAD, WARC_Refers_To=name % 3, **fields),
+        record("revisit", 3, later, URI + b"a", HEAD, WARC_Refers_To=name % 1, **fields),
+        record("revisit", 4, later, URI + b"b", HEAD, WARC_Refers_To=name % 5, **fields),
+        record("revisit", 5, later, URI + b"a", HEAD, **pair, **fields),
+        record("revisit", 6, later, URI + b"d", HEAD, WARC_Refers_To=name % 7, **fields),
+        record("revisit", 7, later, URI + b"e", HEAD, **same, **fields),
+        record("revisit", 8, later, URI + b"ring", HEAD, WARC_Refers_To=name % 9, **fields),
+        record("revisit", 9, later, URI + b"ring", HEAD, WARC_Refers_To=name % 8, **fields),
+    )
+    put(folder + "/revisits.warc", b"".join(rows))
+    del fields["WARC_Profile"]
+    pages = record("response", 1, DATE, URI + b"c", HEAD + b"page", **fields)
+    pages += record("response", 11, DATE, URI + b"e", HEAD + b"same", **same, **fields)
+    put(folder + "/pages.warc", pages)
+    trial.run("c", "run", folder)
+    for target, body in ((b"", b"page"), (b"b", b"page"), (b"d", b"same"), (b"ring", b"")):
+        done = trial.run("c", "replay", (URI + target).decode(), "9999", seconds=120)
+        is_right = (done.returncode, done.stdout) == (0 if body else 1, body)
+        trial.judge(is_right, "a row that begins at %s" % (target.decode() or "the page"), done.stderr)
+
+
 def no_regular_files(trial: Trial) -> None:
     """Pipes, sockets and devices with the name of an archive are left out, and a job isn't held up by one."""
     folder = trial.path("archives")
@@ -1343,6 +1372,7 @@ PARTS: List[Callable[[Trial], None]] = [
         same_instants,
         many_revisits,
         chained_revisits,
+        chains_of_one_file,
         no_regular_files,
         limited_time,
         torn_jobs,
