@@ -258,6 +258,15 @@ class Catalogue:
             raise
 
     @contextlib.contextmanager
+    def one_state(self) -> Iterator[None]:
+        """Answers of one state of the database, whatever a run takes in meanwhile."""
+        self.base.execute("BEGIN")
+        try:
+            yield
+        finally:
+            self.base.execute("ROLLBACK")
+
+    @contextlib.contextmanager
     def savepoint(self) -> Iterator[None]:
         """A part of a transaction that is undone where it fails."""
         self.base.execute("SAVEPOINT part")

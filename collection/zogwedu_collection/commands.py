@@ -70,9 +70,11 @@ def status_command(options: Options) -> int:
 
 def find_command(options: Options) -> int:
     catalogue, request = Catalogue(options.catalogue), Request(options.uri, options.uri_hex, options.date)
-    warn_of_unknown(catalogue, request.target())
     warc = usable_program(options.warc) if options.date else None
-    for capture in chosen_captures(catalogue, request, warc):
+    with catalogue.one_state():
+        warn_of_unknown(catalogue, request.target())
+        chosen = chosen_captures(catalogue, request, warc)
+    for capture in chosen:
         put(capture_line(capture, options.form))
     return 0
 
@@ -81,11 +83,12 @@ def replay_command(options: Options) -> int:
     catalogue, request = Catalogue(options.catalogue), Request(options.uri, options.uri_hex, options.date)
     warc, decoder = usable_program(options.warc), Decoder() if options.form == "decoded" else None
     replayer = Replayer(catalogue, warc, options.temporary, options.form != "plain")
-    warn_of_unknown(catalogue, request.target())
-    chosen = chosen_captures(catalogue, request, warc)
-    answers = [answer for capture in chosen for answer in replayer.answers(capture)]
-    first = settled(answers)
-    undone = "" if decoder is None else decoder.undo(replayer, first)
+    with catalogue.one_state():
+        warn_of_unknown(catalogue, request.target())
+        chosen = chosen_captures(catalogue, request, warc)
+        answers = [answer for capture in chosen for answer in replayer.answers(capture)]
+        first = settled(answers)
+        undone = "" if decoder is None else decoder.undo(replayer, first)
     write_body(first, sys.stdout.buffer)
     print_answer(first, undone, answers[1:])
     return 0

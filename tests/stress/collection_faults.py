@@ -285,6 +285,26 @@ def changed_file(trial: Trial) -> None:
     trial.judge(to_read(done) == 1, "a run after that", done.stderr)
 
 
+def run_beside_replay(trial: Trial) -> None:
+    """A replay has one state of the catalogue: a position of before a run isn't asked of the file of after it."""
+    fields = {"WARC_Refers_To_Target_URI": URI.decode() + "far", "WARC_Refers_To_Date": DATE, "WARC_Profile": REVISIT}
+    revisit = record("revisit", 1, "2021-01-01T00:00:00Z", URI, b"", **fields)
+    path = put(trial.path("archives", "a.warc"), revisit + page(2, b"more", URI + b"2"))
+    put(trial.path("archives", "b.warc"), page(3, b"far", URI + b"far"))
+    later = put(trial.path("later"), page(4, b"wrong", URI + b"4") + revisit)
+    trial.run("c", "run", trial.path("archives"))
+    run = "timeout 15 %s" % " ".join(trial.words("c", "run"))
+    text = '[ "$1" = write ] && echo >> %s && [ $(wc -l < %s) = 2 ] && {\ncp %s %s\n%s > %s 2>&1\n}\nexec %s "$@"\n'
+    count = trial.path("count")
+    other = put_script(trial.path("warc"), text % (count, count, later, path, run, trial.path("said"), trial.warc))
+    done = trial.run("c", "replay", "--warc", other, URI.decode(), "9999", seconds=120)
+    is_right = (done.returncode, done.stdout) == (3, b"") and b"changed since" in done.stderr
+    trial.judge(is_right, "a run meanwhile", done.stdout + done.stderr + read(trial.path("said")))
+    trial.run("c", "run")
+    done = trial.run("c", "replay", URI.decode(), "9999")
+    trial.judge(done.stdout == b"far", "afterwards", done.stdout + done.stderr)
+
+
 def small_mistakes(trial: Trial) -> None:
     """Names in capitals, numbers that no job has, folders that are missing."""
     put(trial.path("archives", "B.WARC.GZ"), gzip.compress(page()))
@@ -1366,6 +1386,7 @@ PARTS: List[Callable[[Trial], None]] = [
         unknown_names,
         unchecked_blocks,
         changed_file,
+        run_beside_replay,
     ),
     *(
         small_mistakes,
@@ -1392,7 +1413,16 @@ PARTS: List[Callable[[Trial], None]] = [
     *(damaged_files, joined_damaged_files, later_damage, damage_without_room, changed_damaged_file, many_damages),
     *(slow_pieces, unknown_pieces, catalogue_without_pieces),
     *(payload_digests, payloads_without_room, program_without_payloads, catalogue_without_payloads, torn_surveys),
-    *(odd_settings, many_users, old_runs, revisits_of_wget, moves, named_files, rot, older_catalogue),
+    *(
+        odd_settings,
+        many_users,
+        old_runs,
+        revisits_of_wget,
+        moves,
+        named_files,
+        rot,
+        older_catalogue,
+    ),
 ]
 
 
