@@ -5,7 +5,7 @@ import collections
 from typing import Dict, List, Sequence, Set
 
 from .catalogue import OF_A_FILE, Catalogue
-from .discover import is_below
+from .discover import Found, is_below, listed_files
 from .states import READ, as_list
 from .texts import real_path
 
@@ -64,14 +64,16 @@ def join_files(catalogue: Catalogue, run: int, before: int, file: int) -> None:
 
 
 def forget_files(catalogue: Catalogue, paths: Sequence[str]) -> List[str]:
-    """Forgets the files of these paths, or below them, that are gone or outside of the collection. Returns the
-    others."""
-    collection = catalogue.setting("paths") or []
+    """Forgets the files of these paths, or below them, that are gone or outside of the collection. Returns the others.
+    Where a list of files can't be read, any file may be in it."""
+    folders, lists = catalogue.setting("paths") or [], Found()
+    listed = {name for path in catalogue.setting("lists") or [] for name in listed_files(path, lists)}
     kept = []
     with catalogue.transaction():
         for file, stored, state in catalogue.rows("SELECT file, path, state FROM files ORDER BY path"):
             path = real_path(stored)
-            if is_below(path, paths) and state != "gone" and is_below(path, collection):
+            is_in = bool(lists.unread) or path in listed or is_below(path, folders)
+            if is_below(path, paths) and state != "gone" and is_in:
                 kept.append(path)
             elif is_below(path, paths):
                 forget(catalogue, file)

@@ -1144,6 +1144,24 @@ def moves(trial: Trial) -> None:
     trial.judge(done.returncode == 0 and b"gone" not in done.stdout, "the night after", done.stdout)
 
 
+def listed_files(trial: Trial) -> None:
+    """A file that a list names is in the collection: `forget` leaves it, also where the list can't be read."""
+    path, gone = (put(trial.path("archives", name), page()) for name in ("a.warc", "b.warc"))
+    names = put(trial.path("names"), os.fsencode("%s\n%s\n" % (path, gone)))
+    trial.run("c", "run", "--files", names)
+    os.unlink(gone)
+    trial.run("c", "run")
+    done = trial.run("c", "forget", trial.path("archives"))
+    is_right = done.returncode == 1 and b"a.warc is in the collection" in done.stderr
+    trial.judge(is_right and trial.states("c") == {"a.warc": "good"}, "a list", done.stderr)
+    os.rename(names, names + ".away")
+    done = trial.run("c", "forget", path)
+    trial.judge(done.returncode == 1 and trial.count("c", "captures") == 1, "a list that is missing", done.stderr)
+    put(names, b"other\n")
+    done = trial.run("c", "forget", path)
+    trial.judge(done.returncode == 0 and trial.count("c", "captures") == 0, "a list without it", done.stderr)
+
+
 def named_files(trial: Trial) -> None:
     """Files with findings are named; files that can't be read are named where they may have the URI."""
     put(trial.path("archives", "found.warc"), page(1) + page(1))
@@ -1419,6 +1437,7 @@ PARTS: List[Callable[[Trial], None]] = [
         old_runs,
         revisits_of_wget,
         moves,
+        listed_files,
         named_files,
         rot,
         older_catalogue,
