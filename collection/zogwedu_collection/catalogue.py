@@ -109,6 +109,14 @@ class Run:
 
 
 @dataclasses.dataclass(frozen=True)
+class Lists:
+    """The lists that name files, and the folder from which their relative names are meant."""
+
+    paths: Sequence[str]
+    folder: str
+
+
+@dataclasses.dataclass(frozen=True)
 class Known:
     """What the catalogue knows of a file: its state, when its rows were read, from which bytes, how many of these are
     damaged, and how many bytes its good records have. The rows of a damaged file are those of its good records."""
@@ -290,6 +298,10 @@ class Catalogue:
 
     def set(self, name: str, value: Any) -> None:
         self.base.execute("INSERT OR REPLACE INTO settings VALUES (?, ?)", (name, json.dumps(value)))
+
+    def lists(self) -> Lists:
+        """The lists of files. A catalogue of an earlier version doesn't know where they were given."""
+        return Lists(self.setting("lists") or [], self.setting("lists_from") or os.getcwd())
 
     def last_run(self) -> Optional[Run]:
         row = self.one("SELECT run, began, ended, scope FROM runs ORDER BY run DESC LIMIT 1")

@@ -7,7 +7,7 @@ import itertools
 import os
 from typing import Dict, Iterator, List, Optional, Sequence
 
-from .catalogue import Catalogue, Run
+from .catalogue import Catalogue, Lists, Run
 from .disk import Stamp, is_regular, stamp_of
 from .states import TRIED_AGAIN
 from .texts import real_path, say, shown, stored_path
@@ -51,8 +51,8 @@ def files_below(folder: str, found: Found) -> Iterator[str]:
         yield from (os.path.join(at, name) for name in sorted(names) if os.fsencode(name).lower().endswith(SUFFIXES))
 
 
-def listed_files(path: str, found: Found) -> List[str]:
-    """The files that a list names: a name a line, or names that end with a zero byte."""
+def listed_files(path: str, folder: str, found: Found) -> List[str]:
+    """The files that a list names: a name a line, or names that end with a zero byte. Relative ones are of a folder."""
     try:
         with open(path, "rb") as file:
             data = file.read()
@@ -60,17 +60,22 @@ def listed_files(path: str, found: Found) -> List[str]:
         found.note(error)
         return []
     names = data.split(b"\0" if b"\0" in data else b"\n")
-    return [os.path.abspath(os.fsdecode(name)) for name in names if name]
+    return [os.path.abspath(os.path.join(folder, os.fsdecode(name))) for name in names if name]
 
 
-def found_files(paths: Sequence[str], lists: Sequence[str]) -> Found:
+def all_listed(lists: Lists, found: Found) -> Iterator[str]:
+    """The files that lists name."""
+    for path in lists.paths:
+        yield from listed_files(path, lists.folder, found)
+
+
+def found_files(paths: Sequence[str], lists: Lists) -> Found:
     """Each file of the collection once."""
     found = Found()
     folders = [path for path in paths if os.path.isdir(path)]
     below = (name for folder in folders for name in files_below(folder, found))
     named = dict.fromkeys(path for path in paths if not os.path.isdir(path))
-    listed = (name for path in lists for name in listed_files(path, found))
-    for name in itertools.chain(below, named, listed):
+    for name in itertools.chain(below, named, all_listed(lists, found)):
         found.add(name, name in named)
     return found
 

@@ -5,7 +5,7 @@ import collections
 from typing import Dict, List, Sequence, Set
 
 from .catalogue import OF_A_FILE, Catalogue
-from .discover import Found, is_below, listed_files
+from .discover import Found, all_listed, is_below
 from .states import READ, as_list
 from .texts import real_path
 
@@ -67,7 +67,7 @@ def forget_files(catalogue: Catalogue, paths: Sequence[str]) -> List[str]:
     """Forgets the files of these paths, or below them, that are gone or outside of the collection. Returns the others.
     Where a list of files can't be read, any file may be in it."""
     folders, lists = catalogue.setting("paths") or [], Found()
-    listed = {name for path in catalogue.setting("lists") or [] for name in listed_files(path, lists)}
+    listed = set(all_listed(catalogue.lists(), lists))
     kept = []
     with catalogue.transaction():
         for file, stored, state in catalogue.rows("SELECT file, path, state FROM files ORDER BY path"):

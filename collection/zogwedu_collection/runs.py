@@ -87,7 +87,8 @@ def make_plan(catalogue: Catalogue, asked: Asked) -> Plan:
         if asked.paths or asked.lists:
             catalogue.set("paths", [os.path.abspath(path) for path in asked.paths])
             catalogue.set("lists", [os.path.abspath(path) for path in asked.lists])
-        paths, lists = catalogue.setting("paths"), catalogue.setting("lists")
+            catalogue.set("lists_from", os.getcwd())
+        paths, lists = catalogue.setting("paths"), catalogue.lists()
         if paths is None:
             raise Trouble("name the folders of the collection")
         run = begin_run(catalogue, asked.is_over_all)

@@ -1162,6 +1162,22 @@ def listed_files(trial: Trial) -> None:
     trial.judge(done.returncode == 0 and trial.count("c", "captures") == 0, "a list without it", done.stderr)
 
 
+def relative_names(trial: Trial) -> None:
+    """A relative name of a list means the file that it meant when the list was given, wherever a later run begins."""
+    path = put(trial.path("archives", "a.warc"), page())
+    names = put(trial.path("names"), b"archives/a.warc\n")
+    there = ("sh", "-c", 'cd "$0" && exec "$@"')
+    done = trial.run("c", "run", "--files", names, before=(*there, trial.path()))
+    trial.judge(done.returncode == 0 and to_read(done) == 1, "the first run", done.stderr)
+    put(path, page() + page(2, b"more", URI + b"2")[:-1])
+    done = trial.run("c", "run", before=(*there, "/"))
+    is_right = done.returncode == 1 and trial.states("c") == {"a.warc": "refused"}
+    trial.judge(is_right, "a run from elsewhere", done.stdout + done.stderr)
+    put(path, page())
+    done = trial.run("c", "run", "--files", names, before=(*there, trial.path("archives")))
+    trial.judge(b"archives/archives/a.warc" in done.stderr, "the list is given anew", done.stderr)
+
+
 def named_files(trial: Trial) -> None:
     """Files with findings are named; files that can't be read are named where they may have the URI."""
     put(trial.path("archives", "found.warc"), page(1) + page(1))
@@ -1438,6 +1454,7 @@ PARTS: List[Callable[[Trial], None]] = [
         revisits_of_wget,
         moves,
         listed_files,
+        relative_names,
         named_files,
         rot,
         older_catalogue,
