@@ -6,7 +6,7 @@ from typing import Dict, List, Sequence, Set
 
 from .catalogue import OF_A_FILE, Catalogue
 from .discover import Found, all_listed, is_below
-from .states import READ, as_list
+from .states import ABOUT_BYTES, READ, as_list
 from .texts import real_path
 
 ABOUT_A_FILE = (*OF_A_FILE, "readings", "checks", "counts", "changes", "files")
@@ -94,6 +94,9 @@ def prune(catalogue: Catalogue, keep: int) -> int:
     with catalogue.transaction():
         for table in ("checks", "counts", "changes"):
             last = "SELECT file, max(run) FROM %s GROUP BY file" % table
+            if table == "checks":
+                about_bytes = "SELECT file, max(run) FROM checks WHERE state IN (%s) GROUP BY file"
+                last += " UNION " + about_bytes % as_list(ABOUT_BYTES)
             query = "DELETE FROM %s WHERE run <= ? AND (file, run) NOT IN (%s)" % (table, last)
             dropped += catalogue.base.execute(query, (oldest - keep,)).rowcount
     catalogue.patiently("VACUUM")

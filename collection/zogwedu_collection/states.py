@@ -17,6 +17,8 @@ STATES = {
 }
 # The rows of such a reading replace those of the one before. So do those of the good records of a refused file.
 READ = ("good", "findings", "unchecked", "bad")
+# States that say something of the bytes of a file, and not of the machine that read it.
+ABOUT_BYTES = (*READ, "refused", "gunzip", "no-room", "rotten")
 TRIED_AGAIN = ("no-room", "failed", "changing", "unread", "gone")
 
 

@@ -15,7 +15,7 @@ from .job import COMMANDS, Outcome, read_outcome, summary_of
 from .jobs import listed_jobs
 from .lines import Sums, capture_rows, digest_rows, finding_rows, payload_rows, payloads_of, record_rows
 from .moves import settle_moves
-from .states import READ
+from .states import ABOUT_BYTES, as_list
 from .texts import decoded, now, say, shown, stored_path
 
 MOST_ROWS = 200_000
@@ -24,20 +24,22 @@ NOT_WHOLE = (
     *(OSError, ValueError, KeyError, TypeError, IndexError, AttributeError, OverflowError),
     *(sqlite3.IntegrityError, sqlite3.DataError, sqlite3.InterfaceError),
 )
-# States that say something of the bytes of a file, and not of the machine that read it.
-ABOUT_BYTES = (*READ, "refused", "gunzip", "no-room", "rotten")
 
 
 @dataclasses.dataclass(frozen=True)
 class Before:
-    """What the catalogue has of a file before a job's outcome is taken in."""
+    """What the catalogue has of a file before a job's outcome is taken in. `rotten` is the size and the time of the
+    file if its last reading found rotten bytes, whatever kept it from being read since."""
 
     file: int
     size: Optional[int]
     modified: Optional[int]
-    state: str
     sha256: Optional[str]
     has_reading: bool
+    rotten: Optional[Tuple[int, int]]
+
+    def is_still_rotten(self, stamp: Stamp) -> bool:
+        return self.rotten == (stamp.size, stamp.modified)
 
     def has_same_time(self, stamp: Optional[Stamp]) -> bool:
         return stamp is not None and (stamp.size, stamp.modified) == (self.size, self.modified)
@@ -45,13 +47,20 @@ class Before:
 
 def before_job(catalogue: Catalogue, path: str) -> Before:
     query = (
-        "SELECT file, files.size, files.modified, state, sha256, readings.run IS NOT NULL"
+        "SELECT file, files.size, files.modified, sha256, readings.run IS NOT NULL"
         " FROM files LEFT JOIN readings USING (file) WHERE path = ?"
     )
     row = catalogue.one(query, (stored_path(path),))
     if row is None:
         raise KeyError(path)
-    return Before(*row)
+    file, size, modified, sha256, has_reading = row
+    last = catalogue.one(
+        "SELECT state, size, modified FROM checks WHERE file = ? AND state IN (%s) ORDER BY run DESC LIMIT 1"
+        % as_list(ABOUT_BYTES),
+        (file,),
+    )
+    rotten = (last[1], last[2]) if last is not None and last[0] == "rotten" else None
+    return Before(file, size, modified, sha256, has_reading, rotten)
 
 
 def take_in_all(catalogue: Catalogue, is_last: bool = True) -> int:
@@ -162,10 +171,10 @@ def take_in_job(catalogue: Catalogue, run: int, folder: str, name: str) -> int:
 
 def judged(before: Before, outcome: Outcome) -> None:
     """Corrects the state by the digest of the whole file: other bytes with the same size and time are rotten."""
-    if outcome.state not in ABOUT_BYTES or not before.has_same_time(outcome.stamp):
+    if outcome.state not in ABOUT_BYTES or outcome.stamp is None or not before.has_same_time(outcome.stamp):
         return
     differs = before.sha256 is not None and outcome.sha256 is not None and before.sha256 != outcome.sha256
-    is_still = before.state == "rotten" and outcome.sha256 is None
+    is_still = before.is_still_rotten(outcome.stamp) and outcome.sha256 is None
     if differs or is_still:
         outcome.state = "rotten"
         outcome.detail = "its SHA-256 was %s%s" % (before.sha256, ", and is %s" % outcome.sha256 if differs else "")

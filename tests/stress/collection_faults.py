@@ -1215,6 +1215,44 @@ def rot(trial: Trial) -> None:
             trial.judge((done.returncode, done.stdout) == (3, b""), "a replay of rotten bytes", done.stderr)
 
 
+def rot_beside_failures(trial: Trial) -> None:
+    """A rotten file stays rotten, also where it couldn't be read or wasn't there meanwhile; another file in its place
+    isn't rotten."""
+    data = record("resource", 1, DATE, URI, b"abc", block_digest="-")
+    path = put(trial.path("archives", "a.warc"), data)
+    put(trial.path("archives", "b.warc"), page(2))
+    trial.run("c", "run", "--digest", trial.path("archives"))
+    before = os.stat(path)
+    put(path, data.replace(b"abc", b"axc"))
+    os.utime(path, ns=(before.st_atime_ns, before.st_mtime_ns))
+    trial.run("c", "run", "--digest")
+    trial.judge(trial.states("c")["a.warc"] == "rotten", "other bytes", trial.states("c"))
+    os.chmod(path, 0)
+    trial.run("c", "run", before=LESS)
+    trial.judge(trial.states("c")["a.warc"] == "failed", "no permission", trial.states("c"))
+    os.chmod(path, 0o644)
+    trial.run("c", "run")
+    trial.judge(trial.states("c")["a.warc"] == "rotten", "after a failure", trial.states("c"))
+    os.rename(path, trial.path("away"))
+    trial.run("c", "run")
+    os.rename(trial.path("away"), path)
+    trial.run("c", "run")
+    trial.judge(trial.states("c")["a.warc"] == "rotten", "back again", trial.states("c"))
+    for _ in range(3):
+        os.chmod(path, 0)
+        trial.run("c", "run", before=LESS)
+    trial.run("c", "prune", "--keep", "1")
+    os.chmod(path, 0o644)
+    trial.run("c", "run")
+    trial.judge(trial.states("c")["a.warc"] == "rotten", "after prune", trial.states("c"))
+    put(path, data.replace(b"abc", b"xyz"))
+    os.chmod(path, 0)
+    trial.run("c", "run", before=LESS)
+    os.chmod(path, 0o644)
+    trial.run("c", "run")
+    trial.judge(trial.states("c")["a.warc"] == "unchecked", "another file", trial.states("c"))
+
+
 # The digest of `abc` in hexadecimal digits, with which a payload is good, and others.
 ABC = "md5:900150983cd24fb0d6963f7d28e17f72"
 CHUNKED = b"HTTP/1.1 200 OK\r\nTransfer-Encoding: chunked\r\n\r\n3\r\nabc\r\n0\r\n\r\n"
@@ -1457,6 +1495,7 @@ PARTS: List[Callable[[Trial], None]] = [
         relative_names,
         named_files,
         rot,
+        rot_beside_failures,
         older_catalogue,
     ),
 ]
