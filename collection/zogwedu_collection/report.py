@@ -111,8 +111,10 @@ def records_by_year(catalogue: Catalogue) -> Counter[Tuple[str, str]]:
 def by_year(catalogue: Catalogue) -> Tuple[List[str], List[str], Counter[Tuple[str, str]]]:
     """Records by year and type: the years, the types, and the counts. Rare types are one; so are early years."""
     counts = records_by_year(catalogue)
-    all_kinds = {kind: sum(counts[pair] for pair in counts if pair[1] == kind) for _, kind in counts}
-    kinds = [kind for kind, _ in collections.Counter(all_kinds).most_common(MOST_KINDS)]
+    all_kinds: Counter[str] = collections.Counter()
+    for (_, kind), count in counts.items():
+        all_kinds[kind] += count
+    kinds = [kind for kind, _ in all_kinds.most_common(MOST_KINDS)]
     years = sorted({year for year, _ in counts})
     early = set(years[:-MOST_YEARS])
     merged: Counter[Tuple[str, str]] = collections.Counter()

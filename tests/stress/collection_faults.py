@@ -802,6 +802,20 @@ def old_runs(trial: Trial) -> None:
     trial.judge(done.stdout.count(b"\n") == 1, "find", done.stdout)
 
 
+def many_kinds(trial: Trial) -> None:
+    """The report takes no longer than its rows, however many types and hosts a hostile file has."""
+    put(trial.path("archives", "a.warc"), page())
+    trial.run("c", "run", trial.path("archives"))
+    with contextlib.closing(trial.base("c")) as base:
+        rows = [(1, "2020", "kind-%d" % number, 1, 1) for number in range(60_000)]
+        base.executemany("INSERT INTO years VALUES (?, ?, ?, ?, ?)", rows)
+        base.executemany("INSERT INTO hosts VALUES (?, ?, ?, ?)", [(1, kind, 1, 1) for _, _, kind, _, _ in rows])
+        base.commit()
+    done = trial.run("c", "report", trial.path("r.html"), seconds=60)
+    text = read(trial.path("r.html")).decode("utf-8")
+    trial.judge(done.returncode == 0 and "other <b>59\u202f993" in text, "the report", done.stderr)
+
+
 # Coded bodies
 
 TEXT = b"<p>a page</p>" * 50
@@ -1489,6 +1503,7 @@ PARTS: List[Callable[[Trial], None]] = [
         odd_settings,
         many_users,
         old_runs,
+        many_kinds,
         revisits_of_wget,
         moves,
         listed_files,
