@@ -49,6 +49,13 @@ class Answering(ServerHandler):
     server_software = ""
     request_handler: Handler
 
+    def finish_content(self) -> None:
+        """Sends the head that no body had sent. That of a HEAD has no length that nobody counted."""
+        if self.request_handler.command == "HEAD" and not getattr(self, "headers_sent", False):
+            self.send_headers()
+        else:
+            super().finish_content()
+
     def handle_error(self) -> None:
         """Says what went wrong. An answer that has begun is broken off, so that no part is taken for the whole."""
         self.log_exception(sys.exc_info())

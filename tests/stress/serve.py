@@ -602,6 +602,12 @@ def browsers(trial: Trial, script: Script) -> None:
         trial.judge("sec-fetch-dest" in (reply.get("Vary") or "").lower(), "an answer varies by Sec-Fetch-Dest", reply)
         head = server.client.ask(path, method="HEAD")
         trial.judge((head.status, head.body, head.get("Content-Length")) == (200, b"", "1"), "a head alone", head)
+        for form in ("link", "json"):
+            listed = "/timemap/%s/%s" % (form, uri)
+            head, whole = server.client.ask(listed, method="HEAD"), server.client.ask(listed)
+            lengths = [reply.get("Content-Length") for reply in (head, whole)]
+            is_right = head.status == 200 and lengths[0] in (None, str(len(whole.body)))
+            trial.judge(is_right and lengths[1] in (None, str(len(whole.body))), "the head of a list", lengths)
         for typed, instant in TYPED.items():
             reply = server.client.ask("/room/instant/" + typed)
             trial.judge(json.loads(reply.body) == {"instant": instant}, "what %s means" % typed, reply)
