@@ -15,12 +15,14 @@ import subprocess
 import sys
 import tempfile
 import threading
+import tracemalloc
 import unittest
 from datetime import datetime, timedelta, timezone
 from functools import partial
 from typing import Any, Callable, Dict, Iterable, List, Optional, Set, Tuple, Union
 
 import zogwedu
+from zogwedu._decoding import decode
 
 HERE = os.path.dirname(os.path.abspath(__file__))
 TOP = os.path.dirname(os.path.dirname(os.path.dirname(os.path.abspath(__file__))))
@@ -560,6 +562,16 @@ class Decoding(unittest.TestCase):
             {"status": 200, "fields": [("Content-Encoding", "gzip")], "body": (gzip.compress(b"") * 100_000).hex()}
         )[0]
         self.assertEqual(len(record.body(decoded=True)), 0)
+
+    def test_many_small_chunks(self) -> None:
+        data = memoryview(b"2\r\nab\r\n" * 200_000 + b"0\r\n\r\n")
+        tracemalloc.start()
+        try:
+            body = decode(data, ["chunked"])
+            self.assertLess(tracemalloc.get_traced_memory()[1], 2 * len(data) + (1 << 20))
+        finally:
+            tracemalloc.stop()
+        self.assertEqual(body, b"ab" * 200_000)
 
     def test_a_uri_that_names_a_segment(self) -> None:
         head = "HTTP/1.1 200 OK\r\nContent-Encoding: gzip"

@@ -5,6 +5,7 @@ No part of this is proved. Which codings a body has is read of the fields that t
 cases.
 """
 import importlib
+import io
 import re
 import zlib
 from typing import Any, Callable, Dict, Iterable, List, Sequence, Tuple
@@ -52,8 +53,8 @@ class _Taken:
     def __init__(self, coding: str, limit: int) -> None:
         self.coding = coding
         self.limit = limit
-        self.parts: List[bytes] = []
         self.length = 0
+        self._out = io.BytesIO()  # a list of parts would take more memory than many small ones hold
 
     @property
     def room(self) -> int:
@@ -65,11 +66,11 @@ class _Taken:
         self.length += len(part)
         if self.length > self.limit:
             raise Undecodable(f"the body has more than {self.limit} bytes when {self.coding} is undone", self.coding)
-        self.parts.append(part)
+        self._out.write(part)
 
     def whole(self) -> bytes:
         """All that was added."""
-        return b"".join(self.parts)
+        return self._out.getvalue()
 
     def fail(self, why: object) -> Undecodable:
         """The exception for damaged bytes."""
