@@ -114,10 +114,13 @@ def captures_at(catalogue: Catalogue, target: Stored, instant: str) -> List[Capt
     return captures_where(catalogue, "target = ? AND instant = ? AND %s ORDER BY path" % IS_LAST, (target, instant))
 
 
-def captures_between(catalogue: Catalogue, target: Stored, first: str, last: str) -> List[Capture]:
-    """The captures of a target from one instant to another."""
-    condition = "target = ? AND instant BETWEEN ? AND ? ORDER BY instant, path, position"
-    return captures_where(catalogue, condition, (target, first, last))
+def captures_after(catalogue: Catalogue, target: Stored, last: Tuple[str, int, int], most: int) -> List[Capture]:
+    """The captures of a target by instant, file and position, after one that has these; as many as are asked for."""
+    condition = (
+        "target = ? AND (instant, captures.file, position) > (?, ?, ?)"
+        " ORDER BY instant, captures.file, position LIMIT ?"
+    )
+    return captures_where(catalogue, condition, (target, *last, most))
 
 
 def targets_from(catalogue: Catalogue, front: Stored, most: int) -> List[Tuple[Stored, int, str, str]]:

@@ -19,7 +19,7 @@ import sqlite3
 import traceback
 from typing import Any, Callable, Dict, Iterable, Iterator, List, Mapping, NoReturn, Optional, Tuple
 
-from .captures import Capture, captures_as_of, captures_at, captures_between, end_instant, next_instants, targets_from
+from .captures import Capture, captures_after, captures_as_of, captures_at, end_instant, next_instants, targets_from
 from .captures import unknown_files
 from .catalogue import Catalogue
 from .decode import package_for
@@ -262,26 +262,27 @@ class Application:
     def instants(self, target: Stored) -> Iterator[str]:
         """The instants of all captures, some at a time: a long list isn't in memory, and no connection waits for the
         one who reads it."""
-        for instants in self.parts(target):
-            yield from instants
-
-    def parts(self, target: Stored) -> Iterator[List[str]]:
         last = FIRST
         while True:
             with self.desks.one() as catalogue:
                 instants = next_instants(catalogue, target, last, AT_ONCE)
             if not instants:
                 return
-            yield instants
+            yield from instants
             last = instants[-1]
 
     def facts(self, target: Stored) -> Iterator[Tuple[str, Dict[str, Any]]]:
-        """The instants of all captures, with what the catalogue has of each."""
-        for instants in self.parts(target):
+        """The instants of all captures, with what the catalogue has of each, some at a time as well: many may be of
+        one instant."""
+        last = FIRST, -1, -1
+        while True:
             with self.desks.one() as catalogue:
-                captures = captures_between(catalogue, target, instants[0], instants[-1])
+                captures = captures_after(catalogue, target, last, AT_ONCE)
+            if not captures:
+                return
             for capture in captures:
                 yield capture.instant, dict(capture_values(capture), mark=capture.mark())
+            last = captures[-1].instant, captures[-1].file, captures[-1].position
 
     def memento(self, environ: Environ, text: str) -> Response:
         """The body of a capture. A date that isn't its own leads to its own."""

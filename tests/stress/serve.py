@@ -710,6 +710,30 @@ def unpacked_bytes(trial: Trial, script: Script) -> None:
         trial.judge(reply.status == 200 and reply.body == bytes(ZEROS), "with room for it", reply.status)
 
 
+MANY = 150_000
+# The list of them, where it is in memory as a whole, takes more.
+MOST_MEMORY = 80 << 10
+
+
+def many_captures(trial: Trial, script: Script) -> None:
+    """A list of captures is whole and isn't in memory as a whole, also where all are of one instant."""
+    put(trial.path("same", "a.warc"), record("resource", 1, DATE, b"urn:x:same", b"0"))
+    trial.run("s", "run", "--quiet", trial.path("same"))
+    columns = "date, instant, kind, given, status, media, length, reason, target"
+    numbers = "WITH RECURSIVE numbers(n) AS (SELECT 1 UNION ALL SELECT n + 1 FROM numbers WHERE n < %d)" % (MANY - 1)
+    with contextlib.closing(trial.base("s")) as base:
+        added = "INSERT INTO captures (file, position, %s) %s SELECT file, n, %s FROM captures, numbers"
+        base.execute(added % (columns, numbers, columns))
+        base.commit()
+    with served(trial, "s", script=script) as server:
+        reply = server.client.ask("/timemap/json/urn:x:same")
+        listed = [it["position"] for it in json.loads(reply.body)["mementos"]["list"]]
+        trial.judge(listed == list(range(MANY)), "all are listed, in their order", len(listed))
+        with open("/proc/%d/status" % server.worker(), encoding="ascii") as file:
+            memory = next(int(line.split()[1]) for line in file if line.startswith("VmHWM"))
+        trial.judge(memory < MOST_MEMORY, "the memory of a list", memory)
+
+
 def readers_that_go(trial: Trial, script: Script) -> None:
     """A reader of a long body that goes away gives its archive back."""
     catalogued(trial)
@@ -949,7 +973,7 @@ def is_seen(trial: Trial, part: Part, script: str) -> bool:
 
 PARTS: Tuple[Part, ...] = (
     *(crawl_is_served, odd_captures, bad_input, browsers, changed_files, many_archives, unpacked_bytes),
-    *(readers_that_go, slow_clients, one_that_dies, beside_a_run, passed_socket, read_only, broken),
+    *(many_captures, readers_that_go, slow_clients, one_that_dies, beside_a_run, passed_socket, read_only, broken),
 )
 
 
