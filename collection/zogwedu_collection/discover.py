@@ -44,10 +44,14 @@ class Found:
         say("%s: %s" % (shown(os.fsdecode(error.filename)), error.strerror))
 
 
-def files_below(folder: str, found: Found) -> Iterator[str]:
-    """The archives below a folder."""
+def files_below(folder: str, top: Sequence[str], found: Found) -> Iterator[str]:
+    """The archives below a folder. A link to a folder isn't entered, which is said where it leads out of the folders of
+    the collection (`top`, without links)."""
     for at, folders, names in os.walk(folder, onerror=found.note):
         folders.sort()
+        for path in (os.path.join(at, name) for name in folders):
+            if os.path.islink(path) and not is_below(os.path.realpath(path), top):
+                say("%s: a link to a folder; it isn't entered, unless it is named" % shown(path))
         yield from (os.path.join(at, name) for name in sorted(names) if os.fsencode(name).lower().endswith(SUFFIXES))
 
 
@@ -73,7 +77,8 @@ def found_files(paths: Sequence[str], lists: Lists) -> Found:
     """Each file of the collection once."""
     found = Found()
     folders = [path for path in paths if os.path.isdir(path)]
-    below = (name for folder in folders for name in files_below(folder, found))
+    top = [os.path.realpath(folder) for folder in folders]
+    below = (name for folder in folders for name in files_below(folder, top, found))
     named = dict.fromkeys(path for path in paths if not os.path.isdir(path))
     for name in itertools.chain(below, named, all_listed(lists, found)):
         found.add(name, name in named)

@@ -430,6 +430,20 @@ def no_regular_files(trial: Trial) -> None:
     trial.judge(trial.states("d") == {"a.warc": "failed"}, "a pipe in the place of a file", trial.states("d"))
 
 
+def linked_folders(trial: Trial) -> None:
+    """A link to a folder isn't entered, and is named, unless its files are in the collection all the same."""
+    put(trial.path("archives", "sub", "a.warc"), page())
+    put(trial.path("elsewhere", "b.warc"), page(2))
+    for name, to in (("twin", "archives/sub"), ("link", "elsewhere"), ("ring", "archives")):
+        os.symlink(trial.path(to), trial.path("archives", name))
+    done = trial.run("c", "run", trial.path("archives"))
+    names = [name for name in (b"twin", b"link", b"ring") if b"/%s: " % name in done.stderr]
+    trial.judge(done.returncode == 0 and to_read(done) == 1 and names == [b"link"], "a link", done.stderr)
+    done = trial.run("c", "run", trial.path("archives"), trial.path("archives", "link"))
+    is_right = done.returncode == 0 and to_read(done) == 1 and b"/link: " not in done.stderr
+    trial.judge(is_right and trial.states("c") == {"a.warc": "good", "b.warc": "good"}, "named", done.stderr)
+
+
 def limited_time(trial: Trial) -> None:
     """The time holds for all that a job does: the commands together, and unpacking."""
     put(trial.path("archives", "a.warc"), page())
@@ -1481,6 +1495,7 @@ PARTS: List[Callable[[Trial], None]] = [
         chained_revisits,
         chains_of_one_file,
         no_regular_files,
+        linked_folders,
         limited_time,
         torn_jobs,
         synced_jobs,
