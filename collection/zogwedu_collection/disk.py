@@ -25,7 +25,14 @@ class Stamp:
 
 
 def stamp_of(status: os.stat_result) -> Stamp:
-    return Stamp(status.st_size, status.st_mtime_ns, status.st_ctime_ns, status.st_ino)
+    return Stamp(status.st_size, *map(signed, (status.st_mtime_ns, status.st_ctime_ns, status.st_ino)))
+
+
+def signed(number: int) -> int:
+    """A number as databases keep it: the last 64 bits, the first of which is the sign. Some file systems have inodes
+    that need all of them, and times may be later than 2262."""
+    number %= 1 << 64
+    return number - (1 << 64) if number >> 63 else number
 
 
 def is_regular(path: str) -> bool:

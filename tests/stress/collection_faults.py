@@ -444,6 +444,46 @@ def linked_folders(trial: Trial) -> None:
     trial.judge(is_right and trial.states("c") == {"a.warc": "good", "b.warc": "good"}, "named", done.stderr)
 
 
+# A file system that gives each file an inode of 64 bits, as those do that join others.
+LARGE_INODES = """
+#define _GNU_SOURCE
+#include <dlfcn.h>
+#include <sys/stat.h>
+#define LARGE(name, kind, first) \\
+    int name(first it, struct kind *to) { \\
+        int status = ((int (*)(first, struct kind *))dlsym(RTLD_NEXT, #name))(it, to); \\
+        if (status == 0) to->st_ino |= 1UL << 63; \\
+        return status; \\
+    }
+LARGE(stat, stat, const char *)
+LARGE(stat64, stat64, const char *)
+LARGE(fstat, stat, int)
+LARGE(fstat64, stat64, int)
+"""
+
+
+def large_numbers(trial: Trial) -> None:
+    """A file is read and known again that has an inode of 64 bits, or a time that 63 bits of nanoseconds don't hold."""
+    path = put(trial.path("archives", "a.warc"), page())
+    os.utime(path, (1.5e10, 1.5e10))
+    trial.judge(os.stat(path).st_mtime_ns >= 1 << 63, "the disk has such times", os.stat(path))
+    for number in (1, 0):
+        done = trial.run("late", "run", trial.path("archives"))
+        is_right = done.returncode == 0 and to_read(done) == number and trial.states("late") == {"a.warc": "good"}
+        trial.judge(is_right, "a late time", done.stdout + done.stderr)
+    done = trial.run("late", "replay", URI.decode(), "9999")
+    trial.judge(done.stdout == b"abc", "a replay of a late time", done.stderr)
+    library = trial.path("inodes.so")
+    code = put(trial.path("inodes.c"), LARGE_INODES.encode())
+    subprocess.run(["cc", "-shared", "-fPIC", "-w", "-o", library, code, "-ldl"], check=True)
+    done = trial.run("c", "run", trial.path("archives"), env={"LD_PRELOAD": library})
+    inodes = trial.ask("c", "SELECT inode FROM files")
+    is_right = done.returncode == 0 and inodes == [(os.stat(path).st_ino - (1 << 63),)]
+    trial.judge(is_right, "an inode of 64 bits", done.stdout + done.stderr)
+    done = trial.run("c", "replay", URI.decode(), "9999", env={"LD_PRELOAD": library})
+    trial.judge(done.stdout == b"abc", "its replay", done.stderr)
+
+
 def limited_time(trial: Trial) -> None:
     """The time holds for all that a job does: the commands together, and unpacking."""
     put(trial.path("archives", "a.warc"), page())
@@ -1495,6 +1535,7 @@ PARTS: List[Callable[[Trial], None]] = [
         chained_revisits,
         chains_of_one_file,
         no_regular_files,
+        large_numbers,
         linked_folders,
         limited_time,
         torn_jobs,
