@@ -9,7 +9,7 @@ from typing import Any, Iterator, List, Optional, Sequence, Tuple
 
 from .captures import Capture
 from .catalogue import Catalogue, Known
-from .replay import CODED, DISAGREE, NAMES, Answer, Replayer, bare, check_path, do_agree, place_in
+from .replay import CODED, DISAGREE, NAMES, Answer, Names, Replayer, bare, check_path, do_agree, place_in
 from .shelf import Shelf
 from .texts import Trouble, escaped
 
@@ -103,10 +103,11 @@ class Reader(Replayer):
             about = "status %s truncated %s length %d" % words
             return Lent(capture, files, None, None, file, position, about, "", None, at, self)
 
-    def named(self, capture: Capture) -> List[Optional[str]]:
+    def named(self, capture: Capture) -> Names:
         with self.shelf.lent([self.known(capture.file)]) as archive:
             head = archive[capture.position].headers
-            return [bare(head[name]) or None if name in head else None for name in NAMES]
+            values = [head[name] if name in head else "" for name in NAMES]
+        return [bare(value.encode("utf-8", "surrogateescape")) for value in values]
 
     def answer(self, captures: Sequence[Capture]) -> Lent:
         """What captures of one instant give, if they agree."""

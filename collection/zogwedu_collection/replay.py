@@ -19,7 +19,7 @@ from .catalogue import Catalogue, Known
 from .damaged import good_records
 from .disk import Stamp, open_regular, open_stamp, reason_of, stamp_of, temporary_folder
 from .program import instant_of, said
-from .texts import Trouble, escaped, say, real_path
+from .texts import Stored, Trouble, decoded, escaped, real_path, say
 from .unpack import PIECE, Damaged, pieces_of, write_all
 
 MOST_CANDIDATES = 64
@@ -29,6 +29,9 @@ MOST_ASKED = 256
 MOST_IN_ROW = 16
 UNRESOLVED = ("P4", "P5", "P7 Segment G2", "P7 Segment G4")
 NAMES = ("WARC-Refers-To", "WARC-Refers-To-Target-URI", "WARC-Refers-To-Date")
+Names = List[Optional[Stored]]
+END_OF_LINE = re.compile(rb"\r\n(?![ \t])")
+FOLD = re.compile(rb"\r\n[ \t]+")
 # The most bytes of a record whose body is decoded.
 MOST_DECODED = 1 << 30
 # What the program says of a body: the record that it is of, its facts, and the fields that name its codings.
@@ -81,9 +84,17 @@ class Answer:
         return "given %s %d %s" % (path, self.position, escaped(self.about + self.codings))
 
 
-def bare(value: str) -> str:
-    """The value of a field on one line, without the brackets around it."""
-    return " ".join(value.split()).strip("<> ")
+def bare(value: bytes) -> Optional[Stored]:
+    """The bare text of a value: without the brackets around it, and without spaces at its ends. None if it is empty."""
+    inner = value[1:-1] if value[:1] == b"<" and value[-1:] == b">" else value
+    return decoded((value if b"<" in inner or b">" in inner else inner).strip(b" \t")) or None
+
+
+def fields_of(head: bytes) -> Iterator[Tuple[bytes, bytes]]:
+    """The fields of a head, as `warc head` writes it: names in lower case, and values on one line."""
+    for line in END_OF_LINE.split(head)[1:]:
+        name, _, rest = line.partition(b":")
+        yield name.lower(), FOLD.sub(b" ", rest).strip(b" \t")
 
 
 def is_unresolved(reason: Optional[str]) -> bool:
@@ -258,18 +269,17 @@ class Replayer:
             source.seek(places[0])
             return b"".join(iter(lambda: source.read(min(PIECE, end - source.tell())), b""))
 
-    def named(self, capture: Capture) -> List[Optional[str]]:
+    def named(self, capture: Capture) -> Names:
         """What the head of a revisit names: the id, the target and the date of its referent."""
-        import email.parser  # here, since it is slow to load
-
         with self.files.joined([self.known(capture.file)]) as source:
             out, status, message = self.program("head", source, capture.position)
         with out:
             if status != 0:
                 raise Trouble(message)
-            fields = out.read().partition(b"\r\n")[2].decode("utf-8", "replace")
-        head = email.parser.HeaderParser().parsestr(fields, headersonly=True)
-        return [bare(str(head[name])) if head[name] else None for name in NAMES]
+            fields = list(fields_of(out.read()))
+        # Of several fields with a name the first one counts.
+        first = dict(reversed(fields))
+        return [bare(first.get(name.lower().encode(), b"")) for name in NAMES]
 
     def candidates(self, capture: Capture) -> List[Capture]:
         """Captures of other files that may be what a capture lacks. The program judges whether they are. No capture is
@@ -296,13 +306,13 @@ class Replayer:
                 "instant > '%s', instant DESC" % capture.instant.replace("'", ""),
             )
         found = self.with_id(name, "captures.file <> ?", capture.file) if name else []
-        if not found and uri and date:
+        if not found and uri and isinstance(date, str):
             with contextlib.suppress(Trouble):
                 values = uri, instant_of(self.warc, date), capture.file
                 found = self.where("target = ? AND instant = ? AND captures.file <> ?", values)
         return found
 
-    def end_of_row(self, capture: Capture) -> Tuple[Capture, List[Optional[str]]]:
+    def end_of_row(self, capture: Capture) -> Tuple[Capture, Names]:
         """The last of the revisits of one file each of which names the next one, and what it names itself."""
         visited: Set[int] = set()
         while True:
@@ -316,7 +326,7 @@ class Replayer:
                 return capture, names
             capture = own[0]
 
-    def with_id(self, name: str, where: str, file: int, order: str = "instant DESC") -> List[Capture]:
+    def with_id(self, name: Stored, where: str, file: int, order: str = "instant DESC") -> List[Capture]:
         """The captures with an id, in a file or in others."""
         ids = "SELECT file, position FROM records WHERE lower(trim(id, '<>')) = ?"
         return self.where("(captures.file, position) IN (%s) AND %s" % (ids, where), (name.lower(), file), order)

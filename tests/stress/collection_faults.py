@@ -410,6 +410,33 @@ def chains_of_one_file(trial: Trial) -> None:
         trial.judge(is_right, "a row that begins at %s" % (target.decode() or "the page"), done.stderr)
 
 
+def odd_references(trial: Trial) -> None:
+    """A revisit's referent in another file is found by its URI, of whatever bytes and spaces that is."""
+    for number, (uri, value) in enumerate(ODD_URIS.items()):
+        target = URI + b"%d" % number
+        named = {"WARC_Refers_To_Target_URI": "odd uri", "WARC_Refers_To_Date": DATE, "WARC_Profile": REVISIT}
+        revisit = record("revisit", number, "2021-01-01T00:00:00Z", target, b"", **named)
+        put(trial.path("archives", "a%d.warc" % number), revisit.replace(b"odd uri", uri))
+        put(trial.path("archives", "b%d.warc" % number), page(99 + number, b"page", value))
+    trial.run("c", "run", trial.path("archives"))
+    for number, uri in enumerate(ODD_URIS):
+        done = trial.run("c", "replay", URI.decode() + "%d" % number, "9999")
+        trial.judge((done.returncode, done.stdout) == (0, b"page"), uri, done.stderr)
+
+
+# URIs as a head may have them, with bytes that aren't UTF-8, spaces of several kinds, folds and brackets; and what each
+# means.
+SPACES = "http://b.example/a\u00a0b\u3000c\u2028d\u0085".encode()
+ODD_URIS = {
+    b"http://b.example/\xff": b"http://b.example/\xff",
+    SPACES: SPACES,
+    b"http://b.example/a  b\tc": b"http://b.example/a  b\tc",
+    b"http://b.example/a\r\n\t b": b"http://b.example/a b",
+    b"\r\n < http://b.example/d >": b"http://b.example/d",
+    b"http://b.example/e>": b"http://b.example/e>",
+}
+
+
 def no_regular_files(trial: Trial) -> None:
     """Pipes, sockets and devices with the name of an archive are left out, and a job isn't held up by one."""
     folder = trial.path("archives")
@@ -1534,6 +1561,7 @@ PARTS: List[Callable[[Trial], None]] = [
         many_revisits,
         chained_revisits,
         chains_of_one_file,
+        odd_references,
         no_regular_files,
         large_numbers,
         linked_folders,
