@@ -78,6 +78,8 @@ def read_outcome(folder: str) -> Outcome:
     outcome = Outcome(**values)
     outcome.stamp = None if stamp is None else Stamp(**stamp)
     outcome.pieces = None if pieces is None else Pieces(**pieces)
+    # The name of a folder in it may not be UTF-8, and the catalogue keeps text.
+    outcome.detail = outcome.detail.encode("utf-8", "backslashreplace").decode("utf-8")
     if not isinstance(outcome.path, str) or not isinstance(outcome.statuses, dict):
         raise ValueError("no outcome")
     return outcome

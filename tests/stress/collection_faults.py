@@ -82,6 +82,19 @@ def no_room(trial: Trial) -> None:
     trial.judge(is_right, "a replay of the rows of before", done.stderr)
 
 
+def odd_temporary(trial: Trial) -> None:
+    """What is said of a folder whose name isn't UTF-8 is kept, and doesn't hold up a run."""
+    put(trial.path("archives", "a.warc.gz"), gzip.compress(page(1, os.urandom(100_000))))
+    name = trial.path(os.fsdecode(b"disk \xff"))
+    with small_disk(name, "64k") as disk:
+        done = trial.run("c", "run", "--temporary", disk, trial.path("archives"))
+    is_right = done.returncode == 1 and trial.states("c") == {"a.warc.gz": "no-room"} and b"disk " in done.stdout
+    trial.judge(is_right, "no room", done.stdout + done.stderr)
+    done = trial.run("c", "run", "--temporary", name + "/missing")
+    is_right = done.returncode == 1 and trial.states("c") == {"a.warc.gz": "failed"} and b"disk " in done.stdout
+    trial.judge(is_right, "no folder", done.stdout + done.stderr)
+
+
 def failing_machine(trial: Trial) -> None:
     """A limit, or a tool that is killed, isn't damage of the archive."""
     folder = trial.path("archives")
@@ -1544,6 +1557,7 @@ def older_catalogue(trial: Trial) -> None:
 PARTS: List[Callable[[Trial], None]] = [
     *(
         no_room,
+        odd_temporary,
         failing_machine,
         damaged_members,
         first_bytes,
