@@ -328,7 +328,8 @@ class Application:
         try:
             if not isinstance(date, str) or not date.isascii() or len(date) > MOST_OF_DATE:
                 raise BadDate("bad date")
-            return as_json({"instant": instant_of(self.warc, date)})
+            with self.desks.one():  # no more programs run at once than there may be requests at work
+                return as_json({"instant": instant_of(self.warc, date)})
         except BadDate as error:
             raise NotOne(str(error)) from None
 

@@ -32,7 +32,7 @@ import time
 import urllib.parse
 from typing import Callable, Dict, Iterator, List, Optional, Set, Tuple
 
-from collection_trial import TOP, Trial, put, record
+from collection_trial import TOP, Trial, put, put_script, record
 from memento_client import Client, Reply, Wrong, seconds_of
 from serve_trial import PACKAGE, Served, received, served, started, status_in, wait_for
 
@@ -734,6 +734,25 @@ def many_captures(trial: Trial, script: Script) -> None:
         trial.judge(memory < MOST_MEMORY, "the memory of a list", memory)
 
 
+def many_dates(trial: Trial, script: Script) -> None:
+    """Dates that readers type are read by no more programs at once than there may be requests at work."""
+    catalogued(trial)
+    running, counts = trial.path("running"), trial.path("counts")
+    os.makedirs(running)
+    text = '[ "$1" = write ] && { mkdir %s/$$; ls %s | wc -l >> %s; sleep 0.3; rmdir %s/$$; }\nexec %s "$@"\n'
+    slow = put_script(trial.path("slow"), text % (running, running, counts, running, trial.warc))
+    with served(trial, "c", "--requests", "3", "--warc", slow, script=script) as server:
+        crowd = [server.connected() for _ in range(20)]
+        for connection in crowd:
+            connection.sendall(b"GET /room/instant/2020-01-01 HTTP/1.0\r\n\r\n")
+        statuses = [status_in(received(connection)) for connection in crowd]
+        for connection in crowd:
+            connection.close()
+    with open(counts, encoding="ascii") as file:
+        most = max(int(line) for line in file)
+    trial.judge(statuses == [200] * 20 and most <= 3, "programs at once", (most, statuses))
+
+
 def readers_that_go(trial: Trial, script: Script) -> None:
     """A reader of a long body that goes away gives its archive back."""
     catalogued(trial)
@@ -973,7 +992,17 @@ def is_seen(trial: Trial, part: Part, script: str) -> bool:
 
 PARTS: Tuple[Part, ...] = (
     *(crawl_is_served, odd_captures, bad_input, browsers, changed_files, many_archives, unpacked_bytes),
-    *(many_captures, readers_that_go, slow_clients, one_that_dies, beside_a_run, passed_socket, read_only, broken),
+    *(
+        many_captures,
+        many_dates,
+        readers_that_go,
+        slow_clients,
+        one_that_dies,
+        beside_a_run,
+        passed_socket,
+        read_only,
+        broken,
+    ),
 )
 
 
