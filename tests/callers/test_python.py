@@ -592,6 +592,13 @@ class Decoding(unittest.TestCase):
         with self.assertRaises(zogwedu.Undecodable):
             zogwedu.Archive(stored(head, packed))[0].body(decoded="transfer")
 
+    def test_a_content_that_stays_coded_is_not_copied(self) -> None:
+        packed = gzip.compress(b"abc")
+        data = stored("HTTP/1.1 200 OK\r\nContent-Encoding: gzip", packed)
+        body = zogwedu.Archive(data)[0].body(decoded="transfer")
+        self.assertEqual((bytes(body), body.undone), (packed, ()))
+        self.assertIs(body.data.obj, data)
+
     def test_plain_bodies_are_not_touched(self) -> None:
         body = zogwedu.Archive(stored("HTTP/1.1 200 OK", b"abc"))[0].body(decoded=True)
         self.assertEqual((bytes(body), body.undone), (b"abc", ()))

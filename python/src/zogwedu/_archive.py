@@ -469,6 +469,9 @@ class Archive(Records):
         if http is None or "WARC-Segment-Number" in origin.headers:
             raise reason
         codings = codings_of(http.headers.fields, names)
+        if not codings:
+            spans = [(http.offset, http.length)]
+            return Body(self, reason.chosen, reason.given, http.status, origin.truncated, spans)
         try:
             own = decode(http.stored, codings, limit)
         except Undecodable as error:
