@@ -39,13 +39,15 @@ class Lent(Answer):
 
 @dataclasses.dataclass(frozen=True)
 class Content:
-    """The bytes that an answer gives, as parts of an archive, and what is said of them."""
+    """The bytes that an answer gives, as parts of an archive, or in memory if they had to be decoded; and what is said
+    of them."""
 
     parts: List[memoryview]
     status: Optional[int]
     media: str
     coding: Optional[str]
     location: Optional[str]
+    is_decoded: bool = False
 
     def length(self) -> int:
         return sum(len(part) for part in self.parts)
@@ -145,7 +147,8 @@ class Reader(Replayer):
         coding = coding_of(head.get_all("Content-Encoding")) if answer.reason else None
         location = head.get("Location")
         location = None if location is None or len(location) > MOST_LOCATION else location
-        return Content(body.parts, body.status, media_of(head.get("Content-Type")), coding, location)
+        media, is_decoded = media_of(head.get("Content-Type")), bool(body.undone)
+        return Content(body.parts, body.status, media, coding, location, is_decoded)
 
     def pieces(self, answer: Lent, content: Content) -> Iterator[bytes]:
         """The bytes of an answer. Before each piece is given, its files are those that were read."""

@@ -16,6 +16,7 @@ import queue
 import re
 import signal
 import sqlite3
+import threading
 import traceback
 from typing import Any, Callable, Dict, Iterable, Iterator, List, Mapping, NoReturn, Optional, Tuple
 
@@ -149,6 +150,7 @@ class Application:
         self.warc = usable_program(warc)
         self.shelf = Shelf(package, self.warc, temporary, limits.archives, limits.unpacked)
         self.desks = Desks(folder, limits.requests)
+        self.decoded = threading.BoundedSemaphore(limits.requests)
         with self.desks.one():
             pass
         self.routes: Tuple[Tuple[str, Callable[[Environ, str], Response]], ...] = (
@@ -345,8 +347,13 @@ class Application:
         assert answer.reader is not None
         stack = contextlib.ExitStack()
         with contextlib.ExitStack() as until_sent:
+            place = until_sent.enter_context(contextlib.ExitStack())
+            if answer.reason is not None:
+                place.enter_context(self.one_decoded())
             archive = until_sent.enter_context(self.shelf.lent(answer.files))
             content = given(lambda: answer.reader.content(answer, archive), *links)  # type: ignore[union-attr]
+            if not content.is_decoded:
+                place.close()
             until_sent.callback(content.release)
             if content.length() > MOST_BODY:
                 raise Refusal(502, "the body has more than %d bytes" % MOST_BODY, *links)
@@ -358,6 +365,16 @@ class Application:
                 return Response(status or status_of(content), headers, [*first, *pieces])
             stack = until_sent.pop_all()
         return Response(status or status_of(content), headers, Sending(itertools.chain(first, pieces), stack))
+
+    @contextlib.contextmanager
+    def one_decoded(self) -> Iterator[None]:
+        """A place for a coded body, which may be decoded in memory until it is sent: as many as requests at work."""
+        if not self.decoded.acquire(timeout=PATIENCE_SECONDS):
+            raise Trouble("too many coded bodies at once: try again")
+        try:
+            yield
+        finally:
+            self.decoded.release()
 
 
 def as_json(value: Dict[str, Any]) -> Response:

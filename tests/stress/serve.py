@@ -738,7 +738,7 @@ def many_dates(trial: Trial, script: Script) -> None:
     """Dates that readers type are read by no more programs at once than there may be requests at work."""
     catalogued(trial)
     running, counts = trial.path("running"), trial.path("counts")
-    os.makedirs(running)
+    os.makedirs(running, exist_ok=True)
     text = '[ "$1" = write ] && { mkdir %s/$$; ls %s | wc -l >> %s; sleep 0.3; rmdir %s/$$; }\nexec %s "$@"\n'
     slow = put_script(trial.path("slow"), text % (running, running, counts, running, trial.warc))
     with served(trial, "c", "--requests", "3", "--warc", slow, script=script) as server:
@@ -751,6 +751,32 @@ def many_dates(trial: Trial, script: Script) -> None:
     with open(counts, encoding="ascii") as file:
         most = max(int(line) for line in file)
     trial.judge(statuses == [200] * 20 and most <= 3, "programs at once", (most, statuses))
+
+
+def coded_bodies(trial: Trial, script: Script) -> None:
+    """A body that is decoded is in memory until it is sent: there are no more of them than requests at work. One that
+    is only compressed is sent as it lies in its file, to any number of readers."""
+    body = b"x" * (16 << 20)
+    chunked = head_of(b"200 OK", more=b"Transfer-Encoding: chunked\r\n")
+    data = response(1, b"http://coded.example/chunked", chunked, b"%x\r\n%s\r\n0\r\n\r\n" % (len(body), body))
+    data += response(2, b"http://coded.example/gzip", head_of(b"200 OK", more=b"Content-Encoding: x-gzip\r\n"), body)
+    put(trial.path("coded", "a.warc"), data)
+    trial.run("k", "run", "--quiet", trial.path("coded"))
+    with served(trial, "k", "--requests", "2", script=script) as server:
+        for name, expected in (("chunked", 2), ("gzip", 6)):
+            crowd = [server.slow_reader("/memento/20200101000000/http://coded.example/" + name) for _ in range(6)]
+            time.sleep(8)
+            begun = select.select(crowd, [], [], 0)[0]
+            trial.judge(len(begun) == expected, "bodies at once: " + name, len(begun))
+            for connection in begun:
+                connection.close()
+            rest = [connection for connection in crowd if connection not in begun]
+            more = wait_for(lambda: len(select.select(rest, [], [], 0)[0]) == min(2, len(rest)))
+            trial.judge(more, "then others: " + name, len(select.select(rest, [], [], 0)[0]))
+            for connection in rest:
+                connection.close()
+        reply = server.client.ask("/memento/20200101000000/http://coded.example/chunked")
+        trial.judge(reply.body == body, "a whole body", len(reply.body))
 
 
 def readers_that_go(trial: Trial, script: Script) -> None:
@@ -995,6 +1021,7 @@ PARTS: Tuple[Part, ...] = (
     *(
         many_captures,
         many_dates,
+        coded_bodies,
         readers_that_go,
         slow_clients,
         one_that_dies,

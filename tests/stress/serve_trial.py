@@ -73,6 +73,14 @@ class Served:
     def connected(self) -> socket.socket:
         return socket.create_connection((self.host, self.port), timeout=60)
 
+    def slow_reader(self, path: str) -> socket.socket:
+        """A connection that asks for a path, and takes little of the answer before it is read."""
+        connection = socket.socket()
+        connection.setsockopt(socket.SOL_SOCKET, socket.SO_RCVBUF, 4096)
+        connection.connect((self.host, self.port))
+        connection.sendall(b"GET %s HTTP/1.0\r\n\r\n" % path.encode())
+        return connection
+
     def raw(self, request: bytes) -> bytes:
         """What a server answers to bytes, up to its end."""
         with self.connected() as connection:
