@@ -19,13 +19,14 @@ NOT_THERE = (errno.ENOENT, errno.ENOTDIR)
 
 @dataclasses.dataclass
 class Found:
-    """The files of a collection with what the system says of each (None for one that isn't there), and what couldn't be
-    read."""
+    """The files of a collection with what the system says of each (None for one that isn't there), what couldn't be
+    read, and the names of lists that nothing has."""
 
     files: Dict[str, Optional[Stamp]] = dataclasses.field(default_factory=dict)
     unread: List[str] = dataclasses.field(default_factory=list)
+    missing: List[str] = dataclasses.field(default_factory=list)
 
-    def add(self, name: str, is_asked_for: bool) -> None:
+    def add(self, name: str, is_asked_for: bool, is_listed: bool) -> None:
         """Adds a file. A name that is no regular file's is left out: reading a pipe or a device may never end."""
         try:
             is_file = is_regular(name)
@@ -34,6 +35,7 @@ class Found:
         except OSError as error:
             self.files[name], why = None, error.strerror or str(error)
             is_unknown = error.errno not in NOT_THERE
+            self.missing += [name] if is_listed and not is_unknown else []
         if why is not None:
             say("%s: %s" % (shown(name), why))
             self.unread += [name] if is_asked_for or is_unknown else []
@@ -80,8 +82,10 @@ def found_files(paths: Sequence[str], lists: Lists) -> Found:
     top = [os.path.realpath(folder) for folder in folders]
     below = (name for folder in folders for name in files_below(folder, top, found))
     named = dict.fromkeys(path for path in paths if not os.path.isdir(path))
-    for name in itertools.chain(below, named, all_listed(lists, found)):
-        found.add(name, name in named)
+    for name in itertools.chain(below, named):
+        found.add(name, name in named, False)
+    for name in all_listed(lists, found):
+        found.add(name, name in named, True)
     return found
 
 
@@ -93,6 +97,7 @@ def note_changes(catalogue: Catalogue, run: int, found: Found, paths: Sequence[s
     """Adds new files to the catalogue, and marks those that aren't there any more."""
     rows = catalogue.rows("SELECT path, file, state FROM files")
     known = {real_path(row[0]): (row[1], row[2]) for row in rows}
+    found.missing = [path for path in found.missing if path not in known]
     number = catalogue.one("SELECT coalesce(max(file), 0) FROM files")[0]
     new = [path for path, stamp in found.files.items() if stamp is not None and path not in known]
     catalogue.base.executemany(

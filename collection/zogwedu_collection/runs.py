@@ -101,7 +101,7 @@ def make_plan(catalogue: Catalogue, asked: Asked) -> Plan:
     write_jobs(folder, settings, chosen)
     there = sum(stamp is not None for stamp in found.files.values())
     say("run %d: %d files, %d to read" % (run.number, there, len(chosen)))
-    return Plan(run.number, folder, len(chosen), bool(found.unread))
+    return Plan(run.number, folder, len(chosen), bool(found.unread or found.missing))
 
 
 def for_parallel(words: Sequence[str]) -> str:

@@ -1286,6 +1286,19 @@ def relative_names(trial: Trial) -> None:
     trial.judge(b"archives/archives/a.warc" in done.stderr, "the list is given anew", done.stderr)
 
 
+def missing_names(trial: Trial) -> None:
+    """A list that names files which never were there isn't one of good files, as after a move to lines with CR."""
+    path = put(trial.path("archives", "a.warc"), page())
+    for name, end in (("c", "\r\n"), ("d", "\n")):
+        names = put(trial.path("names-" + name), os.fsencode(path + end))
+        done = trial.run(name, "run", "--files", names)
+        is_right = done.returncode == (3 if end == "\r\n" else 0) and to_read(done) == len("\r\n") - len(end)
+        trial.judge(is_right, "lines that end with %r" % end, done.stdout + done.stderr)
+    os.unlink(path)
+    done = trial.run("d", "run")
+    trial.judge(done.returncode == 1 and trial.states("d") == {"a.warc": "gone"}, "one that was there", done.stderr)
+
+
 def named_files(trial: Trial) -> None:
     """Files with findings are named; files that can't be read are named where they may have the URI."""
     put(trial.path("archives", "found.warc"), page(1) + page(1))
@@ -1606,6 +1619,7 @@ PARTS: List[Callable[[Trial], None]] = [
         moves,
         listed_files,
         relative_names,
+        missing_names,
         named_files,
         rot,
         rot_beside_failures,
