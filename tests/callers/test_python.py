@@ -579,6 +579,11 @@ class Decoding(unittest.TestCase):
         archive = zogwedu.Archive(stored(head, gzip.compress(b"abc"), uri=uri))
         self.assertEqual(bytes(archive[0].body(decoded=True)), b"abc")
 
+    def test_an_empty_number_of_a_segment(self) -> None:
+        data = stored("HTTP/1.1 200 OK\r\nContent-Encoding: gzip", gzip.compress(b"abc"))
+        archive = zogwedu.Archive(data.replace(b"Content-Length", b"WARC-Segment-Number:\r\nContent-Length", 1))
+        self.assertEqual(bytes(archive[0].body(decoded=True)), b"abc")
+
     def test_transfer_codings_alone(self) -> None:
         packed = gzip.compress(b"abc")
         chunks = b"%x\r\n%s\r\n0\r\n\r\n" % (len(packed), packed)

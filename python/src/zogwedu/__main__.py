@@ -49,7 +49,7 @@ def write_stored(folder: str, record: Record, archive: Archive, reason: NoBody) 
     """Writes a coded body as it is stored."""
     origin = archive[reason.given] if reason.given is not None else record
     http = origin.http
-    if reason.code != CODED or http is None or "WARC-Segment-Number" in origin.headers:
+    if reason.code != CODED or http is None or origin.headers.get("WARC-Segment-Number"):
         raise reason
     name = f"{record.position}.body"
     length = write_parts(os.path.join(folder, name), [http.stored])

@@ -466,7 +466,7 @@ class Archive(Records):
             raise reason
         origin = self[reason.given]
         http = origin.http
-        if http is None or "WARC-Segment-Number" in origin.headers:
+        if http is None or origin.headers.get("WARC-Segment-Number"):
             raise reason
         codings = codings_of(http.headers.fields, names)
         if not codings:
