@@ -18,6 +18,7 @@ from .texts import Trouble, say, shown
 
 Options = argparse.Namespace
 KEPT_RUNS = 10
+MOST_SECONDS = 10**9
 LISTEN = "127.0.0.1:8080"
 
 
@@ -28,6 +29,14 @@ def do(options: Options) -> int:
     from .commands import COMMANDS
 
     return COMMANDS[options.command](options)
+
+
+def seconds_of(text: str) -> float:
+    """A time that the system's clock takes; 0 is none."""
+    seconds = float(text)
+    if not 0 <= seconds <= MOST_SECONDS:
+        raise ValueError("not a number of seconds from 0 to %d" % MOST_SECONDS)
+    return seconds
 
 
 def add_run_options(parser: argparse.ArgumentParser) -> None:
@@ -41,7 +50,12 @@ def add_run_options(parser: argparse.ArgumentParser) -> None:
     names = "a file that names files, a name a line or ended by a zero byte"
     add("--files", action="append", default=[], metavar="LIST", help=names)
     add("--all", action="store_true", help="reads all files, and not only new and changed ones")
-    add("--timeout", type=float, metavar="SECONDS", help="the longest time that all that is done over a file may take")
+    add(
+        "--timeout",
+        type=seconds_of,
+        metavar="SECONDS",
+        help="the longest time that all that is done over a file may take",
+    )
     digest = "keeps the SHA-256 of each whole file, and compares it with the one that an earlier run kept"
     add("--digest", action="store_true", help=digest)
     add_program_options(parser)

@@ -330,6 +330,9 @@ def small_mistakes(trial: Trial) -> None:
         trial.judge(is_right, "job " + number, done.stderr)
     done = trial.run("d", "plan", trial.path("missing"))
     trial.judge(done.returncode == 3, "a folder that is missing", done.stderr)
+    for seconds in ("inf", "nan", "-1", "1e10", "x"):
+        done = trial.run("e", "run", "--timeout=" + seconds, trial.path("archives"))
+        trial.judge(done.returncode == 2, "a time of %s seconds" % seconds, done.stderr[-300:])
 
 
 # Runs that don't end or can't go on
