@@ -24,10 +24,12 @@ const PLAIN_IN = {
   ')': /[^)\\"'( \x00-\x1f\x7f]+/y
 };
 
-// Functions whose texts name resources.
+// Functions whose texts name resources, and what may be called within those: what gives no text that names one.
 const ADDRESSES = new Set(['url', 'src']);
 const CHOICES = new Set(['image-set', '-webkit-image-set', 'image', 'cross-fade', '-webkit-cross-fade']);
-const FILLED_LATER = new Set(['var', 'attr', 'env']);
+const KNOWN_IN_CHOICES = new RegExp(
+    '^(?:type|calc|min|max|clamp|rgba?|hsla?|hwb|(?:ok)?(?:lab|lch)|color(?:-mix)?|' +
+    '(?:-webkit-)?(?:repeating-)?(?:linear|radial|conic)-gradient)$');
 const CLOSERS = {
   '(': ')',
   '[': ']',
@@ -212,10 +214,11 @@ class StyleWriter {
 
   /** @param {string} value */
   called(value) {
-    const name = value.toLowerCase(), isLater = CHOICES.has(this.within()) && FILLED_LATER.has(name);
+    const name = value.toLowerCase(), isInner = CHOICES.has(this.within());
     this.open.push({closer: ')', name});
-    if (isLater) return 'none(';  // what it gives isn't known here
-    return ADDRESSES.has(name) ? 'url(' : `${writtenName(value)}(`;
+    if (ADDRESSES.has(name)) return 'url(';
+    if (isInner && !CHOICES.has(name) && !KNOWN_IN_CHOICES.test(name)) return 'none(';  // it may give an address
+    return `${writtenName(value)}(`;
   }
 
   /** @param {string} value */

@@ -12,8 +12,9 @@ content="0;url={HOST}/refreshed">
 <meta http-equiv="Content-Security-Policy" content="default-src *"><link rel="preload" as="image" \
 href="{HOST}/preload"><link rel="dns-prefetch" href="//evil.example">
 <link rel="stylesheet" href="{HOST}/style.css"><style>@import "{HOST}/import.css"; body {{ background: \
-url({HOST}/background.png) }} @font-face {{ font-family: x; src: url({HOST}/font.woff) }} p {{ font-family: x \
-}}</style>
+url({HOST}/background.png) }} @function --f() {{ result: "{HOST}/function" }} p {{ mask: image-set(--f() 1x); \
+list-style: image-set(if(else: "{HOST}/if") 1x) }} @font-face {{ font-family: x; \
+src: url({HOST}/font.woff) }} p {{ font-family: x }}</style>
 {SCRIPT}<script src="{HOST}/script.js"></script></head>
 <body onload="window.top.hacked=2" background="{HOST}/body.png"><p style="background-image:url('{HOST}/style.png')">\
 text</p>
