@@ -5,8 +5,12 @@
 /** @typedef {{kind: string, value: string}} Token */
 
 /**
- * What a style names is given to a host, which says what to write in its place.
- * @typedef {{url: (reference: string) => string, sheet: (reference: string, media: string) => string}} StyleHost
+ * What a style names is given to a host, which says what to write in its place. It is told where a style is cut.
+ * @typedef {{
+ *   url: (reference: string) => string,
+ *   sheet: (reference: string, media: string) => string,
+ *   cut: () => void
+ * }} StyleHost
  */
 
 const ESCAPE = String.raw`\\(?:[0-9a-fA-F]{1,6}[ \t\n]?|[^\n0-9a-fA-F])`;
@@ -30,6 +34,9 @@ const CHOICES = new Set(['image-set', '-webkit-image-set', 'image', 'cross-fade'
 const KNOWN_IN_CHOICES = new RegExp(
     '^(?:type|calc|min|max|clamp|rgba?|hsla?|hwb|(?:ok)?(?:lab|lch)|color(?:-mix)?|' +
     '(?:-webkit-)?(?:repeating-)?(?:linear|radial|conic)-gradient)$');
+const NOT_OF_MEDIA = /^(?:url|src|layer|supports)$/i;
+const LAYER = /(?<![\w-])layer(?![\w-])/gi;
+const MOST_NESTED = 100;  // brackets in brackets: far deeper ones end the browser
 const CLOSERS = {
   '(': ')',
   '[': ']',
@@ -57,6 +64,15 @@ const writtenName = (name) => {
 
 /** @param {string} text */
 const writtenText = (text) => `"${text.replace(/["\\\x00-\x1f\x7f]/g, escaped)}"`;
+
+/**
+ * A token of an import as it counts in its media: without comments, and without its layer.
+ * @type {(token: Token, isOuter: boolean) => Token}
+ */
+function plainer({kind, value}, isOuter) {
+  if (kind === 'comment') return {kind: 'space', value: ' '};
+  return {kind, value: isOuter && kind === 'plain' ? value.replace(LAYER, '') : value};
+}
 
 // The tokens of a style, one after another.
 class StyleReader {
@@ -179,9 +195,27 @@ class StyleWriter {
     this.hasRules = false;  // an import counts before the first rule alone
   }
 
+  // The whole style, or what comes before brackets that nest too deep.
   whole() {
-    for (let token = this.reader.next(); token; token = this.reader.next()) this.out.push(this.written(token));
-    return this.out.join('') + this.open.reverse().map((it) => it.closer).join('');
+    for (let token = this.reader.next(); token && this.add(token); token = this.reader.next()) {
+    }
+    return this.text();
+  }
+
+  /**
+   * Adds a token. Returns whether more may follow.
+   * @param {Token} token
+   */
+  add(token) {
+    this.out.push(this.written(token));
+    const isShallow = this.open.length <= MOST_NESTED;
+    if (!isShallow) this.host.cut();
+    return isShallow;
+  }
+
+  // What was added, with all brackets closed.
+  text() {
+    return this.out.join('') + this.open.map((it) => it.closer).reverse().join('');
   }
 
   /** @param {Token} token */
@@ -190,12 +224,12 @@ class StyleWriter {
       case 'plain': return value;
       case 'space': return ' ';
       case 'comment': return '/**/';
-      case 'text': return this.text(value);
+      case 'text': return this.quoted(value);
       case 'bad': return '"\n';
       case 'address': return `url(${writtenText(this.host.url(value))})`;
       case 'name': return writtenName(value);
       case '#': return `#${writtenName(value)}`;
-      case '@': return value.toLowerCase() === 'import' ? this.imported() : `@${writtenName(value)}`;
+      case '@': return this.ruled(value);
       case 'function': return this.called(value);
       default: return this.other(value);
     }
@@ -207,7 +241,7 @@ class StyleWriter {
   }
 
   /** @param {string} value */
-  text(value) {
+  quoted(value) {
     if (ADDRESSES.has(this.within())) return writtenText(this.host.url(value));
     return CHOICES.has(this.within()) ? `url(${writtenText(this.host.url(value))})` : writtenText(value);
   }
@@ -221,33 +255,71 @@ class StyleWriter {
     return `${writtenName(value)}(`;
   }
 
+  // A bracket that closes nothing makes what is around it invalid, and must close nothing where the style is put.
   /** @param {string} value */
   other(value) {
     const closer = CLOSERS[/** @type {keyof CLOSERS} */ (value)];
     if (closer) this.open.push({closer, name: value === '(' ? this.within() : ''});
     if (value === '{') this.hasRules = true;
     if (!/^[)\]}]$/.test(value)) return value;
-    if (this.open[this.open.length - 1]?.closer !== value) return '';
+    if (this.open[this.open.length - 1]?.closer !== value) return '`';
     this.open.pop();
     return value;
   }
 
-  // An import up to its end. Its layer and what it supports are left out.
-  imported() {
-    const rest = new StyleWriter('', {url: (reference) => reference, sheet: () => ''});
-    let reference = null, media = '', depth = 0;
-    for (let token = this.reader.next(); token; token = this.reader.next()) {
-      if (token.value === ';' && depth <= 0) break;
-      if (token.kind === 'function' || token.value === '(') depth += 1;
-      if (token.value === ')') depth -= 1;
-      if (reference === null && /text|address/.test(token.kind))
-        reference = token.value;
-      else if (reference !== null && !/^[{}]$/.test(token.value))
-        media += rest.written(token);
-    }
+  /** @param {string} value */
+  ruled(value) {
+    const name = value.toLowerCase();
+    if (name !== 'import' && name !== 'namespace') return `@${writtenName(value)}`;
+    const {reference, words} = this.prelude();
     if (reference === null || this.hasRules || this.open.length) return '';
-    media += rest.open.reverse().map((it) => it.closer).join('');
-    return this.host.sheet(reference, media.replace(/\/\*\*\/|layer(?:\([^)]*\))?|supports\([^)]*\)/gi, '').trim());
+    if (name === 'namespace') return `@namespace ${words} ${writtenText(reference)};`;  // a name, which is never loaded
+    return this.host.sheet(reference, words);
+  }
+
+  // What a rule says up to its end: a reference, and other words. Its layer and what it supports are left out. There is
+  // no reference where it has a block, or nests too deep.
+  prelude() {
+    const rest = new StyleWriter('', {url: (it) => it, sheet: () => '', cut: this.host.cut});
+    let reference = null;
+    for (let token = this.reader.next(); token; token = this.reader.next()) {
+      const {kind, value} = token, isOuter = !rest.open.length, mark = isOuter && kind === 'other' ? value : '';
+      if (mark === ';') break;
+      if (mark === '}' && this.open.length) {
+        this.reader.at -= 1;  // it ends what the rule is in
+        break;
+      }
+      if (mark === '{') this.skip('}');
+      if (mark === '{') return {reference: null, words: ''};
+      if (reference === null && /text|address/.test(kind))
+        reference = value;
+      else if (isOuter && kind === 'function' && NOT_OF_MEDIA.test(value)) {
+        const first = this.skip(')');
+        if (ADDRESSES.has(value.toLowerCase())) reference ??= first;
+      } else if (!rest.add(plainer(token, isOuter)))
+        return {reference: null, words: ''};
+    }
+    return {reference, words: rest.text().trim()};
+  }
+
+  /**
+   * Reads up to a bracket that closes one. Returns the first text before it.
+   * @param {string} closer
+   */
+  skip(closer) {
+    const open = [closer];
+    let first = null;
+    for (let token = null; open.length && (token = this.reader.next());) {
+      const {kind, value} = token;
+      if (kind === 'text') first ??= value;
+      if (kind === 'function') open.push(')');
+      if (kind !== 'other') continue;
+      if (value in CLOSERS)
+        open.push(CLOSERS[/** @type {keyof CLOSERS} */ (value)]);
+      else if (value === open[open.length - 1])
+        open.pop();
+    }
+    return first;
   }
 }
 
@@ -257,3 +329,17 @@ class StyleWriter {
  * @param {StyleHost} host
  */
 const rewritten = (css, host) => new StyleWriter(css, host).whole();
+
+/**
+ * Whether brackets nest too deep in a text that a browser may read as a style.
+ * @param {string} text
+ */
+function nestsDeep(text) {
+  if ((text.match(/[([{]/g)?.length ?? 0) <= MOST_NESTED) return false;
+  let isDeep = false;
+  const cut = () => {
+    isDeep = true;
+  };
+  rewritten(text, {url: (it) => it, sheet: () => '', cut});
+  return isDeep;
+}

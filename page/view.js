@@ -17,6 +17,7 @@ const MOST_OF_VIEW = {
   addresses: [32 * MEGABYTE, 'drawings (SVG) of over 32 MB in all'],
   decoded: [512 * MEGABYTE, 'pictures and styles of over 512 MB in all'],
   elements: [100000, 'what follows the first 100,000 elements'],
+  nested: [0, `what follows more than ${MOST_NESTED} brackets within each other in a style`],
   references: [10000, 'more than 10,000 references to pictures and styles'],
   styles: [8 * MEGABYTE, 'styles of over 8 MB in all'],
   text: [16 * MEGABYTE, 'what follows the first 16 MB of HTML'],
@@ -194,6 +195,7 @@ class Sheets {
   /** @param {Resources} resources */
   constructor(resources) {
     this.resources = resources;
+    this.budget = resources.budget;
     /** @type {Map<string, string>} */
     this.written = new Map();
     /** @type {Set<string>} */
@@ -207,7 +209,7 @@ class Sheets {
   text(uri) {
     const found = this.resources.get(uri), most = MOST_OF_VIEW.styles[0];
     if (!found) return '';
-    if (found.body.length > most) this.resources.budget.spent.add('styles');
+    if (found.body.length > most) this.budget.spent.add('styles');
     return textOf(found.body.subarray(0, most), found.type ?? '');
   }
 
@@ -221,29 +223,41 @@ class Sheets {
     const found = {sheets: [], others: []};
     const add = (/** @type {string[]} */ list, /** @type {string} */ reference) => {
       const uri = resolved(reference, base);
-      if (uri && !/^(?:data:|#)/i.test(reference) && this.resources.budget.take('references', 1)) list.push(uri);
+      if (uri && !/^(?:data:|#)/i.test(reference) && this.budget.take('references', 1)) list.push(uri);
       return '';
     };
-    rewritten(css, {url: (it) => add(found.others, it), sheet: (it) => add(found.sheets, it)});
+    rewritten(css, {url: (it) => add(found.others, it), sheet: (it) => add(found.sheets, it), cut: () => {}});
     return found;
   }
 
   /**
-   * A style in which each URI is an address of the bytes that it means, or of nothing. It is empty where it would be
-   * longer than what is left for styles.
+   * A style in which each URI is an address of the bytes that it means, or of nothing. What it imports and it are no
+   * longer than what is left: an import that would be is left out, and then the style is empty if it is longer itself.
    * @param {string} css
    * @param {string} base
    */
-  filled(css, base) {
-    const {budget} = this.resources, text = rewritten(css, {
-                                       url: (reference) => this.place(reference, base),
-                                       sheet: (reference, media) => {
-                                         const inner = this.whole(resolved(reference, base));
-                                         return media && inner ? `@media ${media}{${inner}}` : inner;
-                                       },
-                                     });
-    if (text.length <= budget.left.styles) return text;
-    budget.spent.add('styles');
+  filled(css, base, left = this.budget.left.styles) {
+    let rest = left;
+    const text = rewritten(css, {
+      url: (reference) => this.place(reference, base),
+      sheet: (reference, media) => {
+        const inner = this.fitting(this.whole(resolved(reference, base), rest), rest);
+        rest -= inner.length;
+        return media && inner ? `@media ${media}{${inner}}` : inner;
+      },
+      cut: () => this.budget.spent.add('nested'),
+    });
+    return this.fitting(text, left);
+  }
+
+  /**
+   * A text that isn't longer than what is left, or none.
+   * @param {string} text
+   * @param {number} left
+   */
+  fitting(text, left) {
+    if (text.length <= left) return text;
+    this.budget.spent.add('styles');
     return '';
   }
 
@@ -252,7 +266,7 @@ class Sheets {
    * @param {string} text
    */
   taken(text) {
-    return this.resources.budget.take('styles', text.length) ? text : '';
+    return this.budget.take('styles', text.length) ? text : '';
   }
 
   /**
@@ -269,12 +283,12 @@ class Sheets {
    * @param {string|null} uri
    * @returns {string}
    */
-  whole(uri) {
+  whole(uri, left = this.budget.left.styles) {
     if (!uri || this.open.has(uri)) return '';
     const before = this.written.get(uri);
     if (before !== undefined) return before;
     this.open.add(uri);
-    const text = this.filled(this.text(uri), uri);
+    const text = this.filled(this.text(uri), uri, left);
     this.open.delete(uri);
     this.written.set(uri, text);
     return text;
@@ -352,11 +366,7 @@ class Named {
   /** @param {Element} node */
   take(node) {
     const tag = tagOf(node).toLowerCase();
-    for (const name of attributesOf(node)) {
-      if (!STYLES.has(name)) continue;
-      this.styles.push({node, name, css: attributeOf(node, name)});
-      dropAttribute(node, name);
-    }
+    attributesOf(node).forEach((name) => this.takeAttribute(node, name));
     if (tag === 'link') this.takeSheet(node);
     if (tag === 'style') {
       this.styles.push({node, name: '', css: textIn(node)});
@@ -364,6 +374,18 @@ class Named {
     }
     if (PICTURES.has(tag)) this.takePicture(node);
     if (LINKS.has(tag)) this.takeLink(node);
+  }
+
+  /**
+   * Takes an attribute that is a style. Any other that nests too deep is taken away, as a browser may read it as one.
+   * @param {Element} node
+   * @param {string} name
+   */
+  takeAttribute(node, name) {
+    const value = attributeOf(node, name), isDeep = ATTRIBUTES.has(name.toLowerCase()) && nestsDeep(value);
+    if (STYLES.has(name)) this.styles.push({node, name, css: value});
+    if (isDeep) this.budget.spent.add('nested');
+    if (isDeep || STYLES.has(name)) dropAttribute(node, name);
   }
 
   /**

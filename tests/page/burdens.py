@@ -16,6 +16,18 @@ SLOWNESS = float(os.environ.get("PAGE_SLOWNESS", "1"))  # how many times longer 
 QUICK = 3.0 * SLOWNESS  # seconds in which a page must be shown
 MOST = 60.0 * SLOWNESS  # seconds that a test waits for one
 PICTURE = picture(1, 900, 760) + bytes(2_000_000)  # a PNG with 2 MB after its end
+DEEP = 30_000  # brackets that nest: the browser itself doesn't survive them
+NESTED = {
+    "rules": "a{" * DEEP,
+    "media": "@media screen{" * DEEP,
+    "conditions": f"@supports {'(not ' * DEEP}",
+    "selectors": ":is(" * DEEP,
+    "imports": f"@import 'x' {'(' * DEEP}",
+}
+NESTED_IN_PAGE = {
+    "nested-link": f"<link rel=stylesheet href=/p.png media='{'(not ' * DEEP}'>",
+    "nested-drawing": f"<svg><rect opacity='{'if(not(' * DEEP}' color='{'color-mix(in srgb,' * DEEP}' /></svg>",
+}
 SHOWN = """(() => {
   const page = document.querySelector('iframe.view')?.contentDocument;
   return document.getElementById('panel')?.dataset.ready === 'yes' && page?.readyState === 'complete' &&
@@ -75,6 +87,18 @@ def made() -> Site:
         "image/svg+xml",
     )
     site.add("big-drawings", last + "<img src=/big.svg width=9>" * 100)
+    site.add("long.css", "q{margin:1px}" * 600_000, "text/css")
+    site.add("imports", "<style>" + "@import '/long.css';" * 70 + "</style>" + last)
+    for number in range(40):
+        site.add(f"around-{number}.css", "@import '/long.css';q{}", "text/css")
+    around = "".join(f"@import '/around-{number}.css';" for number in range(40))
+    site.add("imports-in-imports", f"<style>{around}</style>" + last)
+    site.add("imports-in-attributes", "<p style=\"@import '/long.css'\">x</p>" * 5000 + last)
+    site.add("words-of-imports", "<style>@import 'x' " + "'supports(' " * 60_000 + ";</style>" + last)
+    for name, css in NESTED.items():
+        styled(site, f"nested-{name}", "p { color: rgb(1, 2, 3) }" + css)
+    for name, text in NESTED_IN_PAGE.items():
+        site.add(name, text + last)
     bomb = gzip.compress(bytes(60_000_000), 1)
     for number in range(20):
         site.add(f"bomb-{number}.png", bomb, "image/png", "Content-Encoding: gzip\r\n")
@@ -110,6 +134,11 @@ EXPECTED = {
     "loop-20": "",
     "doubles": "styles of over 8 MB",
     "styles": "styles of over 8 MB",
+    "imports": "styles of over 8 MB",
+    "imports-in-imports": "styles of over 8 MB",
+    "imports-in-attributes": "styles of over 8 MB",
+    "words-of-imports": "",
+    **{name: "100 brackets" for name in (*(f"nested-{it}" for it in NESTED), *NESTED_IN_PAGE)},
     "drawings": "",
     "big-drawings": "drawings (SVG) of over 32 MB",
     "bombs": "pictures and styles of over 512 MB",
@@ -135,7 +164,7 @@ def burdens(tests: Any, folder: str) -> None:
                 words,
             )
             print(f"burdens: {name} in {took:.2f} s", flush=True)
-            if name.startswith(("loop", "double")):
+            if name.startswith(("loop", "double")) or name in {f"nested-{it}" for it in NESTED}:
                 tests.holds(colour(browser) == "rgb(1, 2, 3)", f"burdens: {name} is styled", colour(browser))
         addresses(tests, browser, site)
     finally:
