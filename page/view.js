@@ -332,6 +332,15 @@ function unframe(page, base) {
   every(page, 'iframe').forEach((node) => replaceBy(node, linkForFrame(node, base)));
 }
 
+/**
+ * The first reference of a set of pictures. It may have commas in it, and none at its ends.
+ * @param {string} set
+ */
+const firstOfSet = (set) => /[^\s,](?:\S*[^\s,])?/.exec(set)?.[0] ?? '';
+
+/** @type {(node: Element, address: string) => void} */
+const setPicture = (node, address) => setAttribute(node, tagOf(node) === 'image' ? 'href' : 'src', address);
+
 // What a page names, taken out of it before it is cleaned, and put back as bytes afterwards.
 class Named {
   /**
@@ -404,13 +413,13 @@ class Named {
   /** @param {Element} node */
   takePicture(node) {
     if (tagOf(node) === 'input' && (attributeOf(node, 'type') ?? '').toLowerCase() !== 'image') return;
-    const first = attributeOf(node, 'srcset')?.trim().split(/[\s,]+/)[0];
-    const names = ['src', 'href', 'xlink:href'].map((name) => attributeOf(node, name));
-    const reference = (names[0] ?? first ?? names[1] ?? names[2] ?? '').trim();
-    if (!reference || /^data:/i.test(reference)) return;
+    const [href, src, linked] = [...NAMING].map((name) => attributeOf(node, name)?.trim());
+    const reference = src || firstOfSet(attributeOf(node, 'srcset') ?? '') || href || linked || '';
     NAMING.forEach((name) => dropAttribute(node, name));
-    const uri = this.budget.take('references', 1) ? resolved(reference, this.base) : null;
-    this.pictures.push({node, uri});
+    if (/^data:/i.test(reference))
+      setPicture(node, reference);
+    else if (reference)
+      this.pictures.push({node, uri: this.budget.take('references', 1) ? resolved(reference, this.base) : null});
   }
 
   /** @param {Element} node */
@@ -451,9 +460,8 @@ class Named {
       else
         node.textContent = style;
     }
-    for (const {node, uri} of this.pictures.filter(isKept)) {
-      setAttribute(node, tagOf(node) === 'image' ? 'href' : 'src', this.sheets.resources.address(uri) ?? MISSING);
-    }
+    for (const {node, uri} of this.pictures.filter(isKept))
+      setPicture(node, this.sheets.resources.address(uri) ?? MISSING);
     this.links.forEach(({node, target}, number) => {
       setAttribute(node, 'href', `about:srcdoc#${number}`);  // it looks like a link; the page handles the click
       setAttribute(node, 'title', target.uri);
