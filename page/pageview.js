@@ -24,6 +24,18 @@ const ABOUT_VIEWS =
     'Scripts and network are off, links lead to what is in the archive, and what isn’t there is missing. ' +
     'The bytes on disk and in the download are never changed.';
 
+/**
+ * A place on a page by its name: an element with this id, or a link that was named so before there were ids.
+ * @param {Document} page
+ * @param {string} name
+ * @returns {Element|undefined|null}
+ */
+function placeIn(page, name) {
+  const place = Document.prototype.getElementById.call(page, name) ??
+      every(rootOf(page), 'a[name]').find((it) => attributeOf(it, 'name') === name);
+  return place ?? (name.toLowerCase() === TOP_OF_PAGE ? rootOf(page) : null);
+}
+
 // A page as a view, with what is said of it.
 class PageView {
   /**
@@ -104,7 +116,8 @@ class PageView {
     const target = targets[Number(/^about:srcdoc#(\d+)$/.exec(attributeOf(link, 'href'))?.[1])];
     if (!target) return;
     if (target.place && target.uri === resolved(this.uri, this.uri)) {
-      Document.prototype.getElementById.call(ownerOf(link), nameOf(target.place))?.scrollIntoView();
+      const place = placeIn(ownerOf(link), nameOf(target.place));
+      if (place) Element.prototype.scrollIntoView.call(place);
     } else if (this.host.has(target.uri))
       this.host.lead(target.uri, moment);
     else

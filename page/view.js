@@ -8,6 +8,7 @@ const EMPTY_VIEW =
 const MOST_ROUNDS = 6;  // styles that name styles that name styles
 const AT_ONCE = 16;     // URIs that the library is asked for together
 const NOTHING = 'data:,';
+const TOP_OF_PAGE = 'top';  // the name of a place that each page has
 
 /**
  * What one view may take, and what tells a reader that there was more.
@@ -80,8 +81,8 @@ function resolved(reference, base) {
  * @param {string} base
  */
 function targetOf(reference, base) {
-  const uri = resolved(reference, base);
-  return uri && {uri, place: new URL(reference.trim(), base).hash.slice(1)};
+  const uri = resolved(reference, base), top = reference.trim().endsWith('#') ? TOP_OF_PAGE : '';
+  return uri && {uri, place: new URL(reference.trim(), base).hash.slice(1) || top};
 }
 
 /**
