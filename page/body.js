@@ -253,7 +253,7 @@ const ARCHIVE = {
  * @param {Node} saved
  */
 async function htmlView(it, bytes, saved) {
-  const view = new PageView(ARCHIVE, textOf(bytes, it.type), shown(it.row.target), moments(it));
+  const view = new PageView(ARCHIVE, textOf(bytes, it.type), shown(it.row.target), moments(it), it.visit);
   await view.draw();
   return view.nodes(saved);
 }

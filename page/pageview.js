@@ -43,12 +43,13 @@ class PageView {
    * @param {string} html
    * @param {string} uri
    * @param {[string, string][]} choices moments, with a name for each
+   * @param {number} visit for which it was asked
    */
-  constructor(host, html, uri, choices) {
+  constructor(host, html, uri, choices, visit) {
     this.host = host;
     this.html = html;
     this.uri = uri;
-    this.visit = host.visit();
+    this.visit = visit;
     this.turn = 0;  // how often it was drawn
     this.place = make('div');
     this.summary = make('div', {'aria-live': 'polite', className: 'small'});

@@ -142,7 +142,7 @@ async function openRecord(position, {focus = null, note = null, isBack = false} 
     waiting.replaceChildren(make('p', {className: 'note reason'}, whyOf(error)));
     return null;
   });
-  if (own && visit === room.visit) fillPanel(subjectOf(row, own, note), focus, visit);
+  if (own && visit === room.visit) fillPanel(subjectOf(row, own, note, visit), focus);
 }
 
 /**
@@ -150,11 +150,12 @@ async function openRecord(position, {focus = null, note = null, isBack = false} 
  * @param {Row} row
  * @param {StoredType} own
  * @param {string|null} note
+ * @param {number} visit
  * @returns {Subject}
  */
-function subjectOf(row, own, note) {
-  const it =
-      {position: row.position, row, own, given: row, type: own.type, http: own.http, note, answered: Promise.resolve()};
+function subjectOf(row, own, note, visit) {
+  const {type, http} = own, answered = Promise.resolve();
+  const it = {position: row.position, row, own, given: row, type, http, note, visit, answered};
   if (isCapture(row) && room.holds) it.answered = completed(it);
   it.answered.catch(() => {});  // the tab that waits for it says so
   return it;
@@ -163,11 +164,10 @@ function subjectOf(row, own, note) {
 /**
  * @param {Subject} it
  * @param {string|null} focus
- * @param {number} visit
  */
-function fillPanel(it, focus, visit) {
+function fillPanel(it, focus) {
   const panel = byId('record'), points = isCapture(it.row) && it.row.target.length ? timeline(it) : '';
-  panel.replaceChildren(titleOf(it.row), points, ...tabList(isCapture(it.row) ? CAPTURE_TABS : OTHER_TABS, it, visit));
+  panel.replaceChildren(titleOf(it.row), points, ...tabList(isCapture(it.row) ? CAPTURE_TABS : OTHER_TABS, it));
   if (focus) (panel.querySelector(focus) ?? panel).focus({preventScroll: true});
 }
 
@@ -283,12 +283,10 @@ class Tabs {
   /**
    * @param {[string, Tab][]} tabs
    * @param {Subject} it
-   * @param {number} visit
    */
-  constructor(tabs, it, visit) {
+  constructor(tabs, it) {
     this.tabs = tabs;
     this.it = it;
-    this.visit = visit;
     this.turn = 0;
     this.panel =
         make('div', {className: 'panel', role: 'tabpanel', id: 'panel', tabIndex: 0, 'aria-labelledby': 'tab-0'});
@@ -314,7 +312,7 @@ class Tabs {
         make('p', {className: 'small'}, room.isOpen ? 'Asking the archive…' : 'Opening the archive…'));
     room.tab = name;
     const content = await this.content(tab);
-    if (this.visit !== room.visit || turn !== this.turn) return;
+    if (this.it.visit !== room.visit || turn !== this.turn) return;
     this.panel.replaceChildren(...content.filter((node) => node));
     this.panel.dataset.ready = 'yes';
   }
@@ -347,10 +345,9 @@ class Tabs {
 /**
  * @param {[string, Tab][]} tabs
  * @param {Subject} it
- * @param {number} visit
  */
-function tabList(tabs, it, visit) {
-  const list = new Tabs(tabs, it, visit), label = 'What is shown of the record';
+function tabList(tabs, it) {
+  const list = new Tabs(tabs, it), label = 'What is shown of the record';
   list.choose(Math.max(0, tabs.findIndex(([name]) => name === room.tab)));
   return [make('div', {className: 'tabs', role: 'tablist', 'aria-label': label}, ...list.buttons), list.panel];
 }
@@ -450,8 +447,13 @@ async function openAsOf(uri, date, isFocused, isBack = false) {
     say(notReplayed());
     return;
   }
-  const {rows} = room, [answer] = await room.library.ask([{uri, date}]);
-  if (rows !== room.rows) return;  // another file was opened meanwhile
+  const {rows, visit} = room, asked = room.asked += 1;
+  const isWanted = () => rows === room.rows && visit === room.visit && asked === room.asked;
+  const answers = await room.library.ask([{uri, date}]).catch((error) => {
+    if (isWanted()) say(`There is no answer: ${plainly(whyOf(error))}.`);
+  });
+  if (!answers || !isWanted()) return;  // something else was opened, or asked, meanwhile
+  const [answer] = answers;
   if (answer.chosen !== null && answer.chosen !== undefined) {
     const note = `As of ${plainly(date)}, the archive chooses this capture of the URI.`;
     await openRecord(answer.chosen, {focus: isFocused ? WHOLE : null, isBack, note});

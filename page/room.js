@@ -14,6 +14,7 @@ const room = {
   filters: new Map(),
   sort: {by: 'position', up: true},
   visit: 0,
+  asked: 0,
   urls: [],
   tab: '',
 };

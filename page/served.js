@@ -249,8 +249,9 @@ function factsOf(it) {
  * @param {Uint8Array} uri
  * @param {ServedAnswer} it
  * @param {ServedCapture[]} list
+ * @param {number} visit
  */
-async function bodyView(uri, it, list) {
+async function bodyView(uri, it, list, visit) {
   const {body} = it, media = mediaOf(it.type.replace(/^application\/octet-stream$/, ''), body, shown(uri));
   const name = shown(uri).split(/[?#]/)[0].split('/').pop() || 'page.html';
   const saved = make(
@@ -265,7 +266,7 @@ async function bodyView(uri, it, list) {
   if (isHtml(media)) {
     const next = list.find((other) => other.instant > it.instant), at = dateOf(it.instant);
     const moments = momentsFrom(at, next && Date.parse(next.datetime));
-    const view = new PageView(COLLECTION, textOf(body, it.type), shown(uri), moments);
+    const view = new PageView(COLLECTION, textOf(body, it.type), shown(uri), moments, visit);
     await view.draw();
     return view.nodes(saved);
   }
@@ -277,11 +278,12 @@ async function bodyView(uri, it, list) {
  * @param {Uint8Array} uri
  * @param {ServedAnswer} it
  * @param {ServedCapture[]} list
+ * @param {number} visit
  */
-async function contentOf(uri, it, list) {
+async function contentOf(uri, it, list, visit) {
   try {
     await undoContent(it, MOST_DECODED);
-    return await bodyView(uri, it, list);
+    return visit === served.visit ? await bodyView(uri, it, list, visit) : [];  // or it would end another's addresses
   } catch (error) {
     return [note(`It can’t be shown here: ${plainly(whyOf(error))}.`)];
   }
@@ -314,7 +316,7 @@ async function showPage(uri, digits) {
   const [it, list] = await Promise.all([answerOf(uri, digits), capturesAt(uri)]);
   const title = make('header', {}, make('h2', {}, make('bdi', {}, seen(uri))), it.stored ? factsOf(it) : '');
   const points = list.length ? pointsOf(uri, list, it.instant ?? '') : '';
-  const content = it.stored ? await contentOf(uri, it, list) : [noAnswer(it)];
+  const content = it.stored ? await contentOf(uri, it, list, visit) : [noAnswer(it)];
   if (visit !== served.visit) return;
   show(title, points, make('div', {className: 'panel'}, redirectOf(uri, it), ...content));
   document.title = `${seen(uri)} – Zogwedu reading room`;

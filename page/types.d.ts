@@ -144,6 +144,7 @@ interface Subject {
   type: string;
   http: HttpHead | null;
   note: string | null;
+  visit: number;
   answered: Promise<void>;
   answer?: Answer | null;
 }
@@ -188,6 +189,7 @@ interface Room extends RoomOfFile {
   filters: Map<string, { value: any; label: string; end?: number }>;
   sort: { by: string; up: boolean };
   visit: number;
+  asked: number; // how often a URI as of a date
   urls: string[];
   tab: string;
 }

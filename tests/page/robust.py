@@ -9,11 +9,18 @@ from typing import Any
 import leaks
 from burdens import SITE, Site, show
 from hostile import record
+from stations import picture
 from variant import variant
 
 TITLE = "document.querySelector('#record h2')?.textContent"
 PANEL = "document.getElementById('panel')?.innerText ?? ''"
 FRAME = "document.querySelector('iframe.view').contentDocument"
+# Asks as the page does, but answers for a record, or for a URI, only after `go`.
+WAITING = """async function (questions) {
+  const answers = await Library.prototype.ask.call(this, questions);
+  if (questions[0].position === %d || questions[0].date === '9999') await new Promise((done) => { window.go = done; });
+  return answers;
+}"""
 KINDS = 130_000
 TURNED = "gnp\u202eexe.\u200b"
 
@@ -139,6 +146,44 @@ def late_answer(tests: Any, folder: str) -> None:
         browser.close()
 
 
+def late_view(tests: Any, folder: str) -> None:
+    """A page is opened while another waits for its answer: the one that comes late takes no addresses from it, and
+    isn't shown. A question that fails says so."""
+    site = Site()
+    for name in ("first", "second"):
+        site.add(f"{name}.png", picture(3), "image/png")
+        site.add(name, f"<img src=/{name}.png><p id=last>x")
+    browser, first, second = (
+        tests.opened(site.save(f"{folder}/late.warc")),
+        site.positions["first"],
+        site.positions["second"],
+    )
+    try:
+        show(browser, second)
+        browser.run(f"room.library.ask = {WAITING % first}; openRecord({first}); 0")
+        browser.until("document.querySelector('[role=tab]') !== null && room.current === %d" % first, 10)
+        show(browser, second)
+        browser.run(f"window.go(); 0")
+        time.sleep(1)
+        seen = browser.run(f"room.urls.includes({FRAME}.images[0].src)")
+        tests.holds(seen, "late view: the pictures of the one that is shown stay")
+        browser.run(f"room.library.ask = {WAITING % first}; openAsOf(typed('{SITE}/first'), '9999', true); 0")
+        show(browser, second)
+        browser.run("window.go(); 0")
+        time.sleep(1)
+        tests.holds(
+            browser.run(TITLE) == f"{SITE}/second", "late view: an answer doesn't replace what was opened since"
+        )
+        browser.run("room.library.ask = () => Promise.reject(new Error('it stopped')); 0")
+        browser.run(f"openAsOf(typed('{SITE}/first'), '9998', true); 0")
+        browser.until("document.getElementById('status').textContent.includes('it stopped')", 5)
+        tests.holds(True, "late view: a question that fails says so")
+    except RuntimeError as error:
+        tests.holds(False, "late view", error)
+    finally:
+        browser.close()
+
+
 def dying_worker(tests: Any, folder: str) -> None:
     """The worker dies at a question: the page says so, and a file can be opened again in a new one."""
     asked = "const answers = await archive.ask(questions);"
@@ -238,7 +283,7 @@ def seen_by_use(tests: Any, folder: str) -> None:
 
 def robust(tests: Any, folder: str) -> None:
     """All of them."""
-    for part in (clobbered, many_kinds, dying_helpers, another_file, late_answer):
+    for part in (clobbered, many_kinds, dying_helpers, another_file, late_answer, late_view):
         part(tests, folder)
     for part in (dying_worker, changed_file, seen_by_use):
         part(tests, folder)
