@@ -3,7 +3,7 @@
 
 const MOST_DECODED = 256 * MEGABYTE;  // bytes of one body
 const MOST_OF_HTTP_HEAD = 65536;      // bytes
-const MOST_OF_META = 2048;            // bytes in which a page names its charset
+const MOST_OF_META = 16384;           // bytes in which a page names its charset
 const MOST_CODINGS = 8;               // of one body
 const GIVEN_AT_ONCE = MEGABYTE;       // bytes of a gzip body that has several members
 const MEDIA_TYPE = /^[a-z0-9.+-]+\/[a-z0-9.+-]+$/;
@@ -16,19 +16,20 @@ const MEDIA_TYPE = /^[a-z0-9.+-]+\/[a-z0-9.+-]+$/;
 const fieldIn = (line) => [line.slice(0, line.indexOf(':')).trim(), line.slice(line.indexOf(':') + 1).trim()];
 
 /**
- * The fields of a head of HTTP, and where the body begins; null if there is no head.
+ * The fields of a head of HTTP, and where the body begins; null if there is no head. Empty lines may come before it.
  * @param {Uint8Array} block
  * @returns {HttpHead|null}
  */
 function httpHead(block) {
-  const front = latin.decode(block.subarray(0, MOST_OF_HTTP_HEAD)), found = /\r?\n\r?\n/.exec(front);
-  if (!found || !/^\s*HTTP\/1\.[01] \d{3}/.test(front)) return null;
-  const start = found.index + found[0].length;
-  const [status, ...lines] = front.slice(0, found.index).split(/\r?\n/).filter((line) => line);
+  const front = latin.decode(block.subarray(0, MOST_OF_HTTP_HEAD)), [empty] = /^(?:\r?\n)*/.exec(front);
+  const head = front.slice(empty.length), found = /\r?\n\r?\n/.exec(head);
+  if (!found || !/^HTTP\/1\.[01] \d{3}/.test(head)) return null;
+  const end = found.index + found[0].length;
+  const [status, ...lines] = head.slice(0, found.index).split(/\r?\n/);
   const fields = lines.map(fieldIn);
   const get = (/** @type {string} */ name) =>
       fields.filter((field) => field[0].toLowerCase() === name).map((field) => field[1]).join(', ');
-  return {text: front.slice(0, start), status, fields, start, get};
+  return {text: head.slice(0, end), status, fields, start: empty.length + end, get};
 }
 
 /**
@@ -218,20 +219,60 @@ const isHtml = (media) => media === 'text/html' || media === 'application/xhtml+
 /** @param {string} media */
 const isText = (media) => TEXT_TYPE.test(media);
 
+const UNREAD = /<!--[\s\S]*?(?:-->|$)|<(script|style|title|textarea)\b[\s\S]*?(?:<\/\1|$)/gi;  // no element is in it
+const IN_META = /<meta[^>]*?[\s;"'/]charset\s*=\s*["']?\s*([^\s"';>]+)/i;
+const IN_DECLARATION = /^\s*<\?xml[^>]*?\sencoding\s*=\s*["']([^"'>]+)/i;
+const IN_SHEET = /^@charset "([^"]*)";/;
+
 /**
- * A body as text, by the charset of its type or of its own beginning.
+ * How a charset is decoded, by its label; null for one that browsers don't know.
+ * @param {string|undefined} label
+ */
+function decoderOf(label) {
+  try {
+    return label === undefined ? null : new TextDecoder(label);
+  } catch {
+    return null;
+  }
+}
+
+/**
+ * How a body is decoded by the charset that its own beginning names. It can name it in ASCII alone, so it isn't UTF-16.
+ * @param {string} front
+ * @param {string} media
+ */
+function decoderIn(front, media) {
+  const isPage = isHtml(media), [, named] = isPage && IN_META.exec(front.replace(UNREAD, '')) || [];
+  const [, declared] = isPage || media.endsWith('xml') ? IN_DECLARATION.exec(front) ?? [] : [];
+  const [, ofSheet] = media === 'text/css' ? IN_SHEET.exec(front) ?? [] : [];
+  const found = decoderOf(named) ?? decoderOf(declared) ?? decoderOf(ofSheet);
+  return found?.encoding.startsWith('utf-16') ? new TextDecoder() : found;
+}
+
+/**
+ * How a body is decoded by the mark at its beginning, which goes before all that names a charset.
+ * @param {Uint8Array} body
+ */
+function decoderByMark(body) {
+  if (body[0] === 0xef && body[1] === 0xbb && body[2] === 0xbf) return new TextDecoder();
+  if (body[0] === 0xfe && body[1] === 0xff) return new TextDecoder('utf-16be');
+  return body[0] === 0xff && body[1] === 0xfe ? new TextDecoder('utf-16le') : null;
+}
+
+/**
+ * A body as text, as browsers choose its charset: by its mark, by its type, or by its own beginning. If none of them
+ * names one that is known, it is UTF-8 if all of it is.
  * @param {Uint8Array} body
  * @param {string} type
  */
 function textOf(body, type) {
-  const front = latin.decode(body.subarray(0, MOST_OF_META));
-  const stated = /charset\s*=\s*["']?([\w-]+)/i.exec(type) ?? /<meta[^>]+charset\s*=\s*["']?([\w-]+)/i.exec(front);
-  for (const charset of stated ? [stated[1], 'utf-8'] : ['utf-8']) {
-    try {
-      return new TextDecoder(charset, {fatal: !stated}).decode(body);
-    } catch {
-      // The next one.
-    }
+  const front = latin.decode(body.subarray(0, MOST_OF_META)), media = mediaOf(type, body, '');
+  const [, stated] = /[;\s]charset\s*=\s*["']?\s*([^\s"';]+)/i.exec(type) ?? [];
+  const decoder = decoderByMark(body) ?? decoderOf(stated) ?? decoderIn(front, media);
+  if (decoder) return decoder.decode(body);
+  try {
+    return new TextDecoder('utf-8', {fatal: true}).decode(body);
+  } catch {
+    return new TextDecoder('windows-1252').decode(body);
   }
-  return new TextDecoder('windows-1252').decode(body);
 }
