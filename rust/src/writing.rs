@@ -7,6 +7,7 @@ use std::fs::{self, File, OpenOptions};
 use std::io::{self, Read, Seek, Write};
 use std::os::fd::AsRawFd;
 use std::os::raw::c_int;
+use std::os::unix::fs::OpenOptionsExt;
 
 /// How many bytes are copied at a time.
 const PIECE: usize = 1 << 16;
@@ -201,13 +202,13 @@ fn put(piece: &[u8], out: &mut impl Write, sent: &mut u64) -> io::Result<()> {
     Ok(())
 }
 
-/// A new file in the folder for temporary files, whose name is removed at once.
+/// A new file in the folder for temporary files, whose name is removed at once. Until then nobody else may open it.
 fn unnamed_file() -> io::Result<File> {
     let folder = std::env::temp_dir();
     let process = std::process::id();
     for number in 0..1000 {
         let path = folder.join(format!("zogwedu-{process}-{number}-{:?}", std::thread::current().id()));
-        match OpenOptions::new().read(true).write(true).create_new(true).open(&path) {
+        match OpenOptions::new().read(true).write(true).create_new(true).mode(0o600).open(&path) {
             Ok(file) => {
                 fs::remove_file(&path)?;
                 return Ok(file);

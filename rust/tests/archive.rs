@@ -1,5 +1,7 @@
 //! What the crate gives of the examples.
+use std::fs;
 use std::io::{self, Write};
+use std::os::unix::fs::PermissionsExt;
 use zogwedu::{Archive, Draft, ErrorKind, PayloadVerdict, Unjudged, Verdict};
 
 const CRAWL: &[u8] = include_bytes!("../../examples/crawl.warc");
@@ -256,6 +258,34 @@ fn selects_records() {
     let error = zogwedu::select(DAMAGED, &[0], &mut none).unwrap_err();
     assert_eq!(error.library_error().unwrap().kind(), ErrorKind::Refused);
     assert_eq!(none.len(), CRAWL.len());
+}
+
+/// Remembers who may open the files without a name that bytes come from.
+struct Modes(Vec<u32>);
+
+impl Write for Modes {
+    fn write(&mut self, piece: &[u8]) -> io::Result<usize> {
+        for descriptor in fs::read_dir("/proc/self/fd")? {
+            let path = descriptor?.path();
+            let name = fs::read_link(&path).unwrap_or_default();
+            let facts = fs::metadata(path).ok().filter(|_| name.to_string_lossy().contains("/zogwedu-"));
+            self.0.extend(facts.map(|facts| facts.permissions().mode() & 0o777));
+        }
+        Ok(piece.len())
+    }
+
+    fn flush(&mut self) -> io::Result<()> {
+        Ok(())
+    }
+}
+
+#[test]
+fn no_other_user_may_open_what_is_written() {
+    let (date, uuid) = ("2020-01-01", "00000000-0000-4000-8000-000000000001");
+    let draft = Draft { kind: "resource", uri: b"a:b", date, uuid, media_type: "text/plain", block: b"x" };
+    let mut modes = Modes(Vec::new());
+    zogwedu::make(&draft, &mut modes).unwrap();
+    assert!(!modes.0.is_empty() && modes.0.iter().all(|mode| *mode == 0o600), "{:?}", modes.0);
 }
 
 #[test]
