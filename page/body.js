@@ -146,7 +146,7 @@ async function pageTab(it) {
   const saved = make('div', {className: 'actions'}, savingBody(it, found), facts);
   if (isPicture(media)) return [...words, saved, picture(bytes, media)];
   if (isHtml(media)) return [...words, ...(await htmlView(it, bytes, saved))];
-  if (isText(media)) return [...words, saved, textView(textOf(bytes, it.type))];
+  if (isText(media)) return [...words, saved, textView(textOf(bytes, it.type, MOST_TEXT))];
   const unknown = `The reading room doesn’t show ${media}. Save the bytes, and open them in another program.`;
   const first = make('details', {}, make('summary', {}, 'The first bytes'), hexView(bytes));
   return [...words, saved, make('p', {}, unknown), first];
@@ -156,7 +156,7 @@ async function pageTab(it) {
 async function sourceTab(it) {
   const found = await bodyOf(it), words = [...wordsBefore(it), ...found.words], {bytes} = found;
   if (!bytes) return [...words, ...storedBytes(it, found.stored)];
-  const view = isText(mediaOf(it.type, bytes, '')) ? textView(textOf(bytes, it.type)) : hexView(bytes);
+  const view = isText(mediaOf(it.type, bytes, '')) ? textView(textOf(bytes, it.type, MOST_TEXT)) : hexView(bytes);
   return [...words, view, make('div', {className: 'actions'}, savingBody(it, found))];
 }
 
@@ -253,7 +253,7 @@ const ARCHIVE = {
  * @param {Node} saved
  */
 async function htmlView(it, bytes, saved) {
-  const view = new PageView(ARCHIVE, textOf(bytes, it.type), shown(it.row.target), moments(it), it.visit);
+  const view = new PageView(ARCHIVE, htmlOf(bytes, it.type), shown(it.row.target), moments(it), it.visit);
   await view.draw();
   return view.nodes(saved);
 }

@@ -266,11 +266,11 @@ async function bodyView(uri, it, list, visit) {
   if (isHtml(media)) {
     const next = list.find((other) => other.instant > it.instant), at = dateOf(it.instant);
     const moments = momentsFrom(at, next && Date.parse(next.datetime));
-    const view = new PageView(COLLECTION, textOf(body, it.type), shown(uri), moments, visit);
+    const view = new PageView(COLLECTION, htmlOf(body, it.type), shown(uri), moments, visit);
     await view.draw();
     return view.nodes(saved);
   }
-  return isText(media) ? [saved, textView(textOf(body, it.type))] : [saved, hexView(body)];
+  return isText(media) ? [saved, textView(textOf(body, it.type, MOST_TEXT))] : [saved, hexView(body)];
 }
 
 /**

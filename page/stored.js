@@ -4,6 +4,7 @@
 const MOST_DECODED = 256 * MEGABYTE;  // bytes of one body
 const MOST_OF_HTTP_HEAD = 65536;      // bytes
 const MOST_OF_META = 16384;           // bytes in which a page names its charset
+const MOST_OF_CHARACTER = 5;          // bytes: no charset has more for one
 const MOST_CODINGS = 8;               // of one body
 const GIVEN_AT_ONCE = MEGABYTE;       // bytes of a gzip body that has several members
 const MEDIA_TYPE = /^[a-z0-9.+-]+\/[a-z0-9.+-]+$/;
@@ -260,19 +261,21 @@ function decoderByMark(body) {
 }
 
 /**
- * A body as text, as browsers choose its charset: by its mark, by its type, or by its own beginning. If none of them
- * names one that is known, it is UTF-8 if all of it is.
+ * A body as text, or as much of its beginning as has a number of characters. Browsers choose its charset so: by its
+ * mark, by its type, or by its own beginning. If none of them names one that is known, it is UTF-8 if all of it is.
  * @param {Uint8Array} body
  * @param {string} type
+ * @param {number} most characters. There may be more of them in the text
  */
-function textOf(body, type) {
+function textOf(body, type, most) {
   const front = latin.decode(body.subarray(0, MOST_OF_META)), media = mediaOf(type, body, '');
   const [, stated] = /[;\s]charset\s*=\s*["']?\s*([^\s"';]+)/i.exec(type) ?? [];
   const decoder = decoderByMark(body) ?? decoderOf(stated) ?? decoderIn(front, media);
-  if (decoder) return decoder.decode(body);
+  const part = body.subarray(0, most * MOST_OF_CHARACTER), how = {stream: part.length < body.length};
+  if (decoder) return decoder.decode(part, how);
   try {
-    return new TextDecoder('utf-8', {fatal: true}).decode(body);
+    return new TextDecoder('utf-8', {fatal: true}).decode(part, how);
   } catch {
-    return new TextDecoder('windows-1252').decode(body);
+    return new TextDecoder('windows-1252').decode(part, how);
   }
 }

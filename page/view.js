@@ -211,7 +211,7 @@ class Sheets {
     const found = this.resources.get(uri), most = MOST_OF_VIEW.styles[0];
     if (!found) return '';
     if (found.body.length > most) this.budget.spent.add('styles');
-    return textOf(found.body.subarray(0, most), found.type ?? '');
+    return textOf(found.body.subarray(0, most), found.type ?? '', most);
   }
 
   /**
@@ -469,6 +469,9 @@ class Named {
     });
   }
 }
+
+/** @type {(body: Uint8Array, type: string) => string} */
+const htmlOf = (body, type) => textOf(body, type, MOST_OF_VIEW.text[0]);
 
 /**
  * A page of HTML, and what its references are resolved against. The document is one that loads and runs nothing.

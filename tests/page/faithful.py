@@ -87,6 +87,7 @@ CHARSETS = {
     "declared": ("cp1251", "application/xhtml+xml", f"{XML}<html><body>{LAST}</p></body></html>"),
     "none": ("utf-8", "text/html", LAST),
 }
+LONG = 550_000_000  # bytes: a browser has no text of so many characters
 PLACES = (
     "<a id=to href='#old'>x</a><a id=up href='#'>x</a><a id=up-by-name href='#top'>x</a><p style='height: 5000px'></p>"
     "<a name=old>x</a><p id=last>x"
@@ -126,6 +127,11 @@ def charsets(tests: Any, folder: str) -> None:
         browser.until("document.querySelector('pre.text') !== null", 10)
         found = browser.run("document.querySelector('pre.text').textContent")
         tests.holds(found == f"{META} {WORD}", "charsets: a text that is no page names none", found)
+        long = f"textView(textOf(new Uint8Array({LONG}).fill(208), 'text/plain', MOST_TEXT)).textContent"
+        found = browser.run(f"(() => {{ const text = {long}; return [text.length, text.slice(-40)]; }})()")
+        tests.holds(found[0] > 2_000_000 and "the first 2.1 MB" in found[1], "charsets: of a text over 512 MB", found)
+        cut = browser.run(f"textOf(typed('{WORD}'.repeat(9)), 'text/plain', 3).replaceAll('{WORD}', '')")
+        tests.holds(len(cut) == 1 and cut in WORD, "charsets: a character that is cut is left out", cut)
     except RuntimeError as error:
         tests.holds(False, "charsets", error)
     finally:
