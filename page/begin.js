@@ -12,27 +12,38 @@ function refuse(text) {
   byId('start').replaceChildren(make('div', {className: 'drop', role: 'alert'}, title, make('p', {}, text)));
 }
 
+/** @param {FileList} files */
+function take(files) {
+  if (files.length) openFiles([...files]);
+}
+
+/**
+ * Files are dropped. What is dragged out of a page comes with HTML, a picture as a file too, and is no file.
+ * @param {Node|Window} place
+ */
+function hearDrops(place) {
+  const isOver = (/** @type {boolean} */ it) => byId('drop').classList.toggle('over', it);
+  hearOf(place, 'dragover', (event) => {
+    event.preventDefault();
+    isOver(true);
+  });
+  hearOf(place, 'dragleave', () => isOver(false));
+  hearOf(place, 'drop', (event) => {
+    event.preventDefault();
+    isOver(false);
+    if (!event.dataTransfer.types.includes('text/html')) take(event.dataTransfer.files);
+  });
+}
+
 // Files are chosen, or dropped anywhere.
 function hearFiles() {
-  const take = (/** @type {FileList} */ files) => {
-    if (files.length) openFiles([...files]);
-  };
   for (const input of [byId('file'), byId('file-again')]) {
     input.addEventListener('change', () => {
       take(input.files);
       input.value = '';
     });
   }
-  addEventListener('dragover', (event) => {
-    event.preventDefault();
-    byId('drop').classList.add('over');
-  });
-  addEventListener('dragleave', () => byId('drop').classList.remove('over'));
-  addEventListener('drop', (event) => {
-    event.preventDefault();
-    byId('drop').classList.remove('over');
-    take(event.dataTransfer.files);
-  });
+  hearDrops(window);
 }
 
 // The search, and the question for a URI as of a date.

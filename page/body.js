@@ -239,6 +239,7 @@ const ARCHIVE = {
     room.urls = urls;
   },
   leave: leaveRecord,
+  hearDrops: (page) => hearDrops(page),
   has: (uri) => capturesOf(typed(uri)).length > 0,
   lead: (uri, moment) => openAsOf(typed(uri), moment, true),
   line(uri, found) {

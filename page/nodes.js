@@ -50,7 +50,7 @@ const holds = (node, other) => Node.prototype.contains.call(node, other);
 /** @type {(document: Document, name: string) => HTMLElement} */
 const newElement = (document, name) => Document.prototype.createElement.call(document, name);
 
-/** @type {(node: Node, event: string, act: (event: any) => void) => void} */
+/** @type {(node: Node|Window, event: string, act: (event: any) => void) => void} */
 const hearOf = (node, event, act) => EventTarget.prototype.addEventListener.call(node, event, act);
 
 /**

@@ -84,6 +84,7 @@ class PageView {
     this.place.replaceChildren(emptyFrame((page) => {
       hearOf(page, 'click', (event) => this.follow(event, targets, moment));
       hearOf(page, 'keydown', (event) => event.key === 'Escape' && this.host.leave());
+      this.host.hearDrops(page);
       moveInto(page, root);
     }));
     this.sumUp(resources, moment);

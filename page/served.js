@@ -160,6 +160,7 @@ const COLLECTION = {
   visit: () => served.visit,
   keep: keepUrls,
   leave: () => byId('uri').focus(),
+  hearDrops() {},   // no file is opened here
   has: () => true,  // the answer says where there is none
   lead(uri, moment) {
     location.hash = addressIn(typed(uri), digitsOf(moment));

@@ -96,6 +96,7 @@ interface ViewHost {
   visit(): number; // another number once something else is shown
   keep(urls: string[]): void; // addresses of the view that is shown, in the place of others
   leave(): void;
+  hearDrops(page: Document): void;
   has(uri: string): boolean;
   lead(uri: string, moment: string): void;
   line(uri: string, found: Answer): (Node | string)[];

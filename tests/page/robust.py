@@ -184,6 +184,47 @@ def late_view(tests: Any, folder: str) -> None:
         browser.close()
 
 
+def drag(browser: Any, kind: str, place: Any, path: str) -> None:
+    """Drags a file from outside of the browser over a place of the page, or drops it there."""
+    data = {"items": [], "files": [path], "dragOperationsMask": 1}
+    browser.ask("Input.dispatchDragEvent", {"type": kind, "x": place[0], "y": place[1], "data": data})
+
+
+def move(browser: Any, kind: str, place: Any) -> None:
+    """Moves, presses or releases the mouse at a place of the page."""
+    button = {"x": place[0], "y": place[1], "button": "left", "buttons": 1, "clickCount": 1}
+    browser.ask("Input.dispatchMouseEvent", {"type": kind, **button})
+
+
+def dropped(tests: Any, folder: str) -> None:
+    """A file that is dropped on a view is opened, and a picture that is dragged out of a view isn't."""
+    site = Site()
+    site.add("p.png", picture(3), "image/png")
+    site.add("a", "<img src=/p.png><p id=last>x")
+    archive = site.save(f"{folder}/dropped.warc")
+    browser, number = tests.opened(archive), "room.library.opened"
+    try:
+        show(browser, 1)
+        box = "document.querySelector('iframe.view').getBoundingClientRect()"
+        left, top = browser.run(f"[{box}.x, {box}.y]")
+        move(browser, "mousePressed", (left + 30, top + 30))
+        for step in range(12):
+            move(browser, "mouseMoved", (left + 30 - 9 * step, top + 30 - 20 * step))
+        move(browser, "mouseReleased", (left + 30 - 99, top + 30 - 220))
+        time.sleep(1)
+        tests.holds(browser.run(number) == 1, "dropped: a picture of the view is no file", browser.run(number))
+        show(browser, 1)
+        left, top = browser.run(f"[{box}.x, {box}.y]")
+        for kind in ("dragEnter", "dragOver", "drop"):
+            drag(browser, kind, (left + 60, top + 60), archive)
+        browser.until(f"{number} === 2", 5)
+        tests.holds(True, "dropped: a file on a view")
+    except RuntimeError as error:
+        tests.holds(False, "dropped", error)
+    finally:
+        browser.close()
+
+
 def dying_worker(tests: Any, folder: str) -> None:
     """The worker dies at a question: the page says so, and a file can be opened again in a new one."""
     asked = "const answers = await archive.ask(questions);"
@@ -283,7 +324,7 @@ def seen_by_use(tests: Any, folder: str) -> None:
 
 def robust(tests: Any, folder: str) -> None:
     """All of them."""
-    for part in (clobbered, many_kinds, dying_helpers, another_file, late_answer, late_view):
+    for part in (clobbered, many_kinds, dying_helpers, another_file, late_answer, late_view, dropped):
         part(tests, folder)
     for part in (dying_worker, changed_file, seen_by_use):
         part(tests, folder)
