@@ -320,17 +320,17 @@ function linkForFrame(node, base) {
 
 /**
  * Puts links in the place of frames, and of a set of frames.
- * @param {Document} page
+ * @param {Element} root
  * @param {string} base
  */
-function unframe(page, base) {
-  const [set] = every(page, 'frameset');
+function unframe(root, base) {
+  const [set] = every(root, 'frameset');
   if (set) {
-    const body = newElement(page, 'body');
+    const body = newElement(ownerOf(root), 'body');
     body.append(...every(set, 'frame').slice(0, 1000).map((node) => linkForFrame(node, base)));
     replaceBy(set, body);
   }
-  every(page, 'iframe').forEach((node) => replaceBy(node, linkForFrame(node, base)));
+  every(root, 'iframe').forEach((node) => replaceBy(node, linkForFrame(node, base)));
 }
 
 /**
@@ -473,18 +473,73 @@ class Named {
 /** @type {(body: Uint8Array, type: string) => string} */
 const htmlOf = (body, type) => textOf(body, type, MOST_OF_VIEW.text[0]);
 
+// Attributes that a browser reads as styles as soon as it parses a page, up to where their values begin.
+const READ_AT_ONCE_IN_TAGS = /[\s"'/](?:style|media)\s*=\s*(["']?)/gi;
+const BRACKETS = /[([{]|&(?:#x?0*(?:28|40|5b|91|7b|123)|lpar|lsqb|lbrack|lcub|lbrace)/gi;
+const MOST_BRACKETS = 1000;  // of one value: a browser ends where tens of thousands are within each other
+
 /**
- * A page of HTML, and what its references are resolved against. The document is one that loads and runs nothing.
+ * Where the value of an attribute ends; -1 where its quote isn't closed, and it is none.
+ * @param {string} html
+ * @param {number} start
+ * @param {string} quote
+ */
+function endOfValue(html, start, quote) {
+  if (quote) return html.indexOf(quote, start);
+  const ending = /[\s>]|$/g;
+  ending.lastIndex = start;
+  return ending.exec(html).index;
+}
+
+/**
+ * HTML without the values of such attributes that have too many brackets. A text that looks like one counts too.
+ * @param {string} html
+ * @param {Budget} budget
+ */
+function shallow(html, budget) {
+  const parts = [];
+  let from = 0;
+  for (const found of html.matchAll(READ_AT_ONCE_IN_TAGS)) {
+    const start = found.index + found[0].length, end = endOfValue(html, start, found[1]);
+    if (start < from || end - start <= MOST_BRACKETS) continue;
+    if ((html.slice(start, end).match(BRACKETS)?.length ?? 0) <= MOST_BRACKETS) continue;
+    budget.spent.add('nested');
+    parts.push(html.slice(from, start));
+    from = end;
+  }
+  return parts.join('') + html.slice(from);
+}
+
+const MOST_OF_FRONT = 65536;  // characters in which a page begins
+const FRONT = /\s+|<!--(?!-?>)[\s\S]*?--!?>|(<(?:!doctype|html)\b[^>]*>)|<[?!][^>]*>/iy;
+
+/**
+ * What a page has before its head: its document type, and the tag of its root.
+ * @param {string} html
+ */
+function frontOf(html) {
+  const front = html.slice(0, MOST_OF_FRONT), kept = [];
+  FRONT.lastIndex = 0;
+  for (let found = FRONT.exec(front); found; found = FRONT.exec(front)) kept.push(found[1] ?? '');
+  return kept.join('');
+}
+
+/**
+ * The root of a page of HTML, and what its references are resolved against. The document is one that loads and runs
+ * nothing. The root isn't in it, so that the browser doesn't read style elements before they are written anew.
  * @param {string} html
  * @param {string} uri
  * @param {Budget} budget
  */
 function parsed(html, uri, budget) {
-  const most = MOST_OF_VIEW.text[0];
+  const most = MOST_OF_VIEW.text[0], text = shallow(html.slice(0, most), budget);
   if (html.length > most) budget.spent.add('text');
-  const page = new DOMParser().parseFromString(asHtml(html.slice(0, most)), 'text/html');
-  const [first] = every(page, 'base[href]');
-  return {page, base: resolved(first ? attributeOf(first, 'href') : '', uri) ?? uri};
+  const page = new DOMParser().parseFromString(asHtml(frontOf(text)), 'text/html');
+  const root = newElement(page, 'html'), own = rootOf(page);
+  attributesOf(own).forEach((name) => setAttribute(root, name, attributeOf(own, name)));
+  root.innerHTML = asHtml(text);
+  const [first] = every(root, 'base[href]');
+  return {root, base: resolved(first ? attributeOf(first, 'href') : '', uri) ?? uri};
 }
 
 /**
@@ -494,8 +549,8 @@ function parsed(html, uri, budget) {
  * @param {Resources} resources
  */
 async function viewOf(html, uri, resources) {
-  const {page, base} = parsed(html, uri, resources.budget), root = rootOf(page);
-  unframe(page, base);
+  const {root, base} = parsed(html, uri, resources.budget);
+  unframe(root, base);
   const named = new Named(base, new Sheets(resources));
   named.takeAll(root);
   clean(root);

@@ -24,7 +24,15 @@ NESTED = {
     "selectors": ":is(" * DEEP,
     "imports": f"@import 'x' {'(' * DEEP}",
 }
+# The browser's parser reads styles in a page as soon as it meets them.
 NESTED_IN_PAGE = {
+    "nested-here": f"<style>p {{ color: rgb(1, 2, 3) }} {'a{' * DEEP}</style>",
+    "nested-comment": f"<!--><style>{'a{' * DEEP}</style><!-- -->",
+    "nested-root": f'<html a=b"><style>{"a{" * DEEP}</style>">',
+    "nested-attribute": f"<p style='color: {'color-mix(in srgb,' * DEEP}'>x</p>",
+    "nested-references": f"<p title=' style=\"'style=color:{'color-mix&lpar;in&#9;srgb,' * DEEP}>x</p>",
+    "nested-source": f"<picture><source srcset=x media='{'(not ' * DEEP}'></picture>",
+    "nested-style": f"<style media='{'(not ' * DEEP}'>b {{ color: red }}</style>",
     "nested-link": f"<link rel=stylesheet href=/p.png media='{'(not ' * DEEP}'>",
     "nested-drawing": f"<svg><rect opacity='{'if(not(' * DEEP}' color='{'color-mix(in srgb,' * DEEP}' /></svg>",
 }

@@ -18,8 +18,9 @@ STYLE = """@charset "utf-8"; @import url("imported.css") screen;
 :root { --picture: url(p.png) } .by-variable { background: var(--picture) }
 .escaped { background: \\75 rl(p.png) } #\\31 23 { color: rgb(1, 2, 3) } .a\\:b { color: rgb(4, 5, 6) }
 .open { color: rgb(7, 8, 9)"""
-PAGE = """<!doctype html><html lang=en class=top><head><link rel=stylesheet href=style.css>
-<style>p.own { color: rgb(0, 128, 128) } /* <b> */</style>
+PAGE = """<?xml version="1.0"?><!-- <html class=no> --><!doctype html><!--[if IE]><html class=ie><![endif]-->
+<html lang=en class=top><head><link rel=stylesheet href=style.css>
+<style>html.top i { margin: 2px } p.own { color: rgb(0, 128, 128) } /* <b> */</style>
 <style>.stray { color: rgb(9, 9, 9) } .closed { margin: 3px; color: rgb(1, 1, 1)) } } .stray { color: red }</style>
 <style>@namespace s url(http://www.w3.org/2000/svg); s|circle { fill: rgb(2, 2, 2) }</style>
 <style>@import "imported.css" print { x: y } .after { color: rgb(3, 3, 3) }</style>
@@ -58,6 +59,8 @@ LOOKS = [
     (".open", "color", "rgb(7, 8, 9)"),
     ("rect", "fill", 'url("#g")'),
     ("i", "fontStyle", "italic"),
+    ("i", "marginLeft", "2px"),
+    ("html", "className", "top"),
     (".stray", "color", "rgb(9, 9, 9)"),
     (".closed", "marginTop", "3px"),
     (".closed", "color", "rgb(0, 102, 51)"),
@@ -179,7 +182,8 @@ def looks(tests: Any, folder: str) -> None:
         show(browser, site.positions["page"])
         tests.picture(browser, "faithful")
         for selector, name, expected in LOOKS:
-            found = browser.run(f"getComputedStyle({page}.querySelector(\"{selector}\"))['{name}']")
+            node = f'{page}.querySelector("{selector}")'
+            found = browser.run(f"getComputedStyle({node})['{name}'] ?? {node}['{name}']")
             tests.holds(expected in str(found), f"faithful: {name} of {selector}", found)
         content = browser.run(f"getComputedStyle({page}.querySelector('.box'), '::before').content")
         tests.holds(content == '"\u201c</style>"', "faithful: a text with the end of a style element", content)
