@@ -16,12 +16,17 @@ static int fail(const char *what, const warc_problem *problem) {
     return 1;
 }
 
-/* Maps a file. An empty one can't be mapped, and is no bytes. */
+/* Maps a file. An empty one can't be mapped, and is no bytes; a pipe can't be mapped either, and has a length of 0. */
 static const uint8_t *map(const char *path, size_t *length) {
     struct stat facts;
     int file = open(path, O_RDONLY);
     void *bytes = MAP_FAILED;
     if (file >= 0 && fstat(file, &facts) == 0) {
+        if (!S_ISREG(facts.st_mode)) {
+            fprintf(stderr, "%s: it is no file that can be mapped\n", path);
+            close(file);
+            return MAP_FAILED;
+        }
         *length = (size_t)facts.st_size;
         bytes = *length == 0 ? NULL : mmap(NULL, *length, PROT_READ, MAP_PRIVATE, file, 0);
     }

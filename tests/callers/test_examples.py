@@ -98,6 +98,13 @@ class Examples(unittest.TestCase):
                     self.assertNotEqual(message, b"")
                     self.assertNotEqual(status, 0)
 
+    def test_a_pipe_is_no_mapped_file(self) -> None:
+        """A pipe has no length, and isn't an archive without records."""
+        with open(CRAWL, "rb") as crawl:
+            written, message, status = run(*self.programs["C"], "/dev/stdin", URI, "9999", input=crawl.read())
+        self.assertEqual((written, status), (b"", 2))
+        self.assertIn(b"/dev/stdin", message)
+
     def test_headers(self) -> None:
         written, _, status = run(f"{self.folder.name}/headers", CRAWL)
         self.assertEqual((written.count(b"record "), written.count(b" HTTP/1."), status), (18, 6, 0))
