@@ -511,7 +511,7 @@ function shallow(html, budget) {
 }
 
 const MOST_OF_FRONT = 65536;  // characters in which a page begins
-const FRONT = /\s+|<!--(?!-?>)[\s\S]*?--!?>|(<(?:!doctype|html)\b[^>]*>)|<[?!][^>]*>/iy;
+const FRONT = /\s+|<!--(?:-?>|[\s\S]*?--!?>)|(<(?:!doctype|html)\b[^>]*>)|<(?:\?|!(?!--))[^>]*>/iy;
 
 /**
  * What a page has before its head: its document type, and the tag of its root.
