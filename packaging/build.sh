@@ -10,7 +10,8 @@ umask 022
 
 tree=$copy/zogwedu
 mkdir "$tree"
-(cd "$here/.." && git ls-files -z | xargs -0 tar -cf - bin out/lib out/man out/completions out/python zogwedu.html) |
+built=(bin out/lib out/man out/completions out/python zogwedu.html)
+(cd "$here/.." && git ls-files -z | tar -cf - "${built[@]}" --null --files-from=-) |
     tar -xf - -C "$tree" --no-same-owner
 version=$(sed -n 's/^pub(crate) const VERSION: &str = "\(.*\)";$/\1/p' "$tree/crates/warc_arguments/src/help.rt")
 day=$(sed -n "s/^## $version (\(.*\))$/\1/p" "$tree/CHANGELOG.md")

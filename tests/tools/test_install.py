@@ -205,6 +205,24 @@ class Install(unittest.TestCase):
         done = self.make("uninstall-python", PYTHONDIR=folder, DESTDIR="")
         self.assertEqual((done.returncode, os.listdir(folder)), (0, []))
 
+    def test_a_package_has_all_files(self) -> None:
+        """Also those of a tree with more names than one command takes."""
+        shutil.copytree(f"{TOP}/packaging", f"{self.tree}/packaging")
+        for number in range(1500):
+            self.put(f"{self.tree}/zz/{'long-' * 20}{number}", "x")
+        subprocess.run("git init -q && git add -A", shell=True, cwd=self.tree, check=True)
+        builder = f"{self.folder}/bin/dpkg-buildpackage"
+        self.put(
+            builder, f"#!/bin/sh\nls zz | wc -l > '{self.folder}/count'\ntouch ../x.deb ../x.changes ../x.buildinfo\n"
+        )
+        os.chmod(builder, 0o755)
+        search = f"{self.folder}/bin:{os.environ['PATH']}"
+        words = ["bash", f"{self.tree}/packaging/build.sh", self.folder]
+        done = subprocess.run(words, env={**os.environ, "PATH": search}, capture_output=True, text=True, check=False)
+        self.assertEqual((done.returncode, done.stderr), (0, ""))
+        with open(f"{self.folder}/count", encoding="utf-8") as count:
+            self.assertEqual(int(count.read()), 1500)
+
 
 if __name__ == "__main__":
     unittest.main()
