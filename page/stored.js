@@ -192,14 +192,15 @@ async function undone(coding, body, most) {
 }
 
 /**
- * What a body is, by its content type, or by its first bytes where it has none.
+ * What a body is, by its content type, or by its first bytes where it has none. Of several types the last one counts.
  * @param {string} type
  * @param {Uint8Array} body
  * @param {string} target
  */
 function mediaOf(type, body, target) {
-  const name = type.split(';')[0].trim().toLowerCase();
-  if (MEDIA_TYPE.test(name)) return name;
+  const names = type.toLowerCase().split(',').map((it) => it.split(';')[0].trim());
+  const name = names.reverse().find((it) => MEDIA_TYPE.test(it));
+  if (name) return name;
   const front = latin.decode(body.subarray(0, 256)).trimStart().toLowerCase();
   if (/^<(?:!doctype html|html|title)/.test(front)) return 'text/html';
   if (front.startsWith('\x89png')) return 'image/png';
@@ -221,6 +222,7 @@ const isHtml = (media) => media === 'text/html' || media === 'application/xhtml+
 const isText = (media) => TEXT_TYPE.test(media);
 
 const UNREAD = /<!--[\s\S]*?(?:-->|$)|<(script|style|title|textarea)\b[\s\S]*?(?:<\/\1|$)/gi;  // no element is in it
+const IN_TYPE = /[;\s]charset\s*=\s*["']?\s*([^\s"';]+)/i;
 const IN_META = /<meta[^>]*?[\s;"'/]charset\s*=\s*["']?\s*([^\s"';>]+)/i;
 const IN_DECLARATION = /^\s*<\?xml[^>]*?\sencoding\s*=\s*["']([^"'>]+)/i;
 const IN_SHEET = /^@charset "([^"]*)";/;
@@ -269,7 +271,7 @@ function decoderByMark(body) {
  */
 function textOf(body, type, most) {
   const front = latin.decode(body.subarray(0, MOST_OF_META)), media = mediaOf(type, body, '');
-  const [, stated] = /[;\s]charset\s*=\s*["']?\s*([^\s"';]+)/i.exec(type) ?? [];
+  const stated = type.split(',').reverse().map((it) => IN_TYPE.exec(it)?.[1]).find((it) => it);
   const decoder = decoderByMark(body) ?? decoderOf(stated) ?? decoderIn(front, media);
   const part = body.subarray(0, most * MOST_OF_CHARACTER), how = {stream: part.length < body.length};
   if (decoder) return decoder.decode(part, how);

@@ -87,6 +87,8 @@ CHARSETS = {
         "text/html",
         "<meta http-equiv=Content-Type content='text/html; charset = windows-1251'>" + LAST,
     ),
+    "twice": ("koi8-r", "text/html; charset=utf-8\r\nContent-Type: text/html; charset=koi8-r", LAST),
+    "twice-without": ("koi8-r", "text/html; charset=koi8-r\r\nContent-Type: text/html", LAST),
     "declared": ("cp1251", "application/xhtml+xml", f"{XML}<html><body>{LAST}</p></body></html>"),
     "none": ("utf-8", "text/html", LAST),
 }
