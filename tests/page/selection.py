@@ -33,20 +33,25 @@ MEANWHILE = f"({{click() {{ {BUTTON}.click(); openFiles([new File([], 'other.war
 EVERY_SECOND = "room.order = room.order.filter((it) => it % 2); drawSaving()"
 
 
+def is_saved(event: Any) -> bool:
+    return bool(event["method"] == "Browser.downloadProgress" and event["params"]["state"] == "completed")
+
+
 def saved(browser: Browser, folder: str, button: str = BUTTON) -> tuple[str, bytes]:
-    """The name and the bytes of the file that a click on a button saves."""
-    into = f"{folder}/saved"
+    """The name and the bytes of the file that a click on a button saves. The browser says when it is whole."""
+    into, before = f"{folder}/saved", len(browser.events)
     shutil.rmtree(into, ignore_errors=True)
     os.mkdir(into)
-    browser.ask("Browser.setDownloadBehavior", {"behavior": "allow", "downloadPath": into}, session=None)
+    behavior = {"behavior": "allow", "downloadPath": into, "eventsEnabled": True}
+    browser.ask("Browser.setDownloadBehavior", behavior, session=None)
     browser.run(f"{button}.click()")
     end = time.monotonic() + SECONDS
     while time.monotonic() < end:
         browser.run("0")  # so that the browser's events are read
-        names = os.listdir(into)
-        if names and not names[0].endswith(".crdownload"):
-            with open(f"{into}/{names[0]}", "rb") as file:
-                return names[0], file.read()
+        if any(is_saved(event) for event in browser.events[before:]):
+            (name,) = os.listdir(into)
+            with open(f"{into}/{name}", "rb") as file:
+                return name, file.read()
         time.sleep(0.05)
     return "nothing was saved", b""
 
