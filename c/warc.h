@@ -185,10 +185,10 @@ size_t warc_length(const warc_archive *archive);
 
 /* ---- Pieces of bytes, which may be damaged */
 
-/* A piece: a run of good records, or damage, which are bytes at none of which a good record begins that lies whole in
+/* A piece: a run of good records, or damage, which are bytes at none of which a good record begins that is whole in
  * the bytes. Of a run `count` is how many records it has, at least 1, and `fault` is {0}. Of damage `count` is 0, and
  * `fault` says why no good record begins with its first byte: WARC_FAULT_VERSION to WARC_FAULT_TRUNCATED, at an offset
- * in the bytes that may lie beyond the damage. */
+ * in the bytes that may be beyond the damage. */
 typedef struct {
     uint64_t offset;
     uint64_t length;

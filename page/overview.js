@@ -169,7 +169,7 @@ function drawStrip(isNew = true) {
   byId('strip').setAttribute('aria-label', count ? `${ABOUT_STRIP}; ${marked}` : ABOUT_STRIP);
 }
 
-// A mark for each damage where it lies. Of those that fall on the same pixels one is drawn.
+// A mark for each damage where it is. Of those that fall on the same pixels, one is drawn.
 /** @param {StripPen} pen */
 function drawDamages(pen) {
   const {damages} = room, pixel = pen.length / pen.wide;

@@ -8,7 +8,7 @@ const UNPACKED_PIECE = 16 * MEGABYTE;
 const FIRST_BYTES = 4;
 const NO_ROOM = 'the browser has no room for what was decompressed';
 
-// What compressed a file, by its first bytes as `zwarc` tells it: gzip, zstd, or nothing.
+// What compressed a file, by its first bytes as `zwarc` reports it: gzip, zstd, or nothing.
 /** @type {(first: Uint8Array) => string} */
 function packingOf(first) {
   if (first[0] === 0x1f && first[1] === 0x8b) return 'gzip';

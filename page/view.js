@@ -11,7 +11,7 @@ const NOTHING = 'data:,';
 const TOP_OF_PAGE = 'top';  // the name of a place that each page has
 
 /**
- * What one view may take, and what tells a reader that there was more.
+ * What one view may take, and what shows a reader that there was more.
  * @type {Record<string, [number, string]>}
  */
 const MOST_OF_VIEW = {

@@ -6,7 +6,7 @@ Usage: build.py JOBS [FOLDER]
 Each crate is proved in a tree of its own below FOLDER (out/build if left out), which has its sources, and the crates
 below it with their libraries: the toolchain lets one run at a time work in a tree. The processors are shared among the
 crates whose lower crates are done. What was proved is kept there, and a later run proves only what changed: a crate is
-passed over where FOLDER/NAME/mark has the checksum of all that its proof stands on. A line is printed for each crate
+passed over where FOLDER/NAME/mark has the checksum of all that its proof rests on. A line is printed for each crate
 when it is done, with the seconds that it took; its log is FOLDER/NAME/log.
 """
 from __future__ import annotations
@@ -80,7 +80,7 @@ def lines_of(name: str) -> int:
 
 
 def mark_of(name: str, uses: dict[str, list[str]], words: Sequence[str], kit: str) -> str:
-    """A checksum of all that a crate's proof stands on: the toolchain, its sources and those of the crates below."""
+    """A checksum of all that a crate's proof rests on: the toolchain, its sources and those of the crates below."""
     mark = hashlib.sha256(f"{kit} {words} {read('HANDLES')}".encode())
     for low in below(name, uses):
         mark.update(f"{rows()[low]}\n".encode())

@@ -26,7 +26,7 @@ END = "@@ end of a command"
 
 
 def commands(block: str) -> list[list[str]]:
-    """The commands of a block, each with the text that the page shows behind it."""
+    """The commands of a block, each with the text that the page shows after it."""
     found: list[list[str]] = []
     goes_on = False
     for line in block.splitlines(keepends=True):

@@ -12,7 +12,7 @@ pub struct Piece<'a> {
     pub bytes: &'a [u8],
     /// How many records a run has, at least one; 0 for damage.
     pub count: u64,
-    /// Of damage, why no good record begins with its first byte. The fault's offset may lie beyond the damage.
+    /// Of damage, why no good record begins with its first byte. The fault's offset may be beyond the damage.
     pub fault: Option<Error>,
 }
 

@@ -1,4 +1,4 @@
-"""Damaged archives as their pieces: all good records, each damage where it lies, answers, and what is saved."""
+"""Damaged archives as their pieces: all good records, each damage where it is, answers, and what is saved."""
 
 from __future__ import annotations
 

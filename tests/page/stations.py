@@ -151,7 +151,7 @@ def crawl(path: str) -> str:
 
 
 def crawl_into(folder: str, *more: str) -> tuple[str, list[str]]:
-    """The same as two archives in a folder, written by wget's default, or as it is also told. Gives their paths."""
+    """The same as two archives in a folder, written by wget's defaults, or with more options. Gives their paths."""
     server = http.server.ThreadingHTTPServer(("127.0.0.1", 0), Server)
     threading.Thread(target=server.serve_forever, daemon=True).start()
     site = f"http://127.0.0.1:{server.server_address[1]}/"

@@ -363,7 +363,7 @@ class Piece(NamedTuple):
 
 
 def next_good(data: bytes, start: int) -> int:
-    """The least offset from one on at which a good record lies whole, or the end of the bytes."""
+    """The least offset from one on at which a whole good record begins, or the end of the bytes."""
     for offset in range(start, len(data)):
         if data.startswith(VERSIONS, offset):
             try:

@@ -195,7 +195,7 @@ def damaged(seed: int) -> bytes:
 
 
 def pieces_in(text: bytes) -> List[Piece]:
-    """The pieces that lines tell of."""
+    """The pieces that lines report."""
     rows = [line.split(b"\t") for line in text.split(b"\n")[:-1]]
     return [Piece(name, int(start), int(length), last) for name, start, length, last in rows]
 

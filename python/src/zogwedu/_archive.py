@@ -109,7 +109,7 @@ class Body:
 
     @property
     def data(self) -> memoryview:
-        """Its bytes: without a copy, unless they lie in several spans."""
+        """Its bytes: without a copy, unless they are in several spans."""
         parts = self.parts
         if len(parts) == 1:
             return parts[0]

@@ -21,7 +21,7 @@ class Piece:
 
     `offset` and `length` are those of its bytes. A run has `count` records, at least one, and `fault` is None. Damage
     has none, and `fault` is the Refused that says why no good record begins with its first byte; the offset of that may
-    lie beyond the damage.
+    be beyond the damage.
     """
 
     offset: int
