@@ -25,8 +25,7 @@ const code = (command) => make('code', {}, command);
  * @type {Record<string, (damage: PackedDamage, offset: string) => [string, string]>}
  */
 const PACKED_WORDS = {
-  torn: (
-      _, offset) => ['is torn', `The gzip member at byte ${offset} isn’t whole: the file ends before the member does.`],
+  torn: (_, offset) => ['is torn', `The gzip member at byte ${offset} isn’t whole: the file ends before it does.`],
   damaged:
       ({why}, offset) => ['is damaged', `The gzip member at byte ${offset} can’t be decompressed: ${plainly(why)}.`],
   other: (_, offset) =>

@@ -377,6 +377,12 @@ async function blockTab({row, position}) {
   return [content, make('div', {className: 'actions'}, button('button', save, {}, 'Save the block'))];
 }
 
+/**
+ * What was found of a block by its digest.
+ * @param {Row} row
+ */
+const verdictWords = ({verdict}) => verdict === '…' ? 'not judged' : `${verdict}: ${VERDICT_TITLES.get(verdict)}`;
+
 /** @type {(row: Row, stated: string) => [string, string][]} */
 const rowFacts = (row, stated) => [
     ['Position', String(row.position)],
@@ -387,7 +393,7 @@ const rowFacts = (row, stated) => [
     ['Target', seen(row.target) || '–'],
     ['Head', size(row.blockStart - row.offset)],
     ['Block', `${row.blockLength.toLocaleString('en')} bytes from byte ${row.blockStart.toLocaleString('en')} on`],
-    ['Digest of the block', row.verdict === '…' ? 'not judged' : `${row.verdict}: ${VERDICT_TITLES.get(row.verdict)}`],
+    ['Digest of the block', verdictWords(row)],
     ['Digest as stated', plainly(stated) || '–'],
 ];
 
@@ -425,7 +431,7 @@ async function factsTab(it) {
   await judged(it.position);
   const facts = [...rowFacts(it.row, fieldOf(it.own.fields, 'WARC-Block-Digest')), ...answerFacts(it.answer)];
   const source =
-      'These facts are the library’s answers, whose contracts are proved. “Digest as stated” is read by this page.';
+      'These are the library’s answers, whose contracts are proved. “Digest as stated” is read by this page.';
   return [
     make(
         'dl', {className: 'facts'}, ...facts.flatMap(([name, value]) => [make('dt', {}, name), make('dd', {}, value)])),
