@@ -10,7 +10,8 @@ It reports, a line each, and exits with 1 where there is any:
 - a line of over 120 characters: in src/ or specs/, but for imports (`ghost use`, `use`) and tactics, which rt fmt keeps
   in one line; in a page, but for rows of tables and what a command writes (tools/wrap_pages.py breaks paragraphs); in
   tools/, bench/, packaging/ and shell/, and in Python, shell, C and Rust of tests/, collection/, python/, rust/ and c/;
-- a must-fail edit that doesn't apply (a text that isn't in its file exactly once), or that has no line `why:`;
+- a planted bug, of must-fail/ or of tests/plants/, that doesn't apply (a text that isn't in its file exactly once), or
+  that has no line `why:`; two of one crate with one name; more than the gate has time for;
 - a number of a paper or of a request in place of a plain name;
 - a file of src/ that doesn't begin with `//!`, which says what is in it;
 - a name in src/ or specs/ with one of the words that docs/GLOSSARY.md gives up for another, such as `tells`, and a
@@ -45,6 +46,10 @@ RETIRED = re.compile(
 )
 NO_CODE = {".rt": re.compile(r'//[^\n]*|"(?:\\.|[^"\\])*"'), ".antt": re.compile(r'--[^\n]*|"(?:\\.|[^"\\])*"')}
 GERUND = re.compile(r"crates/\w+/src/(?:\w+/)*(?!listing\.)\w+ing\.rt")
+# Each planted bug in the gate costs a minute of a processor, and each crate that has any is checked once more.
+EDIT = re.compile(r"(?:crates/\w+/must-fail|tests/plants/\w+)/\w+\.edit")
+MOST_EDITS = 25
+MOST_CRATES_WITH_EDITS = 8
 NO_PAPER = re.compile(r"T[0-9]{2}:|[0-9]T[0-9]|urn:uuid|--stored")
 
 
@@ -155,8 +160,8 @@ def wide_lines(top: str, paths: list[str]) -> Iterator[str]:
 
 
 def edit_faults(top: str, path: str) -> Iterator[str]:
-    """What is wrong with a must-fail edit."""
-    crate = path.rsplit("/", 2)[0]
+    """What is wrong with a planted bug."""
+    crate = f"crates/{crate_of_edit(path)}"
     texts: dict[str, str] = {}
     why, file, old = False, "", None
     for line in lines_of(top, path):
@@ -180,10 +185,23 @@ def edit_faults(top: str, path: str) -> Iterator[str]:
         yield f"{path}: no line 'why: PROMISE; refused by CLAUSE'"
 
 
+def crate_of_edit(path: str) -> str:
+    """The crate that a planted bug is of: crates/NAME/must-fail/X.edit or tests/plants/NAME/X.edit."""
+    parts = path.split("/")
+    return parts[1] if parts[0] == "crates" else parts[2]
+
+
 def bad_edits(top: str, paths: list[str]) -> Iterator[str]:
-    for path in paths:
-        if re.fullmatch(r"crates/\w+/must-fail/\w+\.edit", path):
-            yield from edit_faults(top, path)
+    edits = [path for path in paths if EDIT.fullmatch(path)]
+    names: dict[tuple[str, str], str] = {}
+    for path in edits:
+        yield from edit_faults(top, path)
+        other = names.setdefault((crate_of_edit(path), os.path.basename(path)), path)
+        if other != path:
+            yield f"{path}: has the name of {other}"
+    in_gate = [path for path in edits if path.startswith("crates/")]
+    if len(in_gate) > MOST_EDITS or len({crate_of_edit(path) for path in in_gate}) > MOST_CRATES_WITH_EDITS:
+        yield f"crates/*/must-fail: {len(in_gate)} in the gate; others belong in tests/plants/NAME/"
 
 
 def numbers_of_papers(top: str, paths: list[str]) -> Iterator[str]:

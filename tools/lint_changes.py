@@ -15,7 +15,7 @@ ROW = re.compile(r"^\| ([^|]+) \| ((?:`[^`]+`(?:, )?)+) \| `((?:[^|`]|\\\|)+)` \
 LEFT_OUT = re.compile(
     r"crates/\w+/(?:proofs|must-fail)/|crates/(?:suites_|example_|program_|warc_vectors|warc_tool/std)|.*\.warc$"
     r"|(?:CHANGELOG|CONTRIBUTING|README)|.*/CALLING\.md|bench/|examples/|rust/examples/"
-    r"|tests/(?:compatibility|page|stress)/"
+    r"|tests/(?:compatibility|page|plants|stress)/"
     r"|docs/(?:DECISIONS|SPEED|TRUST|PROMISES|ARCHITECTURE|GLOSSARY|COMPATIBILITY|FROM_WARCIO)|tools/lint"
 )
 

@@ -21,8 +21,9 @@ def function_of(crate: str, path: str, old: str) -> str:
 
 def main() -> None:
     """Prints them, in the order of their files."""
-    for path in sorted(glob.glob(f"{TOP}/crates/*/must-fail/*.edit")):
-        crate = path.split("/")[-3]
+    in_gate = glob.glob(f"{TOP}/crates/*/must-fail/*.edit")
+    for path in sorted(in_gate + glob.glob(f"{TOP}/tests/plants/*/*.edit")):
+        crate = path.split("/")[-3 if path in in_gate else -2]
         text = read(os.path.relpath(path, TOP))
         lines = dict(re.findall(r"^(file|old|why): ?(.*)$", text, re.MULTILINE)[::-1])
         name = os.path.basename(path)[:-5].replace("_", " ")
