@@ -29,15 +29,14 @@
 # make test-page    tries the reading room in headless Chromium (needs chromium and wget); minutes
 # make bench        measures, and prints the tables of docs/SPEED.md and docs/PAGE.md for this commit (needs gcc,
 #                   valgrind and chromium); make bench-libraries measures single libraries, as bench/HISTORY.md has them
-# make clean        drops what was built and kept
+# make clean        drops what was built, with the trees in which crates were proved (in ~/.cache/zogwedu)
 
-# One prover at a time works in out/build, so nothing here runs side by side, whatever -j says.
+# What is proved shares the processors already, so nothing here runs side by side, whatever -j says.
 .NOTPARALLEL:
 
 # The scripts read these in the environment, so that each may hold spaces and quotes.
 PREFIX ?= /usr/local
 export PREFIX LIBDIR DESTDIR PYTHONDIR FILE RUN
-JOBS ?= $(shell nproc)
 
 .PHONY: all try test check lint lint-code test-docs lint-docs man install uninstall install-python uninstall-python
 .PHONY: dist verify-dist test-compatibility test-package stress bench bench-libraries clean lib python rust test-callers
@@ -50,7 +49,7 @@ define PAGES
 endef
 
 all:
-	@python3 tools/build.py $(JOBS)
+	@python3 tools/build.py
 	$(PAGES)
 
 try:
@@ -63,11 +62,11 @@ check:
 	@rt all check
 
 lib:
-	@python3 tools/build_lib.py $(JOBS)
+	@python3 tools/build_lib.py
 
 # The package and the crate take a built library as it is. Build anew with `make lib`.
 out/lib/libwarc.so out/lib/libwarc.a:
-	@python3 tools/build_lib.py $(JOBS)
+	@python3 tools/build_lib.py
 
 python: out/lib/libwarc.so
 	@bash tests/callers/python.sh
@@ -80,7 +79,7 @@ test-callers: bin/warc out/lib/libwarc.so python
 
 # The tools take a built program as it is. Build anew with `make`.
 bin/warc:
-	@python3 tools/build.py $(JOBS)
+	@python3 tools/build.py
 
 test-docs: bin/warc
 	@python3 tools/test_docs.py bin/warc README.md docs/PROGRAM.md
@@ -158,4 +157,5 @@ bench-libraries: all
 	@python3 bench/index.py . out/bench
 
 clean:
+	@python3 tools/proofs.py clean
 	rm -rf out bin dist crates/*/out

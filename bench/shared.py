@@ -6,10 +6,8 @@ import hashlib
 import os
 import random
 import re
-import shutil
 import subprocess
 import sys
-import tempfile
 import time
 from collections.abc import Iterable, Sequence
 from typing import NamedTuple
@@ -20,64 +18,13 @@ PROGRAMS = os.path.join(TOP, "bench", "crates")
 REQUESTS = 1 << 24
 
 
-def lines_of(path: str) -> dict[str, list[str]]:
-    """The libraries that each crate of such a file uses, by its name."""
-    with open(path, encoding="utf-8") as text:
-        lines = [line.partition("#")[0].strip() for line in text]
-    rows = [line.partition(":") for line in lines if line]
-    return {name.strip(): uses.split() for name, _, uses in rows}
-
-
-def below(name: str, uses: dict[str, list[str]]) -> set[str]:
-    """The crate and all those of the repository that it is built from."""
-    found = {name}
-    for it in uses[name]:
-        if it in uses:
-            found |= below(it, uses)
-    return found
-
-
-def link_or_copy(source: str, to: str) -> None:
-    """A file that takes no room of its own, where the file system allows it."""
-    try:
-        os.link(source, to)
-    except OSError:
-        shutil.copy2(source, to)
-
-
-def put_program(name: str, tree: str) -> None:
-    """Puts a crate of bench/crates/ into a tree: the files are its own but for the ending `.txt`, by which the gate
-    leaves them alone."""
-    for at, _, files in os.walk(f"{PROGRAMS}/{name}"):
-        inside = os.path.relpath(at, PROGRAMS)
-        os.makedirs(f"{tree}/crates/{inside}", exist_ok=True)
-        for file in files:
-            shutil.copy(f"{at}/{file}", f"{tree}/crates/{inside}/{file.removesuffix('.txt')}")
-
-
 def build(repository: str, name: str, folder: str) -> str:
-    """Has `rt run` prove and build a program of bench/crates/ in a tree of its own, beside the crates that it uses with
-    what their checks kept; gives the path of the program in the folder."""
-    own = lines_of(f"{PROGRAMS}/list.txt")
-    uses = {**lines_of(f"{repository}/crates.txt"), **own}
-    needed = below(name, uses)
-    os.makedirs(folder, exist_ok=True)
-    with tempfile.TemporaryDirectory() as tree:
-        for it in needed:
-            if it in own:
-                put_program(it, tree)
-            else:
-                shutil.copytree(f"{repository}/crates/{it}", f"{tree}/crates/{it}", copy_function=link_or_copy)
-        with open(f"{tree}/crates.txt", "w", encoding="utf-8") as out:
-            out.writelines(f"{it}: {' '.join(uses[it])}\n" for it in sorted(needed))
-        # Without arguments and input it does nothing; what counts is that there is one.
-        at = f"{tree}/crates/{name}"
-        built = subprocess.run(["rt", "run"], cwd=at, stdin=subprocess.DEVNULL, capture_output=True, text=True)
-        program = f"{at}/out/{name}"
-        if not os.path.exists(program):
-            sys.exit(built.stdout + built.stderr)
-        shutil.copy(program, folder)
-        return os.path.join(folder, name)
+    """Proves and builds a program of bench/crates/ over the crates of a repository, which its own tools do; gives the
+    path of the program in the folder."""
+    words = [sys.executable, f"{repository}/tools/proofs.py", "build", PROGRAMS, name, folder]
+    if subprocess.run(words, check=False).returncode:
+        sys.exit(f"{name} isn't built")
+    return os.path.join(folder, name)
 
 
 def head(number: int, length: int, digest: str | None, has_type: bool = True) -> bytes:

@@ -2,11 +2,8 @@
 """Proves the crates of the library that C, Python and Rust call, and puts libwarc.a, libwarc.so and warc.h under
 out/lib.
 
-Usage: build_lib.py JOBS [FOLDER]
-
-The crates are proved below FOLDER (out/build if left out), as build.py proves those of the program, and beside them:
-what both use is proved once. The libraries are the proved functions, c/warc.c, and what the toolchain has of the C
-library's memory (liblibc_c.a).
+What the gate, `make` or an earlier run proved on this machine is taken as it is. The libraries are the proved
+functions, c/warc.c, and what the toolchain has of the C library's memory (liblibc_c.a).
 """
 from __future__ import annotations
 
@@ -19,18 +16,13 @@ import tempfile
 import time
 from collections.abc import Sequence
 
-from build import TREE, prove
+from proofs import Tree, kit
 from shared import TOP, matched, read
 
 CRATE = "warc_c"
 OUT = f"{TOP}/out/lib"
 COMPILER = os.environ.get("CC", "cc")
 FLAGS = ["-std=c11", "-O2", "-fPIC", "-Wall", "-Wextra", "-Wconversion", "-ffile-prefix-map=" + TOP + "=."]
-
-
-def kit() -> str:
-    """The toolchain's folder."""
-    return os.path.dirname(subprocess.run(["rt", "doc"], capture_output=True, text=True, check=True).stdout.strip())
 
 
 def run(words: Sequence[str], folder: str) -> None:
@@ -99,10 +91,10 @@ def link(proved: str, memory: str) -> None:
 
 def main() -> None:
     """Proves, builds and links."""
-    jobs, tree = int(sys.argv[1]), (sys.argv[2:] or [TREE])[0]
     begin = time.monotonic()
-    folder = prove(CRATE, ["lib"], jobs, tree)
-    link(f"{folder}/out/lib{CRATE}.a", f"{kit()}/c/liblibc_c.a")
+    tree = Tree("library")
+    with tree.in_turn():
+        link(f"{tree.build_static(CRATE, 'staticlib')}/out/lib{CRATE}.a", f"{kit()}/c/liblibc_c.a")
     print(f"out/lib has libwarc.a, libwarc.so and warc.h, {time.monotonic() - begin:.0f} s in all")
 
 

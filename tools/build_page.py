@@ -1,12 +1,11 @@
 #!/usr/bin/env python3
 """Builds the library for WebAssembly, and writes the reading room as one file: zogwedu.html.
 
-Usage: build_page.py [--module FILE] [FOLDER]
+Usage: build_page.py [--module FILE]
 
-The crates are copied to FOLDER (out/page-module, if left out), since the gate refuses crates for wasm64. There
-warc_page is one: its line of crates.txt, and nothing else, is changed. What was proved there is kept, and a later run
-proves only what changed. A folder that another user may write to isn't used. With --module, FILE is the module, and
-nothing is built.
+The gate refuses crates for wasm64, so warc_page is one in a copy of the crates outside the checkout: its line of
+crates.txt, and nothing else, is changed. The crates below it are those that the gate proves, and what it proved on this
+machine is taken as it is. With --module, FILE is the module, and nothing is built.
 
 The page holds DOMPurify, of Debian's package node-dompurify, and the inflating part of pako, of node-pako, with their
 licences.
@@ -16,14 +15,11 @@ from __future__ import annotations
 import base64
 import hashlib
 import json
-import os
 import re
-import stat
-import subprocess
 import sys
 
-from build import copy_crate
-from shared import TOP, below, crates, read, version
+from proofs import Tree
+from shared import TOP, read, version
 
 MODULE = "warc_page"
 SCRIPTS = (
@@ -77,33 +73,11 @@ return module.exports;
 """
 
 
-def own_folder(path: str) -> str:
-    """A folder that nobody but this user may write to; it is made if it isn't there."""
-    os.makedirs(path, mode=0o700, exist_ok=True)
-    found = os.lstat(path)
-    if not stat.S_ISDIR(found.st_mode) or found.st_uid != os.getuid() or found.st_mode & (stat.S_IWGRP | stat.S_IWOTH):
-        sys.exit(f"{path} isn't a folder that this user alone may write to")
-    return path
-
-
-def build_module(tree: str) -> str:
-    """Builds the module in a copy of the tree, and gives its path."""
-    uses = crates()
-    names = below(MODULE, uses)
-    for name in names:
-        copy_crate(name, tree)
-    with open(f"{tree}/crates.txt", "w", encoding="utf-8") as out:
-        for name in names:
-            kind = " wasm64" if name == MODULE else ""
-            out.write(f"{name}{kind}: {' '.join(uses[name])}\n")
-    with open(f"{tree}/HANDLES", "w", encoding="utf-8") as out:
-        out.write(read("HANDLES"))
-    folder = f"{tree}/crates/{MODULE}"
-    with open(f"{tree}/log", "w", encoding="utf-8") as log:
-        run = subprocess.run(["rt", "lib"], cwd=folder, stdout=log, stderr=subprocess.STDOUT, check=False)
-    if run.returncode != 0:
-        sys.exit(f"the module isn't built: see {tree}/log")
-    return f"{folder}/out/{MODULE}.wasm"
+def build_module() -> bytes:
+    """Proves and builds the module."""
+    tree = Tree("page")
+    with tree.in_turn(), open(f"{tree.build_static(MODULE, 'wasm64')}/out/{MODULE}.wasm", "rb") as module:
+        return module.read()
 
 
 def debian(path: str, missing: str, has: str, has_not: str = "</?script") -> str:
@@ -166,13 +140,12 @@ def page(module: bytes) -> str:
 
 def main() -> None:
     """Writes zogwedu.html."""
-    words = sys.argv[1:]
-    given = None
-    if words[:1] == ["--module"]:
-        given, words = words[1], words[2:]
-    path = given or build_module(own_folder((words or [f"{TOP}/out/page-module"])[0]))
-    with open(path, "rb") as module:
-        text = page(module.read())
+    given = sys.argv[2] if sys.argv[1:2] == ["--module"] else None
+    if given:
+        with open(given, "rb") as module:
+            text = page(module.read())
+    else:
+        text = page(build_module())
     with open(f"{TOP}/zogwedu.html", "w", encoding="utf-8", newline="\n") as out:
         out.write(text)
     print(f"zogwedu.html is written: {len(text.encode()):,} bytes")

@@ -14,6 +14,8 @@ It reports, a line each, and exits with 1 where there is any:
   that has no line `why:`; two of one crate with one name; more than the gate has time for;
 - a number of a paper or of a request in place of a plain name;
 - a file of src/ that doesn't begin with `//!`, which says what is in it;
+- a crates.txt, or a file of a crate's, that lies below the checkout and outside of crates/, also where git doesn't see
+  it: the gate stops there, so no target may leave one;
 - a name in src/ or specs/ with one of the words that docs/GLOSSARY.md gives up for another, such as `tells`, and a
   file of src/ that is called by a gerund.
 """
@@ -220,6 +222,17 @@ def without_head(top: str, paths: list[str]) -> Iterator[str]:
             yield path
 
 
+def strays(top: str, _: list[str]) -> Iterator[str]:
+    """What stops the gate wherever it lies: `crates/NAME/out` alone is set aside."""
+    for at, folders, names in os.walk(top):
+        inside = os.path.relpath(at, top).split("/")
+        folders[:] = [] if inside[0] == "crates" and "out" in inside else sorted(set(folders) - {".git"})
+        for name in names:
+            is_list = name in ("crates.txt", "BUILD.bazel", "MODULE.bazel") and inside != ["."]
+            if is_list or name.endswith((".rt", ".antt")) and inside[0] != "crates":
+                yield os.path.relpath(f"{at}/{name}", top)
+
+
 def retired_names(top: str, paths: list[str]) -> Iterator[str]:
     for path in paths:
         if not re.fullmatch(r"crates/\w+/(src/.*\.rt|specs/.*\.antt)", path):
@@ -246,6 +259,7 @@ def main(words: list[str]) -> int:
             ("bad edit", bad_edits),
             ("number of a paper", numbers_of_papers),
             ("no first line //!", without_head),
+            ("stops the gate", strays),
             ("retired name", retired_names),
         )
         for line in check(top, paths)

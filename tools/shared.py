@@ -40,10 +40,15 @@ def without_comment(line: str) -> str:
     return line.partition("#")[0].strip()
 
 
-def rows() -> dict[str, tuple[str, list[str]]]:
-    """What a line of crates.txt says before its colon, by the crate's name, and which libraries the crate uses."""
-    lines = [line.partition(":") for line in map(without_comment, read("crates.txt").splitlines()) if line]
+def rows_in(text: str) -> dict[str, tuple[str, list[str]]]:
+    """What a line of a list of crates says before its colon, by the crate's name, and which libraries it uses."""
+    lines = [line.partition(":") for line in map(without_comment, text.splitlines()) if line]
     return {front.split()[0]: (front, uses.split()) for front, _, uses in lines}
+
+
+def rows() -> dict[str, tuple[str, list[str]]]:
+    """The same of crates.txt."""
+    return rows_in(read("crates.txt"))
 
 
 def groups() -> dict[str, list[str]]:

@@ -1,4 +1,5 @@
-"""The build of the page: a folder that others may write to isn't used, and packages that are missing are named."""
+"""The build of the page: a folder that others may write to isn't used, a missing home is said, and packages that are
+missing are named."""
 
 from __future__ import annotations
 
@@ -12,9 +13,12 @@ WITHOUT_PURIFIER = "import build_page; build_page.PURIFIER = '/nowhere/purify.js
 WITHOUT_INFLATER = "import build_page; build_page.INFLATER = '/nowhere'; build_page.inflater()"
 
 
-def outcome(words: list[str]) -> tuple[int, str]:
+def outcome(words: list[str], build: str = "", home: str = "") -> tuple[int, str]:
     """The status of a run in the folder of the tools, and what it said."""
-    run = subprocess.run([sys.executable, *words], cwd=f"{TOP}/tools", capture_output=True, text=True, check=False)
+    places = {"ZOGWEDU_BUILD": build, "XDG_CACHE_HOME": "", "HOME": home}
+    words = [sys.executable, *words]
+    env = {**os.environ, **places}
+    run = subprocess.run(words, cwd=f"{TOP}/tools", env=env, capture_output=True, text=True, check=False)
     return run.returncode, run.stderr
 
 
@@ -23,14 +27,18 @@ def building(tests: Any, folder: str) -> None:
     shared = f"{folder}/shared"
     os.mkdir(shared)
     os.chmod(shared, 0o777)
-    status, words = outcome(["build_page.py", shared])
+    status, words = outcome(["build_page.py"], shared)
     tests.holds(status == 1 and "alone may write to" in words, "building: in a folder of others", (status, words))
     os.mkdir(f"{folder}/own", 0o700)
     os.symlink(f"{folder}/own", f"{folder}/link")
-    status, words = outcome(["build_page.py", f"{folder}/link"])
+    status, words = outcome(["build_page.py"], f"{folder}/link")
     tests.holds(
         status == 1 and "alone may write to" in words, "building: in a folder that a link names", (status, words)
     )
+    status, words = outcome(["build_page.py"])
+    tests.holds(status == 1 and "set ZOGWEDU_BUILD" in words, "building: without a home", (status, words))
+    status, words = outcome(["build_page.py"], home="/proc/nowhere")
+    tests.holds(status == 1 and "set ZOGWEDU_BUILD" in words, "building: in a home that isn't there", (status, words))
     for package, code in (("node-dompurify", WITHOUT_PURIFIER), ("node-pako", WITHOUT_INFLATER)):
         status, words = outcome(["-c", code])
         tests.holds(
