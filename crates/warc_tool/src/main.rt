@@ -1,9 +1,120 @@
 //! The program `warc`: opens the archive that its words name, and does what they ask for.
 #![tactic(auto)]
 
+mod answers;
+mod files;
+
+use answers::hint_answer;
+use files::Files;
+use std::cell::Cell;
+use std::io::{self, IsTerminal};
 use std::process::ExitCode;
-use warc_program::run_program;
+use warc_arguments::{CommandLine, Request};
+use warc_commands::run;
+use warc_frame::Sink;
+use warc_host::{Ended, ErasingSink, Host, Progress, ShownSink, hint, words};
+
+/// The exit status where a write failed.
+const FAILED: u8 = 3;
+
+/// What the words of the command line name, or why they aren't text.
+fn read_line<'a>(
+    rt: &HostRuntime,
+    words: &'a io::Result<Vec<String>>,
+) -> io::Result<CommandLine<'a>> {
+    match words {
+        Ok(words) => Ok(CommandLine::read(rt.alloc(), words.as_slice())),
+        Err(error) => Err(io::Error::from(error.kind())),
+    }
+}
+
+/// What a command line asks for, if it names a command.
+fn request_of<'a>(line: &io::Result<CommandLine<'a>>) -> Option<Request<'a>> {
+    let Ok(line) = line else {
+        return None;
+    };
+    match line.parsed() {
+        Ok(request) => Some(*request),
+        Err(_) => None,
+    }
+}
+
+/// Does what a command line says, and returns the exit status.
+fn status_of<'a, W: Sink, E: Sink>(
+    files: &Files<'a>,
+    line: &io::Result<CommandLine<'_>>,
+    out: &mut W,
+    err: &mut E,
+) -> u8 {
+    let (status, _) = run(files.host.rt.alloc(), files, line, out, err);
+    status
+}
+
+/// Writes lines for people after a run that ended so, and reported this on standard error.
+fn give_hints(
+    files: &Files<'_>,
+    line: &CommandLine<'_>,
+    request: &Request<'_>,
+    status: u8,
+    report: &[u8],
+) {
+    let Host {
+        rt,
+        progress,
+        reason,
+        ..
+    } = &files.host;
+    let ended = Ended {
+        status,
+        packing: progress.packing(),
+        reason: reason.get(),
+    };
+    let _ = hint(rt, line.words(), request, ended);
+    let _ = hint_answer(&files.host, request, report);
+    progress.erase();
+}
+
+/// Runs a command line over the files and the outputs of the system, and returns the exit status.
+fn run_line(
+    files: &Files<'_>,
+    line: &io::Result<CommandLine<'_>>,
+    request: Option<Request<'_>>,
+) -> u8 {
+    let Host { rt, progress, .. } = &files.host;
+    let is_text = !request.is_some_and(|it| it.command.gives_bytes());
+    let mut out = ShownSink::new(rt.stdout(), is_text && rt.stdout().is_terminal());
+    let is_terminal = rt.stderr().is_terminal();
+    let mut err = ErasingSink::new(ShownSink::new(rt.stderr(), is_terminal), progress);
+    let status = status_of(files, line, &mut out, &mut err);
+    let status = if out.end() { status } else { FAILED };
+    err.sink.end();
+    progress.erase();
+    if let (Ok(line), Some(request)) = (line, &request)
+        && (is_terminal || request.hints)
+    {
+        give_hints(files, line, request, status, err.report.as_slice());
+    }
+    status
+}
+
+/// Runs the program over the words, the files and the outputs of the system, and returns the exit status.
+fn run_program(rt: &HostRuntime) -> u8 {
+    let words = words(rt);
+    let line = read_line(rt, &words);
+    let request = request_of(&line);
+    let progress = Progress::new(rt, request.is_some_and(|it| it.quiet));
+    let reason = Cell::new(None);
+    let files = Files {
+        host: Host {
+            rt,
+            progress: &progress,
+            reason: &reason,
+            list: request.and_then(|it| it.command.list_path()),
+        },
+    };
+    run_line(&files, &line, request)
+}
 
 fn main(rt: HostRuntime) -> ExitCode {
-    run_program(&rt)
+    ExitCode::from(run_program(&rt))
 }

@@ -69,11 +69,25 @@ fn positions_of(report: &[u8]) -> Option<(usize, usize)> {
     Some((usize::from_str(chosen).ok()?, usize::from_str(given).ok()?))
 }
 
-/// Writes the date of the earliest capture of a URI.
+/// Writes the date of the earliest capture of a URI, if the file is an archive that has one.
 fn hint_earliest(host: &Host<'_>, file: HostFile<'_>, uri: &[u8]) -> io::Result<()> {
-    let Ok(archive) = Archive::open(host.rt.alloc(), file) else {
-        return Ok(());
-    };
+    match Archive::open(host.rt.alloc(), file) {
+        Ok(archive) => {
+            let written = write_earliest(host, &archive, uri);
+            // The parts of an archive are let go in one place: each exit that drops them is proved anew.
+            let _file = archive.into_source();
+            written
+        }
+        Err(_) => Ok(()),
+    }
+}
+
+/// Writes the date of the earliest capture of a URI.
+fn write_earliest(
+    host: &Host<'_>,
+    archive: &Archive<HostFile<'_>>,
+    uri: &[u8],
+) -> io::Result<()> {
     let Ok(positions) = archive.captures_of(uri) else {
         return Ok(());
     };
@@ -90,16 +104,30 @@ fn hint_earliest(host: &Host<'_>, file: HostFile<'_>, uri: &[u8]) -> io::Result<
     }
 }
 
-/// Writes that two records state different payload digests, if both state one.
+/// Writes that two records of a file state different payload digests, if both state one.
 fn hint_digests(
     host: &Host<'_>,
     file: HostFile<'_>,
     chosen: usize,
     given: usize,
 ) -> io::Result<()> {
-    let Ok(mut listing) = Listing::open(host.rt.alloc(), file) else {
-        return Ok(());
-    };
+    match Listing::open(host.rt.alloc(), file) {
+        Ok(mut listing) => {
+            let written = compare_digests(host, &mut listing, chosen, given);
+            let _file = listing.into_source();
+            written
+        }
+        Err(_) => Ok(()),
+    }
+}
+
+/// Writes that two records state different payload digests, if both state one.
+fn compare_digests(
+    host: &Host<'_>,
+    listing: &mut Listing<HostFile<'_>>,
+    chosen: usize,
+    given: usize,
+) -> io::Result<()> {
     let (Ok(first), Ok(second)) = (listing.head(chosen), listing.head(given)) else {
         return Ok(());
     };

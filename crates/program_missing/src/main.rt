@@ -1,9 +1,0 @@
-//! Lists a file that isn't there: nothing is written, and the status is 3.
-#![tactic(auto)]
-
-use std::process::ExitCode;
-use warc_program::run_program;
-
-fn main(rt: HostRuntime) -> ExitCode {
-    run_program(&rt)
-}

@@ -1,9 +1,0 @@
-//! Gives a body that a file holds: the status is 0.
-#![tactic(auto)]
-
-use std::process::ExitCode;
-use warc_program::run_program;
-
-fn main(rt: HostRuntime) -> ExitCode {
-    run_program(&rt)
-}
