@@ -21,7 +21,7 @@ use Rattle.warc_answer.specs.Answers.{Given, IsAnswer}
 use Rattle.warc_answer.specs.declared.answer.Reason.{Reason}
 use Rattle.warc_reading.specs.Archive.{AreGood, IsArchiveOf, IsFaultOf, contents}
 use Rattle.warc.specs.Forms.{record_as, texts_as}
-use Rattle.warc_reading.specs.Indexed.{Archived, IsIndexed}
+use Rattle.warc.specs.Indexed.{Archived, IsIndexed}
 use Rattle.warc.specs.Laws.{AreSpelledBy, MigrationKeepsAnswers, NoFaultWhereSpelled, WrittenOpensAsSame, WrittenSpells}
 use Rattle.warc_reading.specs.Opening.{RefusesBy, faults_after}
 use Rattle.warc_reading.specs.Row.{Placed, Row}

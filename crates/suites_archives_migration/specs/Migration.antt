@@ -9,7 +9,7 @@ use Rattle.warc_answer.specs.Answers.{Given, IsAnswer}
 use Rattle.warc_answer.specs.declared.answer.Reason.{Reason}
 use Rattle.warc_reading.specs.Archive.{IsArchiveOf, contents}
 use Rattle.warc.specs.Forms.{texts_as}
-use Rattle.warc_reading.specs.Indexed.{Archived, IsIndexed}
+use Rattle.warc.specs.Indexed.{Archived, IsIndexed}
 use Rattle.warc_reading.specs.Row.{Row}
 use Rattle.warc.specs.declared.rewrite.forms.Form.TheVariants.{Converted}
 use Rattle.suites_archives_migration.specs.Opened.{IsRefused}

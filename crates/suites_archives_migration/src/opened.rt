@@ -1,6 +1,6 @@
 //! Archives in memory.
 ghost use Rattle.std.specs.Prelude.{◌≡◌, IfErr, IfOk};
-ghost use Rattle.warc_reading.specs.Indexed.{IsIndexed};
+ghost use Rattle.warc.specs.Indexed.{IsIndexed};
 ghost use Rattle.suites_archives_migration.specs.Opened.{IsRefused};
 
 use std::alloc::Global;

@@ -22,7 +22,7 @@ use Rattle.warc_answer.specs.Stored.{IsStoredAt, IsStoredOn}
 use Rattle.warc_answer.specs.declared.answer.Path.{Path}
 use Rattle.warc_answer.specs.declared.answer.ReplayFault.TheVariants.{Out}
 use Rattle.warc_reading.specs.Archive.{contents}
-use Rattle.warc_reading.specs.Indexed.{AreOf, indexed_record}
+use Rattle.warc.specs.Indexed.{AreOf, indexed_record}
 use Rattle.warc_reading.specs.Row.{Placed, Row}
 use Rattle.warc.specs.Origins.{IsRecordAt}
 use Rattle.warc_answer.specs.declared.answer.Reason.{Reason as Why}

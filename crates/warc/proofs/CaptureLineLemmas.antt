@@ -25,7 +25,7 @@ use Rattle.warc_segment.specs.Kept.{Kept as Parts}
 use Rattle.warc_answer.specs.Seen.{IsEarly}
 use Rattle.warc_answer.specs.declared.answer.ReplayFault.TheVariants.{Out}
 use Rattle.warc_reading.specs.Archive.{IsArchiveOf, contents}
-use Rattle.warc_reading.specs.Indexed.{AreOf}
+use Rattle.warc.specs.Indexed.{AreOf}
 use Rattle.warc_reading.specs.Row.{Placed, Row}
 use Rattle.warc.specs.Captures.{capture_line, captures_text}
 use Rattle.warc.specs.Capturing.{AreFirstOutcomes, AreIndexedAt, AreOutcomes, IsIndexedAt, PutsCaptures, SendsCaptures, ended_after}

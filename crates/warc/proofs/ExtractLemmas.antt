@@ -16,7 +16,7 @@ use Rattle.warc_frame.specs.declared.fault.OutFault.TheVariants as outs
 use Rattle.warc_reading.specs.Archive.{IsArchiveOf}
 use Rattle.warc.specs.Extracting.{Extracts, IsExtract, extracted, position_with}
 use Rattle.warc.specs.Parts.{GivesPart, IsGivenCut, ReadsPart, part_len, part_start, part_text}
-use Rattle.warc_reading.specs.Indexed.{Archived, AreOf}
+use Rattle.warc.specs.Indexed.{Archived, AreOf}
 use Rattle.warc_reading.specs.Row.{Placed, Row, row_of}
 use Rattle.warc_reading.specs.Placing.{IsPlacedIn}
 use Rattle.warc.specs.declared.fault.ExtractFault.{ExtractFault}

@@ -8,7 +8,7 @@ use Rattle.warc_record.specs.Readings.{reading_of}
 use Rattle.warc_segment.specs.Series.{Piece, series_of}
 use Rattle.warc_index.specs.Referents.{next_of}
 use Rattle.warc_index.specs.Walks.{walk}
-use Rattle.warc_reading.specs.Indexed.{indexed_record}
+use Rattle.warc.specs.Indexed.{indexed_record}
 use Rattle.warc_reading.specs.Archive.{IsArchiveOf}
 use Rattle.warc_reading.specs.Row.{Placed, Row}
 use Rattle.warc.specs.declared.rewrite.remainder.Status.{Status}

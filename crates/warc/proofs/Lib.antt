@@ -17,9 +17,11 @@ pub mod SurveyLemmas
 pub mod WaitingLemmas
 pub mod WholeLemmas
 pub mod TakeLemmas
+pub mod ConversionLemmas
 pub mod MigrationLemmas
 pub mod KeptLemmas
 pub mod LookLemmas
+pub mod LookupLemmas
 pub mod CaptureLemmas
 pub mod CaptureLineLemmas
 pub mod HeadingLemmas

@@ -33,7 +33,7 @@ use Rattle.warc_answer.specs.declared.answer.ReplayFault.TheVariants.{Reason, Ou
 use Rattle.warc_answer.specs.declared.stored.Stored.{Stored}
 use Rattle.warc_answer.proofs.GiveLemmas.{places_lie, places_text}
 use Rattle.warc_reading.specs.Archive.{IsArchiveOf, SpellsFrom, contents}
-use Rattle.warc_reading.specs.Indexed.{AreOf}
+use Rattle.warc.specs.Indexed.{AreOf}
 use Rattle.warc_reading.specs.Row.{Placed, Row}
 use Rattle.warc.specs.Finding.{IsFoundAt, IsOtherRow}
 use Rattle.warc.specs.Looking.{AsksWithin, IsLook, IsSent, Judges, Looks, ReadsOrigin, SendsStored}

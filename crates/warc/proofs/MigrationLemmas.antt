@@ -6,7 +6,6 @@ use Rattle.warc_frame.specs.Spelling.{SpellsAll, canonical}
 use Rattle.warc_write.specs.Conversion.{ConvertedStaysGood, converted}
 use Rattle.warc_write.specs.Rendering.{RenderedOpensAsSame, canonical_texts}
 use Rattle.warc_answer.specs.Answers.{Given, IsAnswer}
-use Rattle.warc_answer.specs.Laws.{ConversionKeepsAnswers}
 use Rattle.warc_answer.specs.Replays.{IsReplay}
 use Rattle.warc_answer.specs.declared.answer.Answer.{Answer}
 use Rattle.warc_answer.specs.declared.answer.Reason.{Reason as Why}
@@ -14,7 +13,7 @@ use Rattle.warc_answer.specs.declared.answer.ReplayFault.{ReplayFault}
 use Rattle.warc_answer.specs.declared.answer.ReplayFault.TheVariants.{Reason, Out}
 use Rattle.warc_reading.specs.Archive.{AreGood, contents}
 use Rattle.warc.specs.Forms.{record_as, texts_as}
-use Rattle.warc.specs.Laws.{MigrationKeepsAnswers, MigrationKeepsReplays, WrittenOpensAsSame, WrittenSpells}
+use Rattle.warc.specs.Laws.{ConversionKeepsAnswers, MigrationKeepsAnswers, MigrationKeepsReplays, WrittenOpensAsSame, WrittenSpells}
 use Rattle.warc.specs.declared.rewrite.forms.Form.{Form}
 use Rattle.warc.specs.declared.rewrite.forms.Form.TheVariants.{Canonical, Converted}
 use Rattle.warc_reading.proofs.StreamLemmas.{spells_all}

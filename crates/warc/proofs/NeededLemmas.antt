@@ -16,7 +16,7 @@ use Rattle.warc_segment.specs.Series.{IsMemberAt, Piece, series_of}
 use Rattle.warc_answer.specs.Answers.{index_of}
 use Rattle.warc_answer.specs.Payloads.{read_record}
 use Rattle.warc_reading.specs.Archive.{IsArchiveOf}
-use Rattle.warc_reading.specs.Indexed.{indexed_record, placed_record}
+use Rattle.warc.specs.Indexed.{indexed_record, placed_record}
 use Rattle.warc_reading.specs.Row.{Placed, Row}
 use Rattle.warc.specs.declared.rewrite.needs.Mark.{Mark}
 use Rattle.warc.specs.declared.rewrite.needs.Mark.TheVariants.{Free, Segment}

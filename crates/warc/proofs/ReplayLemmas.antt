@@ -29,7 +29,7 @@ use Rattle.warc_answer.specs.declared.answer.ReplayFault.TheVariants.{Out}
 use Rattle.warc_answer.specs.declared.answer.Path.{Path}
 use Rattle.warc_reading.specs.Archive.{SpellsFrom, contents}
 use Rattle.warc_reading.specs.Rereading.{IsInHead, ReadsHeads, ended_by, heads_len}
-use Rattle.warc_reading.specs.Indexed.{indexed_record, place_of, placed_record}
+use Rattle.warc.specs.Indexed.{indexed_record, place_of, placed_record}
 use Rattle.warc.specs.Looking.{ArePlacesFor}
 use Rattle.warc.specs.Replaying.{IsOfOrigin, joined_len, origin_joined, reads_of}
 use Rattle.warc_reading.specs.Row.{Placed, Row, row_of}

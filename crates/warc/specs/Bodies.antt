@@ -15,7 +15,7 @@ use Rattle.warc_answer.specs.Replays.{IsReplayOn, IsSilent, out_result}
 use Rattle.warc_answer.specs.Seen.{IsEarly}
 use Rattle.warc_answer.specs.declared.answer.Answer.{Answer}
 use Rattle.warc_reading.specs.Archive.{IsArchiveOf, contents}
-use Rattle.warc_reading.specs.Indexed.{AreOf}
+use Rattle.warc.specs.Indexed.{AreOf}
 use Rattle.warc_reading.specs.Row.{Row}
 use Rattle.warc.specs.Replaying.{AsksInside, IsIndexedBy, ReadsPath}
 use Rattle.warc.specs.declared.fault.BodyFault.{BodyFault}

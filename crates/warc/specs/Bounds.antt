@@ -1,9 +1,9 @@
 -- How much may be kept of an archive: the texts of a head may be kept for two ends, and none more than twice.
 use Rattle.std.specs.Prelude.{◌≡◌, ℕ, ◌*◌, ◌-◌, ◌≤◌}
 use Rattle.std.specs.List.{sum_by}
-use Rattle.warc_reading.specs.Indexed.{Archived}
-use Rattle.warc_reading.specs.Keeping.{kept_bytes, texts_len}
-use Rattle.warc_reading.specs.Row.{Row}
+use Rattle.warc.specs.Indexed.{Archived}
+use Rattle.warc.specs.Keeping.{kept_bytes}
+use Rattle.warc_reading.specs.Row.{Row, texts_len}
 
 -- how many bytes the head of a row's record has, from its version line to its empty line
 abbrev pub head_length : Row → ℕ

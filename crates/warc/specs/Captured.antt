@@ -1,7 +1,7 @@
 -- An archive whose blocks were judged as they were read, as one value, and what it says of the bytes of its source.
 use Rattle.std.specs.Prelude.{◌≡◌, ℕ, List, map}
 use Rattle.warc_value.specs.declared.hash.Verdict.{Verdict}
-use Rattle.warc_reading.specs.Indexed.{Archived, IsIndexed}
+use Rattle.warc.specs.Indexed.{Archived, IsIndexed}
 use Rattle.warc_reading.specs.Judging.{verdict_on}
 use Rattle.warc_reading.specs.Row.{Placed}
 

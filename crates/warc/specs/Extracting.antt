@@ -6,7 +6,7 @@ use Rattle.warc_frame.specs.Failing.{failed_by}
 use Rattle.warc_frame.specs.Seen.{IfHeld, Seen, SeenSource}
 use Rattle.warc_record.specs.Ids.{id_key}
 use Rattle.warc_index.specs.Referents.{first_with}
-use Rattle.warc_reading.specs.Indexed.{Archived, IsIndexed, indexed_record}
+use Rattle.warc.specs.Indexed.{Archived, IsIndexed, indexed_record}
 use Rattle.warc_reading.specs.Row.{Placed, row_of}
 use Rattle.warc.specs.Parts.{IsGiven, ReadsPart, extract_result, part_text}
 use Rattle.warc.specs.declared.fault.ExtractFault.{ExtractFault}

@@ -5,7 +5,7 @@ use Rattle.warc_index.specs.Captures.{is_capture}
 use Rattle.warc_index.specs.Orders.{Indexes}
 use Rattle.warc_segment.specs.Kept.{Kept as Parts}
 use Rattle.warc_answer.specs.Answers.{path_from}
-use Rattle.warc_reading.specs.Indexed.{AreOf, indexed_record}
+use Rattle.warc.specs.Indexed.{AreOf, indexed_record}
 use Rattle.warc_reading.specs.Row.{Placed, Row}
 use Rattle.warc.specs.declared.replay.body.Found.{Found}
 use Rattle.warc.specs.declared.replay.body.Found.TheVariants.{NoRecord, NoCapture, Capture}

@@ -16,6 +16,8 @@ use Rattle.warc_answer.specs.declared.answer.ReplayFault.{ReplayFault}
 use Rattle.warc_reading.specs.Archive.{AreGood, IsArchiveOf, IsFaultOf, contents}
 use Rattle.warc_reading.specs.Opening.{IsRefusalOf, faults_after}
 use Rattle.warc_checking.specs.Checking.{check_text}
+use Rattle.warc_write.specs.Conversion.{converted}
+use Rattle.warc_write.specs.Rendering.{AllGood}
 use Rattle.warc.specs.Captures.{full_date}
 use Rattle.warc.specs.Forms.{record_as, texts_as}
 use Rattle.warc.specs.Listing.{listing}
@@ -85,6 +87,12 @@ abbrev pub WrittenOpensAsSame : Type 0
 WrittenOpensAsSame = (form : Form) (records : List Record) → AreGood records
     → (rows : List Row) (is : IsArchiveOf (texts_as form records) rows)
     → contents is.are.records ≡ map (record_as form) records
+
+-- converting good records changes no answer
+abbrev pub ConversionKeepsAnswers : Type 0
+ConversionKeepsAnswers =
+    (records : List Record) (uri : List ℕ) (moment : Instant) (outcome : Result Given Reason) → AllGood records
+    → IsAnswer (map converted records) uri moment outcome ↔ IsAnswer records uri moment outcome
 
 -- an archive of what is written of good records as records of WARC 1.1
 abbrev pub IsMigrated : List Record → List Row → Type 0

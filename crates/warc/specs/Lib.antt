@@ -14,7 +14,9 @@ pub mod Extracting
 pub mod Finding
 pub mod Front
 pub mod Heading
+pub mod Indexed
 pub mod Judged
+pub mod Keeping
 pub mod Laws
 pub mod Listing
 pub mod Looking

@@ -15,7 +15,7 @@ use Rattle.warc_answer.specs.Seen.{IsEarly}
 use Rattle.warc_answer.specs.declared.answer.Path.{Path}
 use Rattle.warc_answer.specs.declared.answer.ReplayFault.{ReplayFault}
 use Rattle.warc_reading.specs.Archive.{IsArchiveOf, contents}
-use Rattle.warc_reading.specs.Indexed.{AreOf}
+use Rattle.warc.specs.Indexed.{AreOf}
 use Rattle.warc_reading.specs.Row.{Placed, Row}
 use Rattle.warc.specs.Bodies.{IsCaptureAt, IsEarlyAt, IsOtherAt}
 use Rattle.warc.specs.Replaying.{AsksInside, IsIndexedBy, IsOnPath, ReadsPath, path_reads}

@@ -11,7 +11,7 @@ use Rattle.warc_segment.specs.Joined.{piece_placed}
 use Rattle.warc_segment.specs.Kept.{Kept as Parts}
 use Rattle.warc_segment.specs.Series.{IsMemberAt, Piece, series_of}
 use Rattle.warc_reading.specs.Archive.{IsArchiveOf}
-use Rattle.warc_reading.specs.Indexed.{placed_record}
+use Rattle.warc.specs.Indexed.{placed_record}
 use Rattle.warc_reading.specs.Rereading.{ReadsHeads}
 use Rattle.warc_reading.specs.Row.{Placed, Row}
 use Rattle.warc.specs.Selecting.{ArePositions}

@@ -19,7 +19,7 @@ use Rattle.warc_answer.specs.declared.answer.Reason.TheVariants.{Segments}
 use Rattle.warc_answer.specs.declared.answer.ReplayFault.{ReplayFault}
 use Rattle.warc_answer.specs.declared.answer.ReplayFault.TheVariants.{Reason, Out}
 use Rattle.warc_reading.specs.Archive.{IsArchiveOf, contents}
-use Rattle.warc_reading.specs.Indexed.{placed_record}
+use Rattle.warc.specs.Indexed.{placed_record}
 use Rattle.warc_reading.specs.Row.{Placed, Row}
 use Rattle.warc.specs.Replaying.{IsOfOrigin, reads_of}
 use Rattle.warc.specs.declared.replay.origin.Origin.{Origin}

@@ -20,7 +20,7 @@ use Rattle.warc_answer.specs.declared.answer.ReplayFault.{ReplayFault}
 use Rattle.warc_answer.specs.declared.answer.ReplayFault.TheVariants.{Reason, Out}
 use Rattle.warc_answer.specs.declared.hashed.PayloadDigest.{PayloadDigest}
 use Rattle.warc_reading.specs.Archive.{IsArchiveOf, contents}
-use Rattle.warc_reading.specs.Indexed.{AreOf}
+use Rattle.warc.specs.Indexed.{AreOf}
 use Rattle.warc_reading.specs.Row.{Placed, Row, row_of}
 use Rattle.warc.specs.Capturing.{IsIndexedAt}
 use Rattle.warc.specs.Looking.{AsksWithin}

@@ -22,7 +22,7 @@ use Rattle.warc_answer.specs.Payloads.{is_http_response}
 use Rattle.warc_answer.specs.Seen.{IsEarly}
 use Rattle.warc_answer.specs.declared.answer.ReplayFault.TheVariants.{Out}
 use Rattle.warc_reading.specs.Archive.{IsArchiveOf, contents}
-use Rattle.warc_reading.specs.Indexed.{AreOf}
+use Rattle.warc.specs.Indexed.{AreOf}
 use Rattle.warc_reading.specs.Row.{Row}
 use Rattle.warc.specs.Fixity.{digest_at}
 use Rattle.warc.specs.Replaying.{AsksInside, IsIndexedBy}

@@ -18,7 +18,7 @@ use Rattle.warc_answer.specs.declared.answer.ReplayFault.{ReplayFault}
 use Rattle.warc_index.specs.Orders.{Indexes}
 use Rattle.warc_segment.specs.Kept.{Kept as Parts}
 use Rattle.warc_reading.specs.Archive.{IsArchiveOf, contents}
-use Rattle.warc_reading.specs.Indexed.{AreOf, placed_record}
+use Rattle.warc.specs.Indexed.{AreOf, placed_record}
 use Rattle.warc_reading.specs.Row.{Placed, Row}
 
 -- how many bytes the blocks have that are joined, none where they don't join

@@ -8,7 +8,7 @@ use Rattle.warc_index.specs.Orders.{Indexes}
 use Rattle.warc_index.specs.declared.unfound.Unfound.{Unfound}
 use Rattle.warc_segment.specs.Kept.{Kept as Parts}
 use Rattle.warc_reading.specs.Archive.{IsArchiveOf, contents}
-use Rattle.warc_reading.specs.Indexed.{AreOf}
+use Rattle.warc.specs.Indexed.{AreOf}
 use Rattle.warc_reading.specs.Placing.{IsPlacedIn}
 use Rattle.warc_reading.specs.Row.{Placed, Row, row_of}
 use Rattle.warc.specs.declared.fault.TakeFault.{TakeFault}

@@ -10,7 +10,7 @@ use Rattle.warc_segment.specs.Series.{IsMemberAt, Piece, series_of}
 use Rattle.warc_answer.specs.Seen.{IsEarly}
 use Rattle.warc_answer.specs.declared.answer.ReplayFault.TheVariants.{Out}
 use Rattle.warc_reading.specs.Archive.{IsArchiveOf}
-use Rattle.warc_reading.specs.Indexed.{AreOf}
+use Rattle.warc.specs.Indexed.{AreOf}
 use Rattle.warc_reading.specs.Rereading.{ReadsHeads}
 use Rattle.warc_reading.specs.Row.{Placed, Row}
 use Rattle.warc_index.specs.Orders.{Indexes}

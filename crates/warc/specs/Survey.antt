@@ -18,7 +18,7 @@ use Rattle.warc_value.specs.declared.hash.Wanted.TheVariants.{Sha1, Unchecked as
 use Rattle.warc_index.specs.Orders.{Indexes}
 use Rattle.warc_segment.specs.Kept.{Kept as Parts}
 use Rattle.warc_reading.specs.Archive.{Contents, IsArchiveOf, contents}
-use Rattle.warc_reading.specs.Indexed.{AreOf}
+use Rattle.warc.specs.Indexed.{AreOf}
 use Rattle.warc_reading.specs.Judging.{verdict_on}
 use Rattle.warc_reading.specs.Row.{Placed, Row}
 use Rattle.warc_checking.specs.Checking.{check_text}

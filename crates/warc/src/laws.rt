@@ -2,18 +2,17 @@
 ghost use Rattle.warc.specs.ClosedLaws.{AnswersAreKept, BodiesAreKept, LinesAreKept, NeededAreClosed};
 ghost use Rattle.warc.specs.ClosedLaws.{OthersAreClosed, OutcomesAreKept, StoredBodiesAreKept};
 ghost use Rattle.warc.specs.Laws.{ArchivesSpell, FaultsAreStable, FullDatesAreInstants, NoFaultWhereSpelled, OneFault};
-ghost use Rattle.warc.specs.Laws.{MigrationKeepsAnswers, MigrationKeepsReplays, OutputsAreCounted, SomeFaultElse};
+ghost use Rattle.warc.specs.Laws.{ConversionKeepsAnswers, MigrationKeepsAnswers, MigrationKeepsReplays, OutputsAreCounted, SomeFaultElse};
 ghost use Rattle.warc.specs.Laws.{RecordsAreSpelled, RecordsAreTheSame, RefusedForFault};
 ghost use Rattle.warc.specs.Laws.{AllGiveTheArchive, OthersAreTheRest};
 ghost use Rattle.warc.specs.Laws.{SelectionIsAnArchive, SelectionIsOfTheSelected};
 ghost use Rattle.warc.specs.Laws.{WrittenOpensAsSame, WrittenSpells};
 
-use warc_answer::laws::conversion_keeps_answers;
 pub use warc_checking::laws::findings_are_counted;
 use warc_frame::laws::spelling_is_unambiguous;
 use warc_index::laws::{chain_loops, latest_is_last};
 use warc_record::laws::{bare_texts_of_values, findings_are_few, findings_are_short};
-use warc_write::laws::{converted_stays_good, rendered_opens_as_same};
+use warc_write::laws::{converted_says_the_same, converted_stays_good, rendered_opens_as_same};
 
 /// An archive spells good records, in their order, and has a row for each.
 pub fn an_archive_spells_its_records()
@@ -67,6 +66,13 @@ pub fn written_opens_as_same()
 {
     rendered_opens_as_same();
     converted_stays_good();
+}
+
+/// Converting good records changes no answer: neither bodies, positions, statuses, marks and lengths, nor reasons.
+pub fn conversion_keeps_answers()
+    ensures { ConversionKeepsAnswers }
+{
+    converted_says_the_same();
 }
 
 /// An archive of what is written of good records as records of WARC 1.1 answers as they do: for each URI and moment it

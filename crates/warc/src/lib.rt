@@ -18,6 +18,7 @@
 
 mod fault;
 pub mod laws;
+mod lookup;
 mod opened;
 mod record;
 mod replay;

@@ -1,6 +1,5 @@
 pub mod PayloadLemmas
 pub mod AnswerLemmas
-pub mod MigrationLemmas
 pub mod ReasonLemmas
 pub mod LoopLemmas
 pub mod PlaceLemmas

@@ -12,8 +12,6 @@ use Rattle.warc_index.specs.declared.unfound.Unfound.TheVariants.{Loop}
 use Rattle.warc_segment.specs.Joined.{ReadRecord, ArePlacesOf, joined_records}
 use Rattle.warc_segment.specs.declared.gap.Gap.{Gap}
 use Rattle.warc_segment.specs.declared.place.Place.{Place}
-use Rattle.warc_write.specs.Conversion.{converted}
-use Rattle.warc_write.specs.Rendering.{AllGood}
 use Rattle.warc_answer.specs.Payloads.{read_record, whole_block}
 use Rattle.warc_answer.specs.Answers.{Given, IsAnswer, IsAnswerOn, index_of, path_at, path_for}
 use Rattle.warc_answer.specs.Places.{len_of}
@@ -31,12 +29,6 @@ AnswersOnce =
     (records : List Record) (uri : List ℕ) (moment : Instant)
     → (outcome : Result Given Reason) × IsAnswer records uri moment outcome
     × ((other : Result Given Reason) → IsAnswer records uri moment other → outcome ≡ other)
-
--- converting good records changes no answer
-abbrev pub ConversionKeepsAnswers : Type 0
-ConversionKeepsAnswers =
-    (records : List Record) (uri : List ℕ) (moment : Instant) (outcome : Result Given Reason) → AllGood records
-    → IsAnswer (map converted records) uri moment outcome ↔ IsAnswer records uri moment outcome
 
 -- on the way to an answer: the path that was found, the origin at its end, and the records that are joined to it or
 -- their gap

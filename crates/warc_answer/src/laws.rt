@@ -1,12 +1,11 @@
 //! Laws over the definitions: functions that do nothing, each with a law as its contract.
-ghost use Rattle.warc_answer.specs.Laws.{AnswersOnce, ConversionKeepsAnswers, FailsBeforeAll, LoopsAreAnswered, LoopsAreReplayed};
+ghost use Rattle.warc_answer.specs.Laws.{AnswersOnce, FailsBeforeAll, LoopsAreAnswered, LoopsAreReplayed};
 ghost use Rattle.warc_answer.specs.Laws.{PathsEndInside, PlacesAreAsLong, ReasonsAreAnswers};
 ghost use Rattle.warc_answer.specs.Hashed.{EndsAtOnePayload, HasOnePayload, PayloadIsStored};
 ghost use Rattle.warc_answer.specs.Stored.{StoredIsAnswered};
 
 use warc_index::laws::{chain_loops, chosen_is_latest, origins_are_records};
 use warc_payload::laws::{at_most_one_body, at_most_one_head, no_body_where_coded, one_of_three};
-use warc_write::laws::converted_says_the_same;
 
 /// For every list of records, URI and moment there is one outcome, a body with what is said of it or a reason, and no
 /// other.
@@ -18,13 +17,6 @@ pub fn answers_once()
     one_of_three();
     chosen_is_latest();
     origins_are_records();
-}
-
-/// Converting good records changes no answer: neither bodies, positions, statuses, marks and lengths, nor reasons.
-pub fn conversion_keeps_answers()
-    ensures { ConversionKeepsAnswers }
-{
-    converted_says_the_same();
 }
 
 /// Where no capture or no origin is found, that is the answer; and so is a gap in the segments of the origin.

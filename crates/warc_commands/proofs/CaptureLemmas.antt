@@ -17,7 +17,7 @@ use Rattle.std.specs.List.{Contains}
 use Rattle.warc_index.specs.Orders.{Indexes}
 use Rattle.warc_segment.specs.Kept.{Kept as Parts}
 use Rattle.warc_reading.specs.Archive.{IsArchiveOf, contents}
-use Rattle.warc_reading.specs.Indexed.{AreOf, indexed_record}
+use Rattle.warc.specs.Indexed.{AreOf, indexed_record}
 use Rattle.warc_reading.specs.Row.{Placed, Row, row_of}
 use Rattle.warc.specs.Captures.{captures_text}
 use Rattle.warc.specs.Capturing.{AreFirstOutcomes, AreIndexedAt, AreOutcomes, SendsCaptures}

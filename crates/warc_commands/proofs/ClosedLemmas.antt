@@ -7,7 +7,7 @@ use Rattle.warc_frame.specs.declared.fault.OutFault.{OutFault}
 use Rattle.warc_frame.proofs.EffectLemmas.{fails_as, fails_more}
 use Rattle.warc_index.specs.Orders.{Indexes}
 use Rattle.warc_segment.specs.Kept.{Kept as Parts}
-use Rattle.warc_reading.specs.Indexed.{Archived, IsIndexed}
+use Rattle.warc.specs.Indexed.{Archived, IsIndexed}
 use Rattle.warc_reading.specs.Opening.{Opens}
 use Rattle.warc_reading.specs.Row.{Row}
 use Rattle.warc.specs.Closure.{GivesNeeded, GivesOthers}

@@ -12,7 +12,7 @@ use Rattle.warc_frame.specs.declared.fault.OutFault.{OutFault}
 use Rattle.warc_index.specs.declared.unfound.Unfound.{Unfound}
 use Rattle.warc_answer.specs.declared.answer.Path.{Path}
 use Rattle.warc_reading.specs.Archive.{IsArchiveOf, SpellsFrom, contents}
-use Rattle.warc_reading.specs.Indexed.{Archived, IsIndexed}
+use Rattle.warc.specs.Indexed.{Archived, IsIndexed}
 use Rattle.warc_reading.specs.Opening.{Opens}
 use Rattle.warc_reading.specs.Row.{Placed, Row, row_of}
 use Rattle.warc_reading.proofs.FitLemmas.{front_size}

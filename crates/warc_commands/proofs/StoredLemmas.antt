@@ -6,7 +6,7 @@ use Rattle.warc_frame.specs.Seen.{IfHeld, Seen, SeenSource}
 use Rattle.warc_index.specs.Captures.{chosen_of}
 use Rattle.warc_index.specs.declared.unfound.Unfound.{Unfound}
 use Rattle.warc_reading.specs.Archive.{contents}
-use Rattle.warc_reading.specs.Indexed.{AreOf, Archived, IsIndexed, indexed_record}
+use Rattle.warc.specs.Indexed.{AreOf, Archived, IsIndexed, indexed_record}
 use Rattle.warc_reading.specs.Opening.{Opens}
 use Rattle.warc_reading.specs.Row.{Placed}
 use Rattle.warc.specs.Outcomes.{GivesStoredAt, StoredAnswer, fault_result}

@@ -9,7 +9,7 @@ use Rattle.warc_frame.specs.Send.{WentOut, sent_of}
 use Rattle.warc_frame.specs.declared.fault.OutFault.{OutFault}
 use Rattle.warc_index.specs.Captures.{AreCapturesOf}
 use Rattle.warc_reading.specs.Archive.{IsArchiveOf, contents}
-use Rattle.warc_reading.specs.Indexed.{indexed_record}
+use Rattle.warc.specs.Indexed.{indexed_record}
 use Rattle.warc_reading.specs.Row.{Placed, Row, row_of}
 use Rattle.warc.specs.Captures.{capture_positions, captures_text}
 use Rattle.warc.specs.Capturing.{AreFirstOutcomes, AreOutcomes}

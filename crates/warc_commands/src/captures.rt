@@ -5,7 +5,7 @@ ghost use Rattle.warc_commands.specs.Captures.{AnswerEnds, CapturesEnds, WritesL
 ghost use Rattle.warc_commands.specs.Devices.{devices};
 ghost use Rattle.warc_commands.specs.Reads.{AsksNear};
 ghost use Rattle.warc_commands.specs.Uris.{UriEnds, uri_listed};
-ghost use Rattle.warc_reading.specs.Indexed.{IsIndexed};
+ghost use Rattle.warc.specs.Indexed.{IsIndexed};
 
 use crate::program::{DONE, FOUND, report, report_cut, report_refusal};
 use crate::uris::report_fault;

@@ -18,7 +18,7 @@ use Rattle.warc_answer.specs.Payloads.{read_record}
 use Rattle.warc_reading.specs.Archive.{contents}
 use Rattle.warc_index.specs.Orders.{IsIndexOf, Indexes}
 use Rattle.warc_segment.specs.Kept.{Kept as Parts}
-use Rattle.warc_reading.specs.Indexed.{AreOf, indexed_record}
+use Rattle.warc.specs.Indexed.{AreOf, indexed_record}
 use Rattle.warc_reading.specs.Row.{Placed}
 
 same_index : (ps : List Placed) → map indexed_record ps ≡ index_of (map read_record (contents ps))

@@ -4,7 +4,7 @@ ghost use Rattle.warc_value.specs.Dates.{instant_of};
 ghost use Rattle.warc_frame.specs.Effects.{FailsBy, Preserves};
 ghost use Rattle.warc_frame.specs.Seen.{IfHeld};
 ghost use Rattle.warc_reading.specs.Archive.{contents};
-ghost use Rattle.warc_reading.specs.Indexed.{IsIndexed, IsUnchanged};
+ghost use Rattle.warc.specs.Indexed.{IsIndexed, IsUnchanged};
 ghost use Rattle.warc.specs.Replaying.{IsIndexedBy};
 ghost use Rattle.warc_lent.specs.Buffers.{HoldsFront, KeepsAfter};
 ghost use Rattle.warc_lent.specs.Problems.{problem_result};

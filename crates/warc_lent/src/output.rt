@@ -5,7 +5,7 @@ ghost use Rattle.warc.specs.Forms.{split_text, text_as};
 ghost use Rattle.warc.specs.Closure.{records_read};
 ghost use Rattle.warc.specs.Selecting.{ArePositions};
 ghost use Rattle.warc_reading.specs.Archive.{IsArchiveOf};
-ghost use Rattle.warc_reading.specs.Indexed.{IsIndexed};
+ghost use Rattle.warc.specs.Indexed.{IsIndexed};
 ghost use Rattle.warc_lent.specs.Problems.{IsMemory};
 ghost use Rattle.warc_lent.specs.Texts.{IsRefusedFor};
 ghost use Rattle.warc_frame.specs.Send.{sent_of};
@@ -205,6 +205,27 @@ fn closure<A: Allocator + Copy>(
     }
 }
 
+/// Writes records of an archive of lent bytes as they are, and keeps what they give.
+fn send_closed<A: Allocator + Copy, W: Sink>(
+    archive: &mut Archive<SliceSource<'_>, A>,
+    alloc: A,
+    positions: &[usize],
+    except: bool,
+    out: &mut W,
+    sent: &mut u64,
+) -> Result<(), Problem>
+    requires opened { IsIndexed archive.old.listing.source.bytes archive.old }
+    ensures { SelectsClosed except positions.now archive.old.listing.source.bytes
+        (W.seen out.old) (W.seen out.new) result sent.old sent.new }
+{
+    let named = named(alloc, archive.count(), positions)?;
+    let closed = closure(archive, &named, except)?;
+    match archive.select(&closed, out) {
+        Ok(()) => Ok(()),
+        Err(fault) => Err(cut_off(fault, sent)),
+    }
+}
+
 /// Writes records of lent bytes as they are, and keeps what they give: those at positions with all that they need, or
 /// with `except` all that need none of them. Else it is as `select_lent`.
 pub fn select_closed_lent<A: Allocator + Copy, W: Sink>(
@@ -218,12 +239,10 @@ pub fn select_closed_lent<A: Allocator + Copy, W: Sink>(
     ensures { SelectsClosed except positions.now bytes.now (W.seen out.old) (W.seen out.new) result sent.old sent.new }
 {
     let mut archive = archive(alloc, bytes)?;
-    let named = named(alloc, archive.count(), positions)?;
-    let closed = closure(&mut archive, &named, except)?;
-    match archive.select(&closed, out) {
-        Ok(()) => Ok(()),
-        Err(fault) => Err(cut_off(fault, sent)),
-    }
+    let answer = send_closed(&mut archive, alloc, positions, except, out, sent);
+    // The archive is let go in one place: each exit that drops it is proved anew.
+    let _source = archive.into_source();
+    answer
 }
 
 /// Writes a made record.

@@ -1,7 +1,7 @@
 //! What is kept of a record, as numbers and texts.
 ghost use Rattle.std.specs.Prelude.{◌≡◌, ◌++◌, ℕ, List, [], Result, length, slice_get, IfErr, IfOk, OnErr, Some, None};
 ghost use Rattle.warc_frame.specs.Count.{capped};
-ghost use Rattle.warc_reading.specs.Indexed.{IsUnchanged};
+ghost use Rattle.warc.specs.Indexed.{IsUnchanged};
 ghost use Rattle.warc_reading.specs.Row.{Row as Seen};
 ghost use Rattle.warc_lent.specs.Buffers.{HoldsFront, KeepsAfter};
 ghost use Rattle.warc.specs.Judged.{GivesVerdict};

@@ -4,7 +4,7 @@ ghost use Rattle.warc.specs.Judged.{GivesStated};
 ghost use Rattle.warc.specs.PayloadVerdicts.{GivesPayload};
 ghost use Rattle.warc.specs.declared.fault.TakeFault.{TakeFault as GhostFault};
 ghost use Rattle.warc.specs.declared.record.payload.PayloadVerdict.{PayloadVerdict as Judged};
-ghost use Rattle.warc_reading.specs.Indexed.{IsUnchanged};
+ghost use Rattle.warc.specs.Indexed.{IsUnchanged};
 ghost use Rattle.warc_value.specs.declared.hash.Verdict.{Verdict as Found};
 ghost use Rattle.warc_lent.specs.Problems.{IsNotGiven};
 ghost use Rattle.warc_lent.specs.Rows.{verdict_answer};

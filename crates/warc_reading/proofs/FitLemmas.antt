@@ -12,8 +12,7 @@ use Rattle.warc_record.specs.Readings.{unless_empty}
 use Rattle.warc_record.proofs.LawLemmas.{bare_texts_are_no_longer}
 use Rattle.warc_reading.specs.Archive.{SpellsFrom}
 use Rattle.warc_reading.specs.Fitting.{Fits, RowsFit}
-use Rattle.warc_reading.specs.Keeping.{texts_len}
-use Rattle.warc_reading.specs.Row.{Placed, Row, row_of}
+use Rattle.warc_reading.specs.Row.{Placed, Row, row_of, texts_len}
 use Rattle.warc_reading.proofs.LengthLemmas.{AreApart, named_in_area}
 
 -- what is read of a value is no longer

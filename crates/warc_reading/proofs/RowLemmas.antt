@@ -5,8 +5,7 @@ use Rattle.std.specs.List.{AllByRecursion, slice_get, slice_range, sum_by}
 use Rattle.std.proofs.lemmas.List.Sums.{sum_by-cons}
 use Rattle.std.proofs.lemmas.Option.{slice_get_within}
 use Rattle.warc_reading.specs.Archive.{IsArchiveOf, SpellsFrom}
-use Rattle.warc_reading.specs.Row.{Placed, Row, row_of}
-use Rattle.warc_reading.specs.Keeping.{texts_len}
+use Rattle.warc_reading.specs.Row.{Placed, Row, row_of, texts_len}
 use Rattle.warc_reading.specs.Rows.{row_at, packed_row, unpacked, whole, IsInTexts, IsPackedOf, AreFlat, AreKept, ArePacked, AreWithin}
 use Rattle.warc_reading.specs.declared.rows.RowEntry.{RowEntry}
 use Rattle.warc_reading.specs.declared.rows.Packed.{Packed}

@@ -3,8 +3,7 @@ use Rattle.std.specs.Prelude.{ℕ, ◌+◌, ◌^◌, ◌<◌, ◌≤◌, List, �
 use Rattle.std.specs.List.{sum_by}
 use Rattle.warc_frame.specs.Record.{max_archive}
 use Rattle.warc_reading.specs.Archive.{IsArchiveOf}
-use Rattle.warc_reading.specs.Keeping.{texts_len}
-use Rattle.warc_reading.specs.Row.{Row}
+use Rattle.warc_reading.specs.Row.{Row, texts_len}
 
 -- a row fits, whose texts begin at a place among those of all: its offset, its block's length and that place are below
 -- 2^48, its head's length below 2^32, and each text's length below 2^16

@@ -3,8 +3,6 @@ pub mod Blocks
 pub mod Fitting
 pub mod Fronts
 pub mod Growing
-pub mod Indexed
-pub mod Keeping
 pub mod Opening
 pub mod Rereading
 pub mod Row

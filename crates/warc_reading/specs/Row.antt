@@ -1,5 +1,5 @@
 -- What an archive keeps of a record (WARC 1.1, section 5: the named fields).
-use Rattle.std.specs.Prelude.{ℕ, Bool, List, [], length, unwrap_or}
+use Rattle.std.specs.Prelude.{ℕ, Bool, List, [], ◌+◌, length, unwrap_or}
 use Rattle.warc_frame.specs.Record.{Record}
 use Rattle.warc_record.specs.Readings.{Reading, reading_of}
 
@@ -36,3 +36,7 @@ row_with p head = record {
 
 abbrev pub row_of : Placed → Row
 row_of p = row_with p (reading_of p.content.fields)
+
+-- how many bytes the texts of a row have
+abbrev pub texts_len : Row → ℕ
+texts_len row = length row.kind + length row.date + length row.id + length row.target

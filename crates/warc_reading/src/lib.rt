@@ -1,4 +1,4 @@
-//! An archive read as a stream: a row is kept of each of its records, and what finds and joins them. A record's
+//! An archive read as a stream: a row is kept of each of its records, and beside it what a caller wants. A record's
 //! head is read again by its row.
 #![tactic(auto)]
 
@@ -13,7 +13,7 @@ mod spare_fields;
 mod stream;
 
 pub use block::{BlockDigest, NoBlock, TakeBlock};
-pub use kept::{Keep, Lookup, RecordLookup, RowsAlone, UnorderedLookup};
+pub use kept::{Keep, RowsAlone};
 pub use opened::Opened;
 pub use pair::KeptPair;
 pub use reread::{

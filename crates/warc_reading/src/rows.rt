@@ -3,7 +3,7 @@ ghost use Rattle.std.specs.Prelude.{◌≡◌, ℕ, ◌+◌, ◌≤◌, ◌^◌,
 ghost use Rattle.std.specs.List.{slice_get, sum_by};
 ghost use Rattle.warc_frame.specs.Record.{max_archive};
 ghost use Rattle.warc_reading.specs.Archive.{IsArchiveOf};
-ghost use Rattle.warc_reading.specs.Keeping.{texts_len};
+ghost use Rattle.warc_reading.specs.Row.{texts_len};
 ghost use Rattle.warc_reading.specs.Fitting.{Fits, RowsFit};
 ghost use Rattle.warc_reading.specs.Rows.{IsPackedOf, unpacked, whole};
 

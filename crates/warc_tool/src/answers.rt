@@ -83,11 +83,7 @@ fn hint_earliest(host: &Host<'_>, file: HostFile<'_>, uri: &[u8]) -> io::Result<
 }
 
 /// Writes the date of the earliest capture of a URI.
-fn write_earliest(
-    host: &Host<'_>,
-    archive: &Archive<HostFile<'_>>,
-    uri: &[u8],
-) -> io::Result<()> {
+fn write_earliest(host: &Host<'_>, archive: &Archive<HostFile<'_>>, uri: &[u8]) -> io::Result<()> {
     let Ok(positions) = archive.captures_of(uri) else {
         return Ok(());
     };

@@ -5,10 +5,10 @@ ghost use Rattle.warc.specs.Bodies.{GivesBodyAt};
 ghost use Rattle.warc.specs.Bounds.{IsKeptCount};
 ghost use Rattle.warc_checking.specs.Checks.{Checks};
 ghost use Rattle.warc.specs.Extracting.{Extracts, position_with};
-ghost use Rattle.warc_reading.specs.Keeping.{kept_bytes};
+ghost use Rattle.warc.specs.Keeping.{kept_bytes};
 ghost use Rattle.warc_index.specs.Captures.{AreCapturesOf, chosen_of};
 ghost use Rattle.warc_reading.specs.Archive.{IsArchiveOf};
-ghost use Rattle.warc_reading.specs.Indexed.{AreOf, IsIndexed, IsUnchanged, indexed_record};
+ghost use Rattle.warc.specs.Indexed.{AreOf, IsIndexed, IsUnchanged, indexed_record};
 ghost use Rattle.warc.specs.Capturing.{JudgesAll, SendsCaptures};
 ghost use Rattle.warc.specs.Captures.{capture_positions, captures_text};
 ghost use Rattle.warc.specs.Closure.{GivesNeeded, GivesOthers};
@@ -27,6 +27,7 @@ ghost use Rattle.warc.specs.Selecting.{AreOthers, ArePositions, Selects, selecte
 ghost use Rattle.warc.specs.Taking.{GivesRecord};
 
 use crate::fault::{BodyFault, ExtractFault, TakeFault};
+use crate::lookup::{Lookup, UnorderedLookup};
 use crate::opened::payloads::{Payloads, judge_payloads, list_payloads};
 use crate::record::comparison::take_payload;
 use crate::record::part::Part;
@@ -50,7 +51,7 @@ use warc_answer::{Answer, Located, Path, ReplayFault};
 use warc_checking::check_rows;
 use warc_frame::{Fault, Framed, OutFault, Sink, Source};
 use warc_index::Unfound;
-use warc_reading::{Lookup, Opened, Row, RowIter, UnorderedLookup};
+use warc_reading::{Opened, Row, RowIter};
 use warc_record::id_key;
 use warc_value::{Moment, Verdict};
 
@@ -62,7 +63,7 @@ pub struct Archive<S: Source, A: Allocator = Global> {
 }
 
 impl<S: Source, A: Allocator> Model for Archive<S, A> {
-    ghost use Rattle.warc_reading.specs.Indexed.{Archived};
+    ghost use Rattle.warc.specs.Indexed.{Archived};
 
     ghost Value = { Archived S };
 

@@ -1,13 +1,14 @@
 //! An archive whose blocks were judged as they were read, so that the lines of its captures are written without hashing
 //! a block again.
 ghost use Rattle.std.specs.Prelude.{◌≡◌, true, map, IfOk};
-ghost use Rattle.warc_reading.specs.Indexed.{IsUnchanged};
+ghost use Rattle.warc.specs.Indexed.{IsUnchanged};
 ghost use Rattle.warc_reading.specs.Judging.{verdict_on};
 ghost use Rattle.warc_reading.specs.Opening.{Opens, source_left, without_source};
 ghost use Rattle.warc.specs.Captured.{AreVerdictsOf, IsCaptured};
 ghost use Rattle.warc.specs.Captures.{capture_positions};
 ghost use Rattle.warc.specs.Capturing.{SendsCaptures};
 
+use crate::lookup::{Lookup, UnorderedLookup};
 use crate::opened::block_verdicts::BlockVerdicts;
 use crate::opened::counts::Verdicts;
 use crate::replay::capture_lines::write_judged;
@@ -17,7 +18,7 @@ use std::marker::Model;
 use warc_checking::{BlockCheck, PIECE_LEN};
 use warc_frame::{Fault, OutFault, Sink, Source};
 use warc_quick::{QuickHead, QuickRecord};
-use warc_reading::{BlockDigest, Keep, KeptPair, Lookup, Opened, UnorderedLookup};
+use warc_reading::{BlockDigest, Keep, KeptPair, Opened};
 use warc_record::GoodHead;
 
 impl<A: Allocator + Copy> Keep<A> for BlockVerdicts<A> {

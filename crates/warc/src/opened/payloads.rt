@@ -7,6 +7,7 @@ ghost use Rattle.warc.specs.PayloadStates.{JudgesMorePayloads};
 ghost use Rattle.warc.specs.PayloadText.{are_verified, is_payload_verdict, is_verified, payload_counts, payload_line, payload_line_if, payload_tally, payloads_text};
 ghost use Rattle.warc.specs.PayloadVerdicts.{JudgesPayloads, payload_verdict_at, value_shown};
 
+use crate::lookup::Lookup;
 use crate::opened::counts::{is_verdict, one_if};
 use crate::opened::fixity::{Counts, put_counts, verdict_text};
 use crate::record::comparison::compare_at;
@@ -17,7 +18,7 @@ use itoa::Buffer;
 use std::alloc::{AllocError, Allocator, Global};
 use std::marker::Model;
 use warc_frame::{OutBuffer, OutFault, SendFault, Sink, Source, put_columns};
-use warc_reading::{Lookup, Row, Rows};
+use warc_reading::{Row, Rows};
 use warc_record::bare;
 use warc_value::Verdict;
 

@@ -3,7 +3,7 @@ ghost use Rattle.std.specs.Prelude.{◌≡◌, ℕ, List, [], ◌++◌, false, I
 ghost use Rattle.warc_frame.specs.Effects.{Puts};
 ghost use Rattle.warc_frame.specs.Failing.{failed_by, is_read};
 ghost use Rattle.warc_reading.specs.Archive.{contents};
-ghost use Rattle.warc_reading.specs.Indexed.{AreOf};
+ghost use Rattle.warc.specs.Indexed.{AreOf};
 ghost use Rattle.warc_reading.specs.Opening.{Opens, source_left, without_source};
 ghost use Rattle.warc_reading.specs.Row.{Placed};
 ghost use Rattle.warc_checking.specs.Checking.{check_text};
@@ -15,6 +15,7 @@ ghost use Rattle.warc.specs.Listing.{listing};
 ghost use Rattle.warc.specs.Summary.{summary_text};
 ghost use Rattle.warc.specs.Survey.{AreGathered, IsSurveyKept, IsSurveyed, PutsPart, WritesSurvey, known_text, part_name};
 
+use crate::lookup::{Lookup, UnorderedLookup};
 use crate::opened::counts::Verdicts;
 use crate::opened::fixity::{Digests, WaitingDigests, put_fixity};
 use crate::opened::marks::HeadMarks;
@@ -28,7 +29,7 @@ use warc_checking::{OwnFindings, mark_each, put_findings};
 use warc_fixity::laws::wanted_verdict_is_kept;
 use warc_frame::laws::head_of_spelled;
 use warc_frame::{Fault, OutBuffer, OutFault, SendFault, Sink, Source, put_all};
-use warc_reading::{KeptPair, Lookup, Opened, Rows, UnorderedLookup};
+use warc_reading::{KeptPair, Opened, Rows};
 
 /// What is kept of records for a survey while the source is read: how their blocks compare with the digests that are
 /// stated, marks of their heads, what each alone shows but for N4, and what finds and joins them.

@@ -12,6 +12,7 @@ ghost use Rattle.warc.specs.PayloadStates.{IsVerdictFrom, JudgesNextPayload, Jud
 ghost use Rattle.warc.specs.PayloadVerdicts.{GivesPayload, IsOwnVerdict, IsVerdictByKind};
 
 use crate::fault::TakeFault;
+use crate::lookup::Lookup;
 use crate::record::digests::{KnownDigests, path_digest};
 use crate::record::payload::{
     PayloadVerdict, Unjudged, algorithm_for, early_verdict, payload_verdict, revisit_verdict,
@@ -23,7 +24,7 @@ use warc_answer::{ReplayFault, digest_own};
 use warc_field::Fields;
 use warc_frame::laws::head_of_spelled;
 use warc_frame::{OutFault, Source};
-use warc_reading::{Lookup, Row, Rows, buffer_for, reread_good};
+use warc_reading::{Row, Rows, buffer_for, reread_good};
 use warc_record::{GoodHead, Kind, Typed};
 
 /// The head of the record of a row, which is read again.

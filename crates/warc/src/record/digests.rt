@@ -3,6 +3,7 @@ ghost use Rattle.std.specs.Prelude.{◌≡◌, List, IfOk, IfSome, IsTrue, OnOk}
 ghost use Rattle.warc_frame.specs.Record.{Record};
 ghost use Rattle.warc.specs.PayloadStates.{AreKnown, DigestsOnce, DigestsOrigin, DigestsPath, IsKnownOf, IsOriginDigest, no_digest};
 
+use crate::lookup::Lookup;
 use crate::replay::answer::path_from;
 use crate::replay::origin::origin_at;
 use std::alloc::{AllocError, Allocator};
@@ -10,7 +11,7 @@ use warc_answer::laws::paths_end_inside;
 use warc_answer::{PayloadDigest, ReplayFault, digest_joined};
 use warc_fixity::Algorithm;
 use warc_frame::{OutFault, Source};
-use warc_reading::{Lookup, Rows};
+use warc_reading::Rows;
 use warc_segment::laws::places_are_of_records;
 
 /// How many algorithms there are.

@@ -2,11 +2,12 @@
 ghost use Rattle.std.specs.Prelude.{◌≡◌, List, map, Result};
 ghost use Rattle.warc_frame.specs.Record.{Record};
 ghost use Rattle.warc_answer.specs.Answers.{path_from, path_of};
-ghost use Rattle.warc_reading.specs.Indexed.{AreOf, indexed_record};
+ghost use Rattle.warc.specs.Indexed.{AreOf, indexed_record};
 ghost use Rattle.warc_reading.specs.Row.{Placed};
 ghost use Rattle.warc.specs.Replaying.{Replays, ReplaysOn};
 ghost use Rattle.warc.specs.Status.{LeadsTo};
 
+use crate::lookup::Lookup;
 use crate::replay::origin::origin_at;
 use std::alloc::Allocator;
 use warc_answer::laws::{
@@ -15,7 +16,7 @@ use warc_answer::laws::{
 use warc_answer::{Answer, Path, Reason, ReplayFault, replay_joined};
 use warc_frame::{Sink, Source};
 use warc_index::Unfound;
-use warc_reading::{Lookup, Rows};
+use warc_reading::Rows;
 use warc_segment::laws::places_are_of_records;
 use warc_value::Moment;
 

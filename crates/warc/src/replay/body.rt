@@ -6,13 +6,14 @@ ghost use Rattle.warc.specs.Bodies.{GivesBodyAt};
 ghost use Rattle.warc.specs.Finding.{IsFoundAt};
 
 use crate::fault::BodyFault;
+use crate::lookup::Lookup;
 use crate::replay::answer::{path_from, replay_on};
 use std::alloc::Allocator;
 use warc_answer::laws::{paths_end_inside, reasons_are_answers};
 use warc_answer::{Answer, Path, Reason, ReplayFault};
 use warc_frame::{Sink, Source};
 use warc_index::Unfound;
-use warc_reading::{Lookup, Rows};
+use warc_reading::Rows;
 use warc_record::Kind;
 
 /// Whether the record of a type is a capture.

@@ -3,12 +3,13 @@ ghost use Rattle.std.specs.Prelude.{◌≡◌, ◌∷◌, [], ⊤};
 ghost use Rattle.warc.specs.Captured.{AreVerdictsOf};
 ghost use Rattle.warc.specs.Capturing.{AreFound, AreKnownBlocks, PutsCaptures, RemembersNext, SendsCaptures, ended_after};
 
+use crate::lookup::Lookup;
 use crate::opened::counts::Verdicts;
 use crate::replay::capture_line::put_line;
 use crate::replay::captures::outcome_once;
 use std::alloc::Allocator;
 use warc_frame::{OutBuffer, OutFault, Sink, Source};
-use warc_reading::{Lookup, Rows};
+use warc_reading::Rows;
 
 /// A fault before which nothing went out, as the end of an output of which `sent` bytes went out.
 fn after(fault: OutFault, sent: u64) -> OutFault

@@ -7,6 +7,7 @@ ghost use Rattle.warc.specs.Captures.{capture_positions, position_if};
 ghost use Rattle.warc.specs.Capturing.{IsJoinedVerdict, JudgesAll, JudgesEach, JudgesNext, JudgesOne};
 ghost use Rattle.warc.specs.Outcomes.{judged_seen};
 
+use crate::lookup::Lookup;
 use crate::opened::counts::Verdicts;
 use crate::replay::answer::path_from;
 use crate::replay::body::is_capture;
@@ -16,7 +17,7 @@ use std::alloc::{AllocError, Allocator};
 use warc_answer::laws::paths_end_inside;
 use warc_answer::{Reason, Stored};
 use warc_frame::{OutFault, Source};
-use warc_reading::{Lookup, Rows};
+use warc_reading::Rows;
 use warc_value::Verdict;
 
 /// Adds a position, if the record there is a capture.

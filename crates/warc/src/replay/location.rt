@@ -5,6 +5,7 @@ ghost use Rattle.warc.specs.Locating.{LocatesAt, LocatesFor, LocatesOn};
 ghost use Rattle.warc.specs.Status.{LeadsTo};
 
 use crate::fault::BodyFault;
+use crate::lookup::Lookup;
 use crate::replay::answer::path_in;
 use crate::replay::body::{Found, find};
 use crate::replay::origin::origin_at;
@@ -15,7 +16,7 @@ use warc_answer::laws::{
 use warc_answer::{Located, Path, Reason, ReplayFault, locate_joined};
 use warc_frame::Source;
 use warc_index::Unfound;
-use warc_reading::{Lookup, Rows};
+use warc_reading::Rows;
 use warc_segment::laws::places_are_of_records;
 use warc_value::Moment;
 

@@ -13,13 +13,14 @@ ghost use Rattle.warc_segment.specs.Joined.{PlacedRecord};
 ghost use Rattle.warc_segment.specs.Kept.{kept_in};
 ghost use Rattle.warc.specs.Origins.{FindsOrigin, IsOriginBy, IsOriginOf, IsPlacedBy, IsUnjoined, place_in};
 
+use crate::lookup::Lookup;
 use std::alloc::Allocator;
 use warc_answer::{Reason, ReplayFault, is_http_response};
 use warc_field::Fields;
 use warc_frame::laws::head_of_spelled;
 use warc_frame::{OutFault, Source, names};
 use warc_quick::alone_head;
-use warc_reading::{Lookup, Row, Rows, buffer_for, good_head_in, reread_text};
+use warc_reading::{Row, Rows, buffer_for, good_head_in, reread_text};
 use warc_record::Typed;
 use warc_segment::{JoinFault, Parts, Place};
 use warc_value::Wanted;

@@ -3,13 +3,14 @@ ghost use Rattle.std.specs.Prelude.{◌≡◌};
 ghost use Rattle.warc.specs.Outcomes.{GivesStoredAt, JudgesAt, answer_seen};
 
 use crate::fault::BodyFault;
+use crate::lookup::Lookup;
 use crate::replay::body::{Found, find};
 use crate::replay::stored::{send_origin, stored_of_origin};
 use std::alloc::{Allocator, Global};
 use warc_answer::laws::paths_end_inside;
 use warc_answer::{Path, Reason, ReplayFault, Stored};
 use warc_frame::{Sink, Source};
-use warc_reading::{Lookup, Rows};
+use warc_reading::Rows;
 
 /// What a capture gives, without the body.
 #[derive(Debug, Drop)]

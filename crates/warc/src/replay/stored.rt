@@ -3,12 +3,13 @@ ghost use Rattle.std.specs.Prelude.{◌≡◌, ◌⊎◌, length};
 ghost use Rattle.warc.specs.Capturing.{JudgesBy, LooksBy};
 ghost use Rattle.warc.specs.Looking.{Judges, Looks, SendsStored};
 
+use crate::lookup::Lookup;
 use crate::replay::origin::origin_at;
 use std::alloc::Allocator;
 use warc_answer::laws::places_are_as_long;
 use warc_answer::{Reason, ReplayFault, Stored, find_stored, judge_known, send_blocks};
 use warc_frame::{OutFault, Sink, Source};
-use warc_reading::{Lookup, Rows};
+use warc_reading::Rows;
 use warc_segment::Place;
 use warc_segment::laws::places_are_of_records;
 use warc_value::Verdict;

@@ -5,6 +5,7 @@ ghost use Rattle.warc.specs.Marks.{SaysAgain, TakesAll, TakesOne};
 ghost use Rattle.warc.specs.Selecting.{ArePositions};
 ghost use Rattle.warc.specs.Statuses.{JudgesRecord, JudgesRecords, FindsStatuses};
 
+use crate::lookup::Lookup;
 use crate::rewrite::needs::{Mark, free_marks, is_free, mark_ways, marked_positions, take_series};
 use crate::rewrite::remainder::{
     Status, is_named, kept_positions, leave_if_named, name_all, open_statuses, settle_all,
@@ -12,7 +13,7 @@ use crate::rewrite::remainder::{
 use std::alloc::Allocator;
 use warc_frame::laws::head_of_spelled;
 use warc_frame::{OutFault, Source};
-use warc_reading::{Lookup, Rows, buffer_for, reread_good};
+use warc_reading::{Rows, buffer_for, reread_good};
 use warc_record::GoodHead;
 use warc_segment::Parts;
 

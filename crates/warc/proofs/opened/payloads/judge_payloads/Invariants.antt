@@ -2,7 +2,7 @@ use Rattle.std.proofs.Common.{◌≡◌, ◌≤◌, length}
 use Rattle.warc_frame.specs.Effects.{Preserves}
 use Rattle.warc_frame.specs.Seen.{IfHeld}
 use Rattle.warc_reading.specs.Archive.{IsArchiveOf, contents}
-use Rattle.warc_reading.specs.Indexed.{AreOf}
+use Rattle.warc.specs.Indexed.{AreOf}
 use Rattle.warc.specs.PayloadStates.{AreKnown}
 use Rattle.warc.specs.PayloadVerdicts.{AreJudgedPayloads}
 use Rattle.warc.specs.Replaying.{AsksInside}

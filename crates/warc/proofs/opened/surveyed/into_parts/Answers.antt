@@ -1,5 +1,5 @@
 use Rattle.std.proofs.Common.{ap, ap₂, ◌∙◌}
-use Rattle.warc_reading.proofs.IndexedLemmas.{are_of_same}
+use Rattle.warc.proofs.LookupLemmas.{are_of_same}
 use Rattle.warc.specs.Fixity.{Judgements}
 use Rattle.warc.specs.Survey.{SurveyMarks, settled_claims}
 use Rattle.warc.proofs.SurveyLemmas.{claims_settled}

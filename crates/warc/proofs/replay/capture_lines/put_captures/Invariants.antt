@@ -1,7 +1,7 @@
 use Rattle.std.proofs.Common.{Ok, take}
 use Rattle.warc_frame.specs.Seen.{IfHeld}
 use Rattle.warc_reading.specs.Archive.{IsArchiveOf}
-use Rattle.warc_reading.specs.Indexed.{AreOf}
+use Rattle.warc.specs.Indexed.{AreOf}
 use Rattle.warc.specs.Capturing.{AreFound, AreKnownBlocks, PutsCaptures}
 use Rattle.warc.proofs.replay.capture_lines.put_captures.Given as goal
 

@@ -2,7 +2,7 @@ use Rattle.std.proofs.Common.{◌≡◌, map, take}
 use Rattle.warc_frame.specs.Effects.{Preserves}
 use Rattle.warc_frame.specs.Seen.{IfHeld}
 use Rattle.warc_reading.specs.Archive.{IsArchiveOf, contents}
-use Rattle.warc_reading.specs.Indexed.{AreOf}
+use Rattle.warc.specs.Indexed.{AreOf}
 use Rattle.warc.specs.Capturing.{AreKnownBlocks, AreSoFar}
 use Rattle.warc.specs.Replaying.{AsksInside}
 use Rattle.warc.proofs.replay.captures.judge_each.Given as goal

@@ -2,7 +2,7 @@ use Rattle.std.proofs.Common.{inl, map, refl, sym, ap, ◌∙◌}
 use Rattle.std.proofs.lemmas.Result.{IfOk-weaker}
 use Rattle.std.specs.List.{slice_get}
 use Rattle.warc_frame.proofs.EffectLemmas.{fails_more}
-use Rattle.warc_reading.specs.Indexed.{placed_record}
+use Rattle.warc.specs.Indexed.{placed_record}
 use Rattle.warc_reading.specs.Archive.{contents}
 use Rattle.warc_reading.specs.Row.{Row}
 use Rattle.warc_reading.proofs.PlaceLemmas.{checkable_archive}

@@ -4,7 +4,7 @@ use Rattle.std.proofs.lemmas.List.{length-map, length-replicate}
 use Rattle.std.proofs.lemmas.List.{take_at}
 use Rattle.warc_frame.proofs.EffectLemmas.{fails_never}
 use Rattle.warc_index.specs.Referents.{next_of}
-use Rattle.warc_reading.specs.Indexed.{indexed_record}
+use Rattle.warc.specs.Indexed.{indexed_record}
 use Rattle.warc.specs.declared.rewrite.needs.Mark.{Mark}
 use Rattle.warc.specs.declared.rewrite.needs.Mark.TheVariants.{Free}
 use Rattle.warc.specs.Marks.{AreMarked, AreWhere, HasNoSegment, marks_needed, mark_in}

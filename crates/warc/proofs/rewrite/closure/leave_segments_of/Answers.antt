@@ -1,7 +1,7 @@
 use Rattle.std.proofs.Common.{map, ap, subst, ◌∙◌}
 use Rattle.warc_frame.proofs.EffectLemmas.{fails_never}
 use Rattle.warc_record.specs.Readings.{Reading, reading_of}
-use Rattle.warc_reading.specs.Indexed.{placed_record}
+use Rattle.warc.specs.Indexed.{placed_record}
 use Rattle.warc.specs.Marks.{pieces_of}
 use Rattle.warc.specs.Statuses.{LeavesIfNamed}
 use Rattle.warc.proofs.rewrite.closure.leave_segments_of.Goals as goal

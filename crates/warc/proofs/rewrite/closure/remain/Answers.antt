@@ -3,7 +3,7 @@ use Rattle.std.specs.Prelude.{All}
 use Rattle.std.proofs.lemmas.List.{length-map}
 use Rattle.warc_frame.proofs.EffectLemmas.{fails_never}
 use Rattle.warc_index.specs.Referents.{next_of}
-use Rattle.warc_reading.specs.Indexed.{indexed_record}
+use Rattle.warc.specs.Indexed.{indexed_record}
 use Rattle.warc.proofs.LeftLemmas.{begun_settled, names_are, names_fresh, is_present_by}
 use Rattle.warc.proofs.TakenLemmas.{as_many}
 use Rattle.warc.proofs.rewrite.closure.remain.Goals as goal

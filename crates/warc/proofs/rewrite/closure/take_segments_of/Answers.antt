@@ -2,7 +2,7 @@ use Rattle.std.proofs.Common.{map, sym, ap, subst, ◌∙◌}
 use Rattle.std.proofs.lemmas.List.{length-map}
 use Rattle.warc_frame.proofs.EffectLemmas.{fails_never}
 use Rattle.warc_record.specs.Readings.{Reading, reading_of}
-use Rattle.warc_reading.specs.Indexed.{placed_record}
+use Rattle.warc.specs.Indexed.{placed_record}
 use Rattle.warc.specs.Marks.{TakesSeries, pieces_of}
 use Rattle.warc.proofs.TakenLemmas.{as_many}
 use Rattle.warc.proofs.rewrite.closure.take_segments_of.Goals as goal

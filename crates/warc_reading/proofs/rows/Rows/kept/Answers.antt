@@ -1,6 +1,6 @@
 use Rattle.std.proofs.Common.{ap, ◌∙◌}
 use Rattle.std.specs.List.{sum_by}
-use Rattle.warc_reading.specs.Keeping.{texts_len}
+use Rattle.warc_reading.specs.Row.{texts_len}
 use Rattle.warc_reading.proofs.RowLemmas.{flat_sum, rows_unpacked}
 use Rattle.warc_reading.proofs.rows.Rows.kept.Goals as goal
 

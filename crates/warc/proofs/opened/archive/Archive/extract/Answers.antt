@@ -1,5 +1,5 @@
 use Rattle.std.proofs.Common.{sym, ap}
-use Rattle.warc_reading.specs.Indexed.{Archived}
+use Rattle.warc.specs.Indexed.{Archived}
 use Rattle.warc.proofs.ExtractLemmas.{extracts_at}
 use Rattle.warc.proofs.opened.archive.Archive.extract.Goals as goal
 

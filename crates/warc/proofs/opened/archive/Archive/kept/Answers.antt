@@ -1,5 +1,5 @@
 use Rattle.std.proofs.Common.{rules, ◌≡◌, min}
-use Rattle.warc_reading.specs.Keeping.{kept_bytes}
+use Rattle.warc.specs.Keeping.{kept_bytes}
 use Rattle.warc.proofs.KeptLemmas.{kept_is_bounded}
 use Rattle.warc.proofs.opened.archive.Archive.kept.Goals as goal
 

@@ -1,4 +1,5 @@
-use Rattle.warc_reading.proofs.IndexedLemmas.{are_of_same, opens_with, refuses_with}
+use Rattle.warc_reading.proofs.IndexedLemmas.{opens_with, refuses_with}
+use Rattle.warc.proofs.LookupLemmas.{are_of_same}
 use Rattle.warc.proofs.opened.archive.Archive.open.Goals as goal
 
 pub returns-in-Ok : goal.returns-in-Ok

@@ -6,7 +6,7 @@ use Rattle.warc_segment.specs.Joined.{ReadRecord}
 use Rattle.warc_write.specs.Conversion.{ConvertedSaysTheSame, converted}
 use Rattle.warc_write.specs.Rendering.{AllGood}
 use Rattle.warc_answer.specs.Answers.{IsAnswerOn, IsGivenOn, index_of, path_for, path_of}
-use Rattle.warc_answer.specs.Laws.{ConversionKeepsAnswers}
+use Rattle.warc.specs.Laws.{ConversionKeepsAnswers}
 use Rattle.warc_answer.specs.Payloads.{read_record}
 
 block_stays : (r : Record) → (converted r).block ≡ r.block

@@ -1,5 +1,0 @@
-use Rattle.warc_answer.proofs.MigrationLemmas.{conversion_keeps_answers}
-use Rattle.warc_answer.proofs.laws.conversion_keeps_answers.Goals as goal
-
-pub returns : goal.returns
-returns c = conversion_keeps_answers c.converted_says_the_same.ensures
