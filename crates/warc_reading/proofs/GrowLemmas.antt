@@ -178,6 +178,10 @@ goes_on {E} at answer old new goes is =
 pub in_order : (from : ℕ) (old new : SeenSource) → (old.next ≡ Some from → new.jumps ≡ old.jumps) → InOrder from old new
 in_order from old new h = if_some old.next _ (λ next is same. h (is ∙ ap Some (sym same)))
 
+-- without a read
+pub unread_in_order : (from : ℕ) (old : SeenSource) → InOrder from old old
+unread_in_order from old = in_order from old old (λ _. refl)
+
 pub order_from : (a b : ℕ) (old new : SeenSource) → a ≡ b → InOrder a old new → InOrder b old new
 order_from a b old new same order = let P : ℕ → Type 0 = λ from. InOrder from old new in subst P same order
 
@@ -237,7 +241,7 @@ finished K was text reported r (Ok u) has lies short (none, spelled) =
 finished K was text reported r (Err f) has lies short (is, frame) =
     (ap (λ (g : Fault). g.kind) is, judged_cut head_fault 0 text reported f lies (accepts_reported text reported r has) (omega (arith, short)) frame)
 
-module _ (start : ℕ) (old mid new : SeenSource) (taken : List ℕ) (has : HasGivenFrom start old mid taken) (failed : Bool) (len : ℕ) (read : IsReadAt (start + length taken) len failed mid new) (short : start + length taken ≤ max_archive) (fits : start + length taken + len ≤ max_archive + 1) where
+module _ (start : ℕ) (old mid new : SeenSource) (taken : List ℕ) (has : HasGivenFrom start old mid taken) (failed : Bool) (len : ℕ) (read : IsReadAt (start + length taken) len failed mid new) (short : start + length taken ≤ max_archive) (fits : start + length taken + len ≤ max_archive + 1) (order : InOrder start old new) where
   bound : new.reads ≤ old.reads + max_archive + 1
   bound = omega (arith, has.cost, read.counted, raised_by_one mid.reads, short)
 
@@ -276,6 +280,7 @@ module _ (start : ℕ) (old mid new : SeenSource) (taken : List ℕ) (has : HasG
     some = some;
     following = following;
     cost = λ bytes more is held. cost bytes more (at bytes is) held;
+    order = λ bytes is. order_from start (length bytes) old new (at bytes is) order;
     tried = λ bytes is. tried_on bytes (at bytes is) answer there;
     reads = record {
       kept = read.kept ∙ has.kept;
@@ -299,6 +304,9 @@ module _ (start : ℕ) (old mid new : SeenSource) (taken : List ℕ) (has : HasG
     read_of : (bytes : List ℕ) → start ≡ length bytes → IsReadAt (length (bytes ++ taken)) len failed mid new
     read_of bytes here = read_there (size bytes here) read
 
+    order_of : (bytes : List ℕ) → start ≡ length bytes → InOrder (length bytes) old new
+    order_of bytes here = order_from start (length bytes) old new here order
+
     -- a read failed
     pub grows_unread : failed ≡ true → Grows (IsKeptOf K) was old new (Err (fault Read (start + length taken)))
     grows_unread fails =
@@ -307,7 +315,7 @@ module _ (start : ℕ) (old mid new : SeenSource) (taken : List ℕ) (has : HasG
         let here = at bytes is in
         let s = is_present bytes is in
         let P : ℕ → Type 0 = λ n. OpensFrom (length bytes) (IsKeptOf K) old new (Err (fault Read n)) in
-        subst P (sym (size bytes here)) (opens_unread (length bytes) old mid new (bytes ++ taken) (whole_given start old mid taken bytes more has here held) failed len (read_of bytes here) (short_of bytes here) (fits_of bytes here) s.reported r fails
+        subst P (sym (size bytes here)) (opens_unread (length bytes) old mid new (bytes ++ taken) (whole_given start old mid taken bytes more has here held) failed len (read_of bytes here) (short_of bytes here) (fits_of bytes here) (order_of bytes here) s.reported r fails
         (lies (bytes ++ taken) s.reported s.is_at) s.has))
         (λ bytes held is holds less. inl refl)
         (read.cause ∙ ap (λ b. if b then raised mid.faults else mid.faults) fails ∙ ap raised has.sound)
@@ -324,7 +332,7 @@ module _ (start : ℕ) (old mid new : SeenSource) (taken : List ℕ) (has : HasG
         let here = at bytes is in
         let s = is_present bytes is in
         let given = whole_given start old mid taken bytes more has here held in
-        opens_refused (length bytes) old mid new (bytes ++ taken) given failed len (read_of bytes here) (short_of bytes here) (fits_of bytes here) s.reported r (take n buf) (length (bytes ++ taken) + n) f well (lies (bytes ++ taken) s.reported s.is_at) s.has
+        opens_refused (length bytes) old mid new (bytes ++ taken) given failed len (read_of bytes here) (short_of bytes here) (fits_of bytes here) (order_of bytes here) s.reported r (take n buf) (length (bytes ++ taken) + n) f well (lies (bytes ++ taken) s.reported s.is_at) s.has
         (λ all holds. front_grows all (bytes ++ taken) buf place n (there ∙ size bytes here) (given.part all holds) (gives all holds))
         (stays bytes is) (wants bytes is))
         (λ bytes held is holds less. absurd (omega (arith, some, less, there, at bytes is, (gives held holds).within)))
@@ -340,7 +348,7 @@ module _ (start : ℕ) (old mid new : SeenSource) (taken : List ℕ) (has : HasG
         let here = at bytes is in
         let s = is_present bytes is in
         let given = whole_given start old mid taken bytes more has here held in
-        opens_ended (length bytes) old mid new (bytes ++ taken) given failed len (read_of bytes here) (short_of bytes here) (fits_of bytes here) (grown result (r.rows, r.beside)) well
+        opens_ended (length bytes) old mid new (bytes ++ taken) given failed len (read_of bytes here) (short_of bytes here) (fits_of bytes here) (order_of bytes here) (grown result (r.rows, r.beside)) well
         (λ all holds. ends all (bytes ++ taken) buf place n (there ∙ size bytes here) (given.part all holds) (gives all holds) room zero)
         (finished K is.listed.are.records (bytes ++ taken) s.reported r result s.has (lies (bytes ++ taken) s.reported s.is_at) (short_of bytes here) (ends_so 0 (bytes ++ taken) s.reported s.is_at))
 
@@ -462,11 +470,13 @@ grows_untried start was old at = record {
       tried = λ is. cc is;
     };
     cost = λ all holds. omega arith;
+    order = unread_in_order (length bytes) old;
   };
   less = λ bytes held is holds less. inr refl;
   some = λ bytes is. tt;
   following = λ bytes is memory. omega (arith, at bytes is);
   cost = λ bytes more is held. omega arith;
+  order = λ bytes is. unread_in_order (length bytes) old;
   tried = λ bytes is not. cc not;
   reads = record {
     kept = refl;
@@ -504,6 +514,7 @@ grows_as {X} {Y} {Is} {Gives} {old} {new} was x seen y r begins gives grows = re
   whole = λ bytes more is held. opens_as x y r gives (grows.whole bytes more (begins bytes is) held);
   less = λ bytes held is holds less. match_as x y r (Is bytes) (Gives bytes) IsDeviceFault (gives bytes) (grows.less bytes held (begins bytes is) holds less);
   cost = λ bytes more is held. grows.cost bytes more (begins bytes is) held;
+  order = λ bytes is. grows.order bytes (begins bytes is);
   some = λ bytes is. some_as Is Gives bytes x y r gives (grows.some bytes (begins bytes is));
   following = λ bytes is. asked_as x y r (λ f. f.kind ≡ Memory → length bytes ≤ f.offset) (grows.following bytes (begins bytes is));
   tried = λ bytes is. asked_as x y r (λ f. f.kind ≡ Read → new.reads + length bytes ≤ old.reads + f.offset + 1) (grows.tried bytes (begins bytes is));
@@ -531,6 +542,7 @@ opens_new was answer is grows = record {
   some = grows.some [] is;
   reads = grows.reads;
   cost = λ bytes held. (grows.whole [] bytes is held).cost bytes held;
+  order = grows.order [] is;
 }
 
 abbrev pub none_listed : IsArchiveOf [] []

@@ -21,6 +21,7 @@ opens_with x y gives opens = record {
     tried = opens.reads.tried;
   };
   cost = opens.cost;
+  order = opens.order;
 }
 
 pub refuses_with : {X Y : Type 0} {Is : List ℕ → X → Type 0} {Gives : List ℕ → Y → Type 0} {start : ℕ} {old new : SeenSource} (f : Fault) → OpensFrom start Is old new (Err f) → OpensFrom start Gives old new (Err f)
@@ -38,4 +39,5 @@ refuses_with f opens = record {
     tried = opens.reads.tried;
   };
   cost = opens.cost;
+  order = opens.order;
 }

@@ -19,7 +19,7 @@ use Rattle.warc_record.specs.Heads.{head_fault}
 use Rattle.warc_reading.specs.Archive.{IsFaultOf, IsRecordEnd}
 use Rattle.warc_reading.specs.Opening.{IsOnlyCut, IsUnkept, OpensFrom, RefusesFrom}
 use Rattle.warc_reading.specs.Row.{Placed}
-use Rattle.warc_frame.specs.Seen.{AsksOnly, SeenSource}
+use Rattle.warc_frame.specs.Seen.{AsksOnly, InOrder, SeenSource}
 use Rattle.warc_frame.specs.Ranges.{IsReadAt}
 use Rattle.warc_reading.specs.Stream.{BeginsSince, HasGiven, HasRead, StaysBy, StaysRefused, WantsSince}
 use Rattle.warc_reading.specs.declared.stream.StreamState.{StreamState}
@@ -107,7 +107,7 @@ fits_near {at} {there} room same low = omega (arith, same, low, min-le_left (max
 pub read_there : {old new : SeenSource} {failed : Bool} {at len n : ℕ} → at ≡ n → IsReadAt at len failed old new → IsReadAt n len failed old new
 read_there {old} {new} {failed} {at} {len} same read = let P : ℕ → Type 0 = λ q. IsReadAt q len failed old new in subst P same read
 
-module _ (start : ℕ) (old mid new : SeenSource) (text : List ℕ) (has : HasGiven old mid text) (failed : Bool) (len : ℕ) (read : IsReadAt (length text) len failed mid new) (short : length text ≤ max_archive) (fits : length text + len ≤ max_archive + 1) where
+module _ (start : ℕ) (old mid new : SeenSource) (text : List ℕ) (has : HasGiven old mid text) (failed : Bool) (len : ℕ) (read : IsReadAt (length text) len failed mid new) (short : length text ≤ max_archive) (fits : length text + len ≤ max_archive + 1) (order : InOrder start old new) where
   low : (bytes : List ℕ) → old.holds ≡ Some bytes → length text ≤ length bytes
   low bytes held = omega (arith, ap length (has.part bytes held) ∙ length-take (length text) bytes)
 
@@ -136,6 +136,7 @@ module _ (start : ℕ) (old mid new : SeenSource) (text : List ℕ) (has : HasGi
       tried = λ is. omega (arith, has.cost, read.counted, raised_by_one mid.reads);
     };
     cost = cost;
+    order = order;
   }
 
   sound : failed ≡ false → new.faults ≡ old.faults
@@ -157,6 +158,7 @@ module _ (start : ℕ) (old mid new : SeenSource) (text : List ℕ) (has : HasGi
       tried = λ is. absurd (never is);
     };
     cost = cost;
+    order = order;
   }
 
   refusal_by : (kind : FaultKind) (offset : ℕ) (bytes : List ℕ) → StaysBy kind bytes (fault kind offset) → (kind ≡ Memory → IsRecordEnd bytes offset → IsUnkept bytes new.asked offset)
@@ -203,6 +205,7 @@ module _ (start : ℕ) (old mid new : SeenSource) (text : List ℕ) (has : HasGi
       tried = tt;
     };
     cost = cost;
+    order = order;
   }
   opens_ended (Err f) well whole (kind, is) =
       by_bytes f well (λ (read_fault : f.kind ≡ Read). let e : Truncated ≡ Read = sym kind ∙ read_fault in cc e) (λ bytes held.

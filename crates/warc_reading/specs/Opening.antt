@@ -7,7 +7,7 @@ use Rattle.warc_frame.specs.declared.fault.Fault.{Fault}
 use Rattle.warc_frame.specs.declared.fault.FaultKind.{FaultKind}
 use Rattle.warc_frame.specs.declared.fault.FaultKind.TheVariants.{Read, Memory, Truncated}
 use Rattle.warc_reading.specs.Archive.{IsFaultOf, IsRecordEnd}
-use Rattle.warc_frame.specs.Seen.{AsksOnly, IfHeld, SeenSource}
+use Rattle.warc_frame.specs.Seen.{AsksOnly, IfHeld, InOrder, SeenSource}
 
 -- a text has no fault but that it ends too early, if that
 abbrev pub IsOnlyCut : List ℕ → Type 0
@@ -63,13 +63,14 @@ pub record ReadsOn {X : Type 0} (old new : SeenSource) (answer : Result X Fault)
 
 -- reading a source from an offset on: it gives what is right for the bytes, or a refusal, by the bytes that the source
 -- holds, where they are known; at most one read is made for each of them, and one. What it gives of any source is right
--- for some bytes
+-- for some bytes. The first read is at that offset, and each other where the one before ended
 pub record OpensFrom (start : ℕ) {X : Type 0} (Is : List ℕ → X → Type 0) (old new : SeenSource)
     (answer : Result X Fault) : Type 0 where
   pub accepted : IfHeld old.holds (λ bytes. IfOk answer (Is bytes))
   pub refused : IfHeld old.holds (λ bytes. IfErr answer (λ f. RefusesFrom start f.kind bytes old new f))
   pub cost : IfHeld old.holds (λ bytes. new.reads ≤ old.reads + length bytes + 1)
   pub some : IfOk answer (λ x. (bytes : List ℕ) × Is bytes x)
+  pub order : InOrder start old new
   pub reads : ReadsOn old new answer
 
 -- opening a source

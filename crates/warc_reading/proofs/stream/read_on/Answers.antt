@@ -2,7 +2,7 @@ use Rattle.std.proofs.Common.{List, length, refl, subst, ◌∙◌}
 use Rattle.warc_reading.specs.Archive.{IsArchiveOf}
 use Rattle.warc_reading.specs.Row.{Row}
 use Rattle.warc_reading.specs.Stream.{Extends, IsKeptOf}
-use Rattle.warc_reading.proofs.GrowLemmas.{extends_front, grows_from, grows_untried, in_order, kept_again, order_from}
+use Rattle.warc_reading.proofs.GrowLemmas.{extends_front, grows_from, grows_untried, kept_again, order_from, unread_in_order}
 use Rattle.warc_reading.proofs.stream.read_on.Goals as goal
 
 pub read_through-requires-clause-begin : goal.read_through-requires-clause-begin
@@ -45,7 +45,7 @@ returns-clause-beside g c = λ bytes is.
     kept_again g.L.Keep.keeps bytes c.args.rows _ c.args.beside c.read_through.new.reading.beside _ c.len-count.result is same c.len-count.ensures (c.in-Err.ensures.left bytes begun) c.truncate.ensures.beside
 
 pub returns-in_default-clause-order : goal.returns-in_default-clause-order
-returns-in_default-clause-order g c = λ bytes is. in_order (length bytes) (g.S.Source.seen c.args.source.now) (g.S.Source.seen c.args.source.now) (λ _. refl)
+returns-in_default-clause-order g c = λ bytes is. unread_in_order (length bytes) (g.S.Source.seen c.args.source.now)
 
 pub returns-in-Ok-read_through-clause-order : goal.returns-in-Ok-read_through-clause-order
 returns-in-Ok-read_through-clause-order g c = λ bytes is. order_from _ _ (g.S.Source.seen c.args.source.now) (g.S.Source.seen c.read_through.new.source) (c.following-reading.ensures.begin bytes is) c.in-Ok-read_through.ensures.order

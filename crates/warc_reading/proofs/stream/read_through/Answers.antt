@@ -23,7 +23,9 @@ pub returns-in-Err-clause-grows : goal.returns-in-Err-clause-grows
 returns-in-Err-clause-grows g c =
     let i = c.reading.invariant in
     let (end, lies) = c.position-at.ensures.history c.args.reading.now.begin i.taken i.reported i.is_at in
-    let grows = grows_unread c.args.reading.now.begin _ _ _ i.taken i.given true (near c.position-at.result (length c.reading.buf)) (read_there end c.in-Err.ensures.read) (omega (arith, end, c.position-at.ensures.limit)) (fits_near (length c.reading.buf) end c.position-at.ensures.limit) g.L.Keep.keeps (c.args.reading.now.rows, c.args.reading.now.beside) (λ bytes is. c.requires.begin bytes is.listed) c.reading.decoder c.reading.reading
+    let grows = grows_unread c.args.reading.now.begin _ _ _ i.taken i.given true (near c.position-at.result (length c.reading.buf)) (read_there end c.in-Err.ensures.read) (omega (arith, end, c.position-at.ensures.limit)) (fits_near (length c.reading.buf) end c.position-at.ensures.limit)
+    (still_in_order {E = ReadFault} c.args.reading.now.begin c.position-at.result (Err c.in-Err.field-0) (g.S.Source.seen c.args.source.now) (g.S.Source.seen c.reading.source) (g.S.Source.seen c.read_near.new.source) i.taken end i.follows c.in-Err.ensures.order)
+    g.L.Keep.keeps (c.args.reading.now.rows, c.args.reading.now.beside) (λ bytes is. c.requires.begin bytes is.listed) c.reading.decoder c.reading.reading
     i.is_present (λ text reported is. (c.position-at.ensures.history 0 text reported is).1) refl in
     rw (c.at.ensures, end) grows
 
@@ -101,7 +103,9 @@ returns-in_err-take_piece-clause-grows g c =
     let i = c.reading.invariant in
     let start : ℕ = c.args.reading.now.begin in
     let (end, lies) = c.position-at.ensures.history start i.taken i.reported i.is_at in
-    rw (p.1, p.2) (grows_refused start _ _ _ i.taken i.given false (near c.position-at.result (length c.reading.buf)) (read_there end c.in-Ok.ensures.read) (omega (arith, end, c.position-at.ensures.limit)) (fits_near (length c.reading.buf) end c.position-at.ensures.limit) g.L.Keep.keeps (c.args.reading.now.rows, c.args.reading.now.beside) (λ bytes is. c.requires.begin bytes is.listed) c.reading.decoder c.reading.reading
+    rw (p.1, p.2) (grows_refused start _ _ _ i.taken i.given false (near c.position-at.result (length c.reading.buf)) (read_there end c.in-Ok.ensures.read) (omega (arith, end, c.position-at.ensures.limit)) (fits_near (length c.reading.buf) end c.position-at.ensures.limit)
+    (still_in_order {E = ReadFault} c.args.reading.now.begin c.position-at.result (Ok c.in-Ok.n) (g.S.Source.seen c.args.source.now) (g.S.Source.seen c.reading.source) (g.S.Source.seen c.read_near.new.source) i.taken end i.follows c.in-Ok.ensures.order)
+    g.L.Keep.keeps (c.args.reading.now.rows, c.args.reading.now.beside) (λ bytes is. c.requires.begin bytes is.listed) c.reading.decoder c.reading.reading
     i.is_present (λ text reported is. (c.position-at.ensures.history 0 text reported is).1) c.read_near.new.buf c.in-Ok.n c.position-at.result c.in_err-take_piece.field-0.0 refl end (omega (arith, c.if-n-eq0.false))
     (c.in_err-take_piece.ensures.taken start i.taken i.reported i.is_at)
     (λ bytes held. c.in-Ok.ensures.bytes bytes (i.given.kept ∙ held))
@@ -121,7 +125,9 @@ returns-clause-grows g c =
     let i = c.reading.invariant in
     let start : ℕ = c.args.reading.now.begin in
     let (end, lies) = c.position-at.ensures.history start i.taken i.reported i.is_at in
-    grows_ended start _ _ _ i.taken i.given false (near c.position-at.result (length c.reading.buf)) (read_there end c.in-Ok.ensures.read) (omega (arith, end, c.position-at.ensures.limit)) (fits_near (length c.reading.buf) end c.position-at.ensures.limit) g.L.Keep.keeps (c.args.reading.now.rows, c.args.reading.now.beside) (λ bytes is. c.requires.begin bytes is.listed) c.reading.decoder c.reading.reading
+    grows_ended start _ _ _ i.taken i.given false (near c.position-at.result (length c.reading.buf)) (read_there end c.in-Ok.ensures.read) (omega (arith, end, c.position-at.ensures.limit)) (fits_near (length c.reading.buf) end c.position-at.ensures.limit)
+    (still_in_order {E = ReadFault} c.args.reading.now.begin c.position-at.result (Ok c.in-Ok.n) (g.S.Source.seen c.args.source.now) (g.S.Source.seen c.reading.source) (g.S.Source.seen c.read_near.new.source) i.taken end i.follows c.in-Ok.ensures.order)
+    g.L.Keep.keeps (c.args.reading.now.rows, c.args.reading.now.beside) (λ bytes is. c.requires.begin bytes is.listed) c.reading.decoder c.reading.reading
     i.is_present (λ text reported is. (c.position-at.ensures.history 0 text reported is).1) i.reported c.read_near.new.buf c.in-Ok.n c.position-at.result c.finish.result i.is_at refl end c.if-n-eq0.true
     (omega (arith, c.requires.room, i.room, c.read_near.auto.buf))
     (λ bytes held. c.in-Ok.ensures.bytes bytes (i.given.kept ∙ held))
