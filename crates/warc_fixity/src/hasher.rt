@@ -1,5 +1,5 @@
 //! Digests that values state, and the digests of bytes that come in pieces, in every algorithm.
-ghost use Rattle.std.specs.Prelude.{◌≡◌, ℕ, List, [], ◌++◌, option_map};
+ghost use Rattle.std.specs.Prelude.{◌≡◌, ◌≢◌, ℕ, false, List, [], ◌++◌, option_map};
 ghost use Rattle.std.specs.Str.{bytes_eq};
 ghost use Rattle.warc_fixity.specs.declared.names.Algorithm.{Algorithm};
 ghost use Rattle.warc_fixity.specs.Stated.{block_hash};
@@ -65,10 +65,11 @@ impl Digest {
         }
     }
 
-    /// Whether its bytes are those of another digest of the same algorithm.
+    /// Whether its algorithm and its bytes are those of another digest.
     pub fn is_same(&self, other: &Digest) -> bool
-        ensures { (digest_seen self.now).0 ≡ (digest_seen other.now).0 →
+        ensures bytes { (digest_seen self.now).0 ≡ (digest_seen other.now).0 →
             result ≡ bytes_eq (digest_seen self.now).1 (digest_seen other.now).1 }
+        ensures algorithm { (digest_seen self.now).0 ≢ (digest_seen other.now).0 → result ≡ false }
     {
         self == other
     }
