@@ -1,11 +1,13 @@
 # make try          runs the program in about a minute: compiled with checks, not proved. FILE=my.warc lists a file, and
 #                   RUN="check my.warc" runs a command
+# make quick        everything that can be known without a proof: some ten minutes; it ends as `make test` does
 # make              proves the program's crates, several at a time, and builds bin/warc
-# make test         everything that must pass, from nothing: lint, then the gate; the last line is 'N passed, M failed'
+# make test         everything that must pass: lint, proofs, tests over them; the last line is 'N passed, M failed'
 # make lib          proves the crates that C calls, and puts libwarc.a, libwarc.so and warc.h under out/lib
 # make python       puts the Python package with the library under out/python, and tests it
 # make rust         builds and tests the Rust crate over the library
 # make test-callers compares what the program, C, Python and Rust give of many archives; 10,000 damaged ones by valgrind
+# make plants       tries the planted bugs of tests/plants, which the gate leaves out; hours; before a release
 # make check        the quick check while editing: the whole tree, over what earlier checks kept
 # make test-docs    runs the command lines of README.md and docs/PROGRAM.md, and compares what they write
 # make test-compatibility   opens files that wget and bsdtar write, and those of docs/COMPATIBILITY.md
@@ -38,9 +40,9 @@
 PREFIX ?= /usr/local
 export PREFIX LIBDIR DESTDIR PYTHONDIR FILE RUN
 
-.PHONY: all try test check lint lint-code test-docs lint-docs man install uninstall install-python uninstall-python
-.PHONY: dist verify-dist test-compatibility test-package stress bench bench-libraries clean lib python rust test-callers
-.PHONY: page test-page numbers statuses collection
+.PHONY: all try quick test test-around plants check lint lint-code test-docs lint-docs man install uninstall
+.PHONY: install-python uninstall-python dist verify-dist test-compatibility test-package stress bench bench-libraries
+.PHONY: clean lib python rust test-callers page test-page numbers statuses collection
 
 define PAGES
 @python3 tools/make_collection.py out/warc-collection
@@ -57,6 +59,12 @@ try:
 
 test:
 	@.ci/run
+
+quick:
+	@python3 tools/quick.py
+
+plants:
+	@python3 tools/plants.py
 
 check:
 	@rt all check

@@ -35,6 +35,7 @@ OF_A_RUN = ("stdin", "stdout", "args", "status", "data")
 # In a checkout's folder: the path of the checkout, for `clean`.
 CHECKOUT = "checkout"
 ENDED = re.compile(r"^rt: (\w+) (?:(proved)|is (kept)|NOT PROVED)")
+EDIT = re.compile(r"^rt: must-fail \S+\.edit: ")
 HELP = "set ZOGWEDU_BUILD to a folder that you alone may write to: crates are proved there"
 
 
@@ -151,12 +152,18 @@ class Tree:
         with open(f"{self.top}/HANDLES", "w", encoding="utf-8") as out:
             out.write(read("HANDLES"))
 
-    def prove(self, names: Sequence[str]) -> None:
-        """Has `rt ci` prove these crates and those below them, and build and run the programs among them. Ends this
-        script where one isn't proved, or where a run isn't as it is wanted."""
+    def prove(self, names: Sequence[str], edits: Sequence[str] = ()) -> str:
+        """Has `rt ci` prove these crates and those below them, build and run the programs among them, and try planted
+        bugs, which are paths tests/plants/NAME/X.edit; returns its last line. Ends this script where a crate isn't
+        proved, a planted bug is, or a run isn't as it is wanted."""
         self.put(all_below(names, self.uses))
         for name in all_below(names, self.uses):
             shutil.rmtree(f"{self.folder(name)}/out", ignore_errors=True)
+            shutil.rmtree(f"{self.folder(name)}/must-fail", ignore_errors=True)
+        for path in edits:
+            folder = f"{self.folder(path.split('/')[-2])}/must-fail"
+            os.makedirs(folder, exist_ok=True)
+            shutil.copy(f"{TOP}/{path}", folder)
         with open(f"{self.top}/log", "w", encoding="utf-8") as log:
             with subprocess.Popen(
                 ["rt", "ci"],
@@ -167,9 +174,10 @@ class Tree:
                 text=True,
                 errors="replace",
             ) as run:
-                report(run.stdout or (), log)
+                last = report(run.stdout or (), log)
         if run.returncode:
             sys.exit(f"not all is proved: see {self.top}/log")
+        return last
 
     def build_static(self, name: str, kind: str) -> str:
         """Proves and builds a static library, over the crates below it; gives its folder. One that is built of the same
@@ -217,15 +225,19 @@ def toolchain() -> Any:
     return importlib.import_module("rtlib")
 
 
-def report(said: Iterable[str], log: TextIO) -> None:
-    """Copies what `rt ci` says to a log, and prints a line for each crate that is done."""
-    begin = time.monotonic()
+def report(said: Iterable[str], log: TextIO) -> str:
+    """Copies what `rt ci` says to a log, and prints a line for each crate that is done, and for each planted bug;
+    returns the last line."""
+    begin, line = time.monotonic(), ""
     for line in said:
         log.write(line)
         found = ENDED.match(line)
         if found:
             how = "kept" if found[3] else f"{time.monotonic() - begin:5.0f} s" if found[2] else "isn't proved"
             print(f"{found[1]:15} {how}", flush=True)
+        if EDIT.match(line):
+            print(line, end="", flush=True)
+    return line.strip()
 
 
 def build_program(folder: str, name: str, to: str) -> None:

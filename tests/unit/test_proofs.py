@@ -1,0 +1,90 @@
+"""Where crates are proved: outside the checkout, in a folder of this user's own."""
+from __future__ import annotations
+
+import os
+import sys
+from pathlib import Path
+
+import pytest
+
+TOP = os.path.dirname(os.path.dirname(os.path.dirname(os.path.abspath(__file__))))
+sys.path.insert(0, f"{TOP}/tools")
+
+import lint  # noqa: E402
+import proofs  # noqa: E402
+
+
+@pytest.fixture(name="cache")
+def fixture_cache(tmp_path: Path, monkeypatch: pytest.MonkeyPatch) -> Path:
+    """A folder in which checkouts have theirs."""
+    monkeypatch.setenv("ZOGWEDU_BUILD", str(tmp_path / "cache"))
+    return tmp_path / "cache"
+
+
+def test_a_checkout_has_a_folder_of_its_own(cache: Path, monkeypatch: pytest.MonkeyPatch) -> None:
+    own = proofs.checkout_folder()
+    monkeypatch.setattr(proofs, "TOP", str(cache.parent))
+    assert os.path.dirname(own) == str(cache)
+    assert proofs.checkout_folder() != own
+
+
+def test_clean_leaves_other_checkouts_that_are_there(cache: Path, monkeypatch: pytest.MonkeyPatch) -> None:
+    folders = {}
+    for name in ("own", "other", "gone"):
+        (cache.parent / name).mkdir()
+        monkeypatch.setattr(proofs, "TOP", str(cache.parent / name))
+        folders[name] = proofs.checkout_folder()
+    (cache.parent / "gone").rmdir()
+    monkeypatch.setattr(proofs, "TOP", str(cache.parent / "own"))
+    proofs.clean()
+    assert [name for name, path in folders.items() if os.path.isdir(path)] == ["other"]
+
+
+def test_a_folder_that_others_may_write_to_is_refused(cache: Path) -> None:
+    cache.mkdir()
+    cache.chmod(0o777)
+    with pytest.raises(SystemExit, match="alone may write to"):
+        proofs.checkout_folder()
+
+
+def test_without_a_home_it_says_what_to_set(monkeypatch: pytest.MonkeyPatch) -> None:
+    for name in ("ZOGWEDU_BUILD", "XDG_CACHE_HOME", "HOME"):
+        monkeypatch.delenv(name, raising=False)
+    with pytest.raises(SystemExit, match="set ZOGWEDU_BUILD"):
+        proofs.checkout_folder()
+
+
+def test_a_home_that_cannot_be_written_is_named(monkeypatch: pytest.MonkeyPatch) -> None:
+    monkeypatch.delenv("ZOGWEDU_BUILD", raising=False)
+    monkeypatch.delenv("XDG_CACHE_HOME", raising=False)
+    monkeypatch.setenv("HOME", "/proc/nowhere")
+    with pytest.raises(SystemExit, match="/proc/nowhere.*set ZOGWEDU_BUILD"):
+        proofs.checkout_folder()
+
+
+@pytest.mark.parametrize("path", ["out/build/crates.txt", "docs/x.rt", "page/y.antt", "crates.d/z.rt"])
+def test_what_stops_the_gate_is_found(tmp_path: Path, path: str) -> None:
+    (tmp_path / path).parent.mkdir(parents=True, exist_ok=True)
+    (tmp_path / path).write_text("")
+    assert list(lint.strays(str(tmp_path), [])) == [path]
+
+
+@pytest.mark.parametrize("path", ["crates.txt", "crates/warc/src/lib.rt", "crates/warc/out/x.rt", ".git/x.rt"])
+def test_what_the_gate_reads_is_left(tmp_path: Path, path: str) -> None:
+    (tmp_path / path).parent.mkdir(parents=True, exist_ok=True)
+    (tmp_path / path).write_text("")
+    assert not list(lint.strays(str(tmp_path), []))
+
+
+def test_a_log_of_the_gate_becomes_a_line_for_each_crate(tmp_path: Path, capsys: pytest.CaptureFixture[str]) -> None:
+    said = [
+        "rt: warc_field proved\n",
+        "fn x: proved\n",
+        "rt: warc_value is kept: an earlier run\n",
+        "2 passed, 0 failed\n",
+    ]
+    with open(tmp_path / "log", "w", encoding="utf-8") as log:
+        assert proofs.report(said, log) == "2 passed, 0 failed"
+    lines = capsys.readouterr().out.splitlines()
+    assert [line.split()[0] for line in lines] == ["warc_field", "warc_value"]
+    assert (tmp_path / "log").read_text() == "".join(said)
