@@ -157,7 +157,7 @@ module _ (begun old now : SeenSource) (at after : ℕ) (before failure : Option 
   walk_end is =
       let none = sound_before before None answer is (λ f same. (failed f same).0) in
       let adv = advances none in
-      let sound = goes_now (Ok None) is none in
+      let sound = (goes_now (Ok None) is none).1 in
       let P : Option Fault → Type 0 = λ x. IfHeld begun.holds (λ bytes. AreGiven bytes at x given) in
       record {
         walked = record {
@@ -177,7 +177,7 @@ module _ (begun old now : SeenSource) (at after : ℕ) (before failure : Option 
   stop_walked : (f : Fault) → answer ≡ Err f → now.holds ≡ old.holds → now.watches ≡ old.watches → AsksNear old now → now.faults ≡ faults_after_stop (Some f) begun.faults → HasEnded begun now at (Some f) tally given
   stop_walked f is kept watched near cause = record {
     walked = record {
-      given = λ bytes held. (gives_now (Err f) is bytes held).0;
+      given = λ bytes held. gives_now (Err f) is bytes held;
       kept = record { kept = kept ∙ walked.kept.kept; watched = watched ∙ walked.kept.watched };
       near = asks_both begun old now walked.kept.watched walked.near near;
       cause = cause;
@@ -186,7 +186,7 @@ module _ (begun old now : SeenSource) (at after : ℕ) (before failure : Option 
       within = walked.within;
       limit = walked.limit;
     };
-    are = λ bytes held. (gives_now (Err f) is bytes held).0;
+    are = λ bytes held. gives_now (Err f) is bytes held;
   }
 
   stop_by : (was : Option Fault) → before ≡ was → (f : Fault) → answer ≡ Err f → HasEnded begun now at (Some f) tally given
@@ -265,13 +265,13 @@ ends_before bytes f pieces before =
     let text = take (reach_of f) (near bytes) in
     let first = ends_of_first 0 (near bytes) before.first before.at before.are (length (near bytes)) (omega arith) in
     let low = first_within 0 (near bytes) before.first before.at before.are in
-    ⊎_elim (λ same. subst P (sym same) first)
+    ⊎_elim (λ has. subst P (sym has.0) first)
     (λ has.
-    let (run, same, is, one) = has in
+    let (run, same, is, one, end) = has in
     let inside = piece_within before.at (drop before.at text) run one in
-    let end : offset_of run + piece_len run ≤ length (near bytes) =
+    let low_end : offset_of run + piece_len run ≤ length (near bytes) =
     omega (arith, inside, low, begins_at before.at (drop before.at text) run one, length-drop before.at text, length-take (reach_of f) (near bytes)) in
-    subst P (sym same) (end_more (length (near bytes)) before.first run first end))
+    subst P (sym same) (end_more (length (near bytes)) before.first run first low_end))
     before.last
 
 ends_of_given : (bytes : List ℕ) (at : ℕ) (failure : Option Fault) (pieces : List Piece) → AreGiven bytes at failure pieces → EndBy (length (near bytes)) pieces

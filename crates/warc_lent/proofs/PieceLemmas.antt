@@ -7,9 +7,9 @@ use Rattle.warc_frame.specs.Seen.{IfHeld, SeenSource}
 use Rattle.warc_frame.specs.declared.fault.Fault.{Fault}
 use Rattle.warc_frame.specs.declared.fault.FaultKind.{FaultKind}
 use Rattle.warc_frame.specs.declared.fault.FaultKind.TheVariants.{Memory, Read, TooLong}
-use Rattle.warc_pieces.specs.Reader.{Advances, AreGiven, GivesMore, GoesBy, StopsBy, faults_after_stop}
+use Rattle.warc_pieces.specs.Reader.{Advances, AreGiven, GivesMore, GoesBy, faults_after_stop}
 use Rattle.warc_pieces.specs.declared.piece.Piece.{Piece}
-use Rattle.warc_lent.specs.Pieces.{HoldsPieces, IsUnfinishedFor, IsWalkPut, SomeArePut, piece_numbers}
+use Rattle.warc_lent.specs.Pieces.{HoldsPieces, IsWalkPut, NoneIsPut, SomeArePut, piece_numbers}
 use Rattle.warc_lent.specs.declared.pieces.PieceNumbers.{PieceNumbers}
 use Rattle.warc_lent.specs.declared.problem.Problem.TheVariants as problems
 use Rattle.warc_lent.proofs.BufferLemmas.{drop_further, front_nil, front_push}
@@ -138,7 +138,7 @@ module _ (begun old now : SeenSource) (at after : ℕ) (before failure : Option 
   pub walk_stop : (f : Fault) → answer ≡ Err f → IsWalkPut begun now (Err f) out mid
   walk_stop f is = record {
     pieces = has.pieces;
-    are = λ bytes held. let more = gives_now (Err f) is bytes held in (more.0, (after, more.1));
+    are = gives_now (Err f) is;
     number_is = tt;
     cause = fails_once before refl f is;
     put = has.put;
@@ -146,32 +146,22 @@ module _ (begun old now : SeenSource) (at after : ℕ) (before failure : Option 
 
 -- ---- over lent bytes, whose source never fails
 
-unfinished_for : (kind : FaultKind) (bytes : List ℕ) (at : ℕ) (f : Fault) → f.kind ≡ kind → 0 ≡ faults_after_stop (Some (record { kind = kind; offset = f.offset })) 0 → StopsBy kind bytes at f → IsUnfinishedFor bytes f
-unfinished_for Read bytes at f same sound is = absurd (omega (arith, sound))
-unfinished_for Memory bytes at f same sound is = inl same
-unfinished_for TooLong bytes at f same sound (offset, end, more) = inr (same, offset, more)
-unfinished_for kind bytes at f same sound is = absurd is
+not_read : (kind : FaultKind) → 0 ≡ faults_after_stop (Some (record { kind = kind; offset = 0 })) 0 → kind ≢ Read
+not_read Read sound = absurd (omega (arith, sound))
+not_read kind sound = λ read. cc read
 
 pub some_put : (bytes : List ℕ) (begun now : SeenSource) (f : Fault) (old new : List PieceNumbers) → begun.holds ≡ Some bytes → begun.faults ≡ 0 → now.faults ≡ 0
     → IsWalkPut begun now (Err f) old new → SomeArePut bytes (problems.Fault f) old new
 some_put bytes begun now f old new held first last walk =
-    let (before, stop) = walk.are bytes held in
     record {
       pieces = walk.pieces;
       fault = f;
-      are = before;
-      stops = unfinished_for f.kind bytes stop.0 f refl (sym last ∙ walk.cause ∙ ap (faults_after_stop (Some f)) first) stop.1;
+      are = walk.are bytes held;
+      sound = not_read f.kind (sym last ∙ walk.cause ∙ ap (faults_after_stop (Some f)) first);
       problem_is = refl;
       put = walk.put;
     }
 
 -- without memory nothing is put
-pub none_put : (bytes : List ℕ) (f : Fault) (out : List PieceNumbers) → f ≡ fault Memory 0 → SomeArePut bytes (problems.Fault f) out out
-none_put bytes f out is = record {
-  pieces = [];
-  fault = f;
-  are = record { first = []; at = 0; are = refl; last = inl refl };
-  stops = inl (ap (λ (g : Fault). g.kind) is);
-  problem_is = refl;
-  put = holds_none out;
-}
+pub none_put : (f : Fault) (out : List PieceNumbers) → f ≡ fault Memory 0 → NoneIsPut (problems.Fault f) out out
+none_put f out is = record { problem_is = ap problems.Fault is; same = refl }

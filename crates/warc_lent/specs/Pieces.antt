@@ -1,11 +1,11 @@
 -- Pieces of bytes, as numbers for callers in other languages. This project's own notion.
-use Rattle.std.specs.Prelude.{◌≡◌, ◌⊎◌, ◌<◌, ◌≤◌, ℕ, List, length, map, Result, Ok, Err, Some, IfOk, IfErr}
+use Rattle.std.specs.Prelude.{◌≡◌, ◌≢◌, ◌⊎◌, ◌≤◌, ℕ, List, length, map, Result, Ok, Err, Some, IfOk, IfErr}
 use Rattle.warc_frame.specs.Record.{max_archive}
 use Rattle.warc_frame.specs.Seen.{IfHeld, SeenSource}
 use Rattle.warc_frame.specs.declared.fault.Fault.{Fault}
-use Rattle.warc_frame.specs.declared.fault.FaultKind.TheVariants.{Memory, TooLong}
+use Rattle.warc_frame.specs.declared.fault.FaultKind.TheVariants.{Memory, Read}
 use Rattle.warc_pieces.specs.Pieces.{ArePieces}
-use Rattle.warc_pieces.specs.Reader.{AreBefore, StopsBy, faults_after_stop}
+use Rattle.warc_pieces.specs.Reader.{AreBefore, faults_after_stop}
 use Rattle.warc_pieces.specs.declared.piece.Piece.{Piece}
 use Rattle.warc_pieces.specs.declared.piece.Piece.TheVariants.{Records, Damage}
 use Rattle.warc_lent.specs.Buffers.{HoldsFront, KeepsAfter}
@@ -34,30 +34,29 @@ pub record AllArePut (bytes : List ℕ) (number : ℕ) (old new : List PieceNumb
   pub number_is : number ≡ length pieces
   pub put : HoldsPieces pieces old new
 
--- memory ran out, or the bytes go on at offset 2^48
-abbrev pub IsUnfinishedFor : List ℕ → Fault → Type 0
-IsUnfinishedFor bytes fault =
-    (fault.kind ≡ Memory)
-    ⊎ ((fault.kind ≡ TooLong) × (fault.offset ≡ max_archive) × (max_archive < length bytes))
-
--- the pieces of bytes before a fault are put, and this is the problem
+-- the pieces of bytes before a fault are put, and this is the problem: memory ran out, or the bytes go on at offset 2^48
 pub record SomeArePut (bytes : List ℕ) (problem : Problem) (old new : List PieceNumbers) : Type 0 where
   pub pieces : List Piece
   pub fault : Fault
   pub are : AreBefore bytes fault pieces
-  pub stops : IsUnfinishedFor bytes fault
+  pub sound : fault.kind ≢ Read
   pub problem_is : problem ≡ problems.Fault fault
   pub put : HoldsPieces pieces old new
+
+-- there is no memory to begin with, and nothing is put
+pub record NoneIsPut (problem : Problem) (old new : List PieceNumbers) : Type 0 where
+  pub problem_is : problem ≡ problems.Fault (record { kind = Memory; offset = 0 })
+  pub same : new ≡ old
 
 -- all pieces of bytes are put, or those before the problem
 abbrev pub PutsPieceNumbers : List ℕ → Result ℕ Problem → List PieceNumbers → List PieceNumbers → Type 0
 PutsPieceNumbers bytes (Ok number) old new = AllArePut bytes number old new
-PutsPieceNumbers bytes (Err problem) old new = SomeArePut bytes problem old new
+PutsPieceNumbers bytes (Err problem) old new = SomeArePut bytes problem old new ⊎ NoneIsPut problem old new
 
 -- these are the pieces of bytes to the end, or those before what stops reading
 abbrev pub AreReadTo : List ℕ → Result ℕ Fault → List Piece → Type 0
 AreReadTo bytes (Ok number) pieces = ArePieces bytes pieces × (length bytes ≤ max_archive)
-AreReadTo bytes (Err f) pieces = AreBefore bytes f pieces × ((at : ℕ) × StopsBy f.kind bytes at f)
+AreReadTo bytes (Err f) pieces = AreBefore bytes f pieces
 
 -- the pieces that a reader gives are put, and their number is answered, or what stops it; the source has failed once
 -- more exactly if that is a failed read

@@ -1,6 +1,6 @@
 -- What a reader of pieces has given, and where it stands.
 use Rattle.std.proofs.Common.{Bool, false, IfSome, min, ◌≡◌, ◌≢◌, ℕ, zero, suc, ⊎_elim, ◌+◌, ◌-◌, ◌*◌, ◌<◌, ◌≤◌, ◌⊎◌, inl, inr, List, [], ◌∷◌, ◌++◌, length, length-append, take, drop, Option, None, Some, Result, Ok, Err, refl, sym, ap, subst, ◌∙◌, arith}
-use Rattle.std.proofs.lemmas.List.{drop-drop, length-drop, length-take, take_all}
+use Rattle.std.proofs.lemmas.List.{drop-drop, drop_all, length-drop, length-take, take_all}
 use Rattle.std.proofs.Math.Seq.{drop-append_seam}
 use Rattle.std.proofs.lemmas.Bool.{cases_lt}
 use Rattle.warc_frame.specs.Device.{Gives}
@@ -11,17 +11,20 @@ use Rattle.warc_frame.specs.declared.fault.Fault.{Fault}
 use Rattle.warc_frame.specs.declared.fault.FaultKind.{FaultKind}
 use Rattle.warc_frame.specs.declared.fault.FaultKind.TheVariants as kinds
 use Rattle.warc_record.specs.Heads.{head_fault}
-use Rattle.warc_reading.specs.Fronts.{BeginsWithNone, reach_by}
+use Rattle.warc_reading.specs.Fronts.{BeginsWithNone, reach_by, reach_of}
+use Rattle.warc_pieces.specs.Judging.{IsUnreadAt, MissesBy}
 use Rattle.warc_pieces.specs.Pieces.{AreFirst, BeginsWithOne, IsDamage, IsPiece, IsRun, near}
-use Rattle.warc_pieces.specs.Reader.{Advances, ReadsFew, lines_between, GoesBy, GivesMore, GivesOf, AreGiven, IsPieceAt, IsStoppedBy, IsWalkBefore, StopsBy, faults_after_stop}
+use Rattle.warc_pieces.specs.Reader.{Advances, ReadsFew, lines_between, GoesBy, GivesMore, GivesOf, AreGiven, IsPieceAt, IsStop, IsWalkAt, IsWalkBefore, StopsBy, faults_after_stop}
 use Rattle.warc_pieces.specs.Run.{RunEndsBy, IsRead, answer_of}
-use Rattle.warc_pieces.specs.Search.{IsNextRecord, lines_in}
+use Rattle.warc_pieces.specs.Search.{IsNextRecord, IsSearchStopped, lines_in}
 use Rattle.warc_pieces.specs.Window.{ReadsBy, Shown, Shows, failures_after}
 use Rattle.warc_pieces.specs.declared.piece.Piece.{Piece}
 use Rattle.warc_pieces.specs.declared.piece.Piece.TheVariants.{Records, Damage}
+use Rattle.warc_pieces.specs.declared.pieces.Walk.{Walk}
 use Rattle.warc_pieces.proofs.PieceLemmas.{all_pieces, first_within, one_more, run_within}
 use Rattle.warc_pieces.proofs.ReadsLemmas.{no_fault_by}
 use Rattle.warc_pieces.proofs.RunLemmas.{begins_with_none}
+use Rattle.warc_pieces.proofs.SearchLemmas.{failed_from, none_in_part}
 
 near_short : (bytes : List ℕ) → length (near bytes) ≤ max_archive
 unfolding near
@@ -55,15 +58,14 @@ gives_more bytes at after None pieces (Ok (Some piece)) given next =
     let Q : ℕ → Type 0 = λ n. AreFirst 0 (near bytes) (pieces ++ piece ∷ []) n in
     subst Q (sym next.after_is) (one_more 0 (near bytes) pieces at piece given (piece_here at (near bytes) piece is))
 gives_more bytes at after (Some f) pieces (Ok (Some piece)) given next =
-    record { first = pieces; at = at; are = given; last = inr (piece, refl, next.before (λ e. cc e), next.is) }
+    record { first = pieces; at = at; end = after; are = given; last = inr (piece, refl, next.before (λ e. cc e), next.is, next.after_is); stops = next.stops }
 gives_more bytes at after failure pieces (Ok None) given (end, sound) =
     let low = first_within 0 (near bytes) pieces at given in
     let short : length bytes ≤ max_archive = omega (arith, low, near_short bytes, end) in
     let whole : at ≡ 0 + length (near bytes) = omega (arith, end, ap length (near_all bytes short)) in
     (all_pieces 0 (near bytes) pieces at given whole, short)
 gives_more bytes at after failure pieces (Err f) given (stops, same) =
-    let P : ℕ → Type 0 = λ n. StopsBy f.kind bytes n f in
-    (record { first = pieces; at = at; are = given; last = inl refl }, subst P (sym same) stops)
+    record { first = pieces; at = at; end = at; are = given; last = inl (refl, refl); stops = stops }
 
 -- ---- a run
 
@@ -72,31 +74,34 @@ pub run_to_end : (bytes : List ℕ) (at count len : ℕ) (found : Option Fault) 
     → IsPieceAt bytes at (at + len) None (Records at len count)
 run_to_end bytes at count len found some run =
     let P : List ℕ → Type 0 = λ t. IsRun at (drop at t) count len found in
-    record { is = (refl, some, found, subst P (sym (near_twice bytes)) run); after_is = refl; before = λ no. absurd (no refl) }
+    record { is = (refl, some, found, subst P (sym (near_twice bytes)) run); after_is = refl; before = λ no. absurd (no refl); stops = tt }
+
+-- what comes next is why reading stops
+stop_here : (bytes : List ℕ) (end : ℕ) (f : Fault) → StopsBy f.kind bytes end end f → IsStop bytes end f
+stop_here bytes end f by = record { stop = end; after = omega arith; none = λ q first last. absurd (omega (arith, first, last)); by = by }
 
 -- so is a run to a failure
-module _ (bytes : List ℕ) (at count len x : ℕ) (f : Fault) where
+module _ (bytes : List ℕ) (at count len : ℕ) (f : Fault) where
   abbrev pub Fails : FaultKind → Type 0
-  Fails kind = (found : Option Fault) × IsRun at (drop at (take (reach_by kind f.offset) (near bytes))) count len found × StopsBy kind bytes x f
+  Fails kind = (found : Option Fault) × IsRun at (drop at (take (reach_by kind f.offset) (near bytes))) count len found × StopsBy kind bytes (at + len) (at + len) f
 
   pub read_fails : f.kind ≡ kinds.Read → RunEndsBy f.kind at bytes count len f → Fails f.kind
   read_fails is ends =
       let P : FaultKind → Type 0 = λ kind. RunEndsBy kind at bytes count len f in
       let parts : RunEndsBy kinds.Read at bytes count len f = subst P is ends in
-      let (within, found, run, cut) = parts in
-      subst Fails (sym is) (found, run, within)
+      subst Fails (sym is) parts
 
   pub memory_fails : f.kind ≡ kinds.Memory → RunEndsBy f.kind at bytes count len f → Fails f.kind
   memory_fails is ends =
       let P : FaultKind → Type 0 = λ kind. RunEndsBy kind at bytes count len f in
       let parts : RunEndsBy kinds.Memory at bytes count len f = subst P is ends in
       let (offset, within, run) = parts in
-      subst Fails (sym is) (None, run, within)
+      subst Fails (sym is) (None, run, (offset, omega (arith, offset, within)))
 
-pub run_to_failure : (bytes : List ℕ) (at count len x : ℕ) (f : Fault) → 0 < count → Fails bytes at count len x f f.kind
+pub run_to_failure : (bytes : List ℕ) (at count len : ℕ) (f : Fault) → 0 < count → Fails bytes at count len f f.kind
     → IsPieceAt bytes at (at + len) (Some f) (Records at len count)
-run_to_failure bytes at count len x f some (found, run, stops) =
-    record { is = (refl, some, found, run); after_is = refl; before = λ no. refl }
+run_to_failure bytes at count len f some (found, run, stops) =
+    record { is = (refl, some, found, run); after_is = refl; before = λ no. refl; stops = stop_here bytes (at + len) f stops }
 
 -- a run to damage
 pub run_to_damage : (bytes : List ℕ) (at count len : ℕ) (f : Fault) (kind : FaultKind) → kind ≢ kinds.Read → kind ≢ kinds.Memory
@@ -190,7 +195,7 @@ damage_piece bytes at next f low found is =
       next = ⊎_elim (λ end. inl (omega (arith, end, size))) (λ begins. inr (one begins)) is.next;
     } in
     let P : List ℕ → Type 0 = λ t. IsDamage at (drop at t) (next - at) f in
-    record { is = (refl, subst P (sym (near_twice bytes)) damage); after_is = sym there; before = λ no. absurd (no refl) }
+    record { is = (refl, subst P (sym (near_twice bytes)) damage); after_is = sym there; before = λ no. absurd (no refl); stops = tt }
 
 -- ---- where a walk stands
 
@@ -203,8 +208,33 @@ ends_there bytes at n buf limit low gives none room =
     ⊎_elim (λ (more : max_archive < length bytes). absurd (omega (arith, gives.some more room, none))) (λ (few : length bytes ≤ max_archive). few) (cases_lt max_archive (length bytes)) in
     omega (arith, limit, low, short, ap length (near_all bytes short))
 
-stopped_none : (bytes : List ℕ) (at : ℕ) (failure : Option Fault) → failure ≡ None → IsStoppedBy bytes at failure
-stopped_none bytes at failure none = let P : Option Fault → Type 0 = λ o. IsStoppedBy bytes at o in subst P (sym none) tt
+cut_there : (at m : ℕ) (t : List ℕ) → at ≡ m → drop at (take m t) ≡ []
+cut_there at m t same = drop_all at (take m t) (omega (arith, same, length-take m t))
+
+-- there a read fails, or the bytes go on
+pub unread_there : (bytes : List ℕ) (at : ℕ) → at ≡ max_archive → at ≤ length (near bytes) → IsStop bytes at (record { kind = kinds.Read; offset = max_archive }) × (at ≡ at)
+unread_there bytes at limit low =
+    let unread : IsUnreadAt at bytes max_archive = record {
+      after = omega (arith, limit);
+      within = omega (arith, limit, low);
+      cut = inl (cut_there at max_archive (near bytes) limit);
+    } in
+    (stop_here bytes at (record { kind = kinds.Read; offset = max_archive }) unread, refl)
+
+pub too_long_there : (bytes : List ℕ) (at n : ℕ) (buf : List ℕ) → at ≡ max_archive → Gives bytes max_archive buf n → 0 < n → IsStop bytes at (record { kind = kinds.TooLong; offset = max_archive }) × (at ≡ at)
+too_long_there bytes at n buf limit gives some =
+    (stop_here bytes at (record { kind = kinds.TooLong; offset = max_archive }) (refl, limit, omega (arith, gives.within, some)), refl)
+
+-- a walk that has kept a failure
+pub has_failed : {A : Type 0} (bytes : List ℕ) (old new : Walk A) (f g : Fault) (answer : Result (Option Piece) Fault) → IsWalkAt bytes old → answer ≡ Err f → f ≡ g
+    → (new.window ≡ old.window) × (new.at ≡ old.at) × (new.damage ≡ old.damage) → IsStop bytes old.at g × (old.at ≡ old.at) → IsWalkAt bytes new × GivesOf bytes old.at new.at new.failure answer
+has_failed {A} bytes old new f g answer is answer_is same (window, at, damage) (stop, here) =
+    let P : Result (Option Piece) Fault → Type 0 = λ a. GivesOf bytes old.at new.at new.failure a in
+    let Q : Fault → Type 0 = λ x. IsStop bytes old.at x in
+    let W : Shown → Type 0 = λ w. IsWalkBefore bytes w new.at new.damage in
+    let D : Option Fault → Type 0 = λ d. IsWalkBefore bytes old.window new.at d in
+    let N : ℕ → Type 0 = λ n. IsWalkBefore bytes old.window n old.damage in
+    (subst W (sym window) (subst D (sym damage) (subst N (sym at) is)), subst P (sym answer_is) (subst Q (sym same) stop, at))
 
 some_length : (t : List ℕ) → t ≢ [] → 0 < length t
 some_length [] other = absurd (other refl)
@@ -220,10 +250,43 @@ found_inside bytes at f low found =
 -- damage was found, and the next good record
 pub damage_given : (bytes : List ℕ) (at next : ℕ) (f : Fault) (failure : Option Fault) (w : Shown) → failure ≡ None → Shows bytes w → at ≤ length (near bytes)
     → ReadsAs head_fault at (drop at (near bytes)) [] (Some f) → IsNextRecord bytes (at + 1) next
-    → IsWalkBefore bytes w next None failure × IsPieceAt bytes at next failure (Damage at (next - at) f)
+    → IsWalkBefore bytes w next None × IsPieceAt bytes at next failure (Damage at (next - at) f)
 damage_given bytes at next f failure w none shows low found is =
     let P : Option Fault → Type 0 = λ o. IsPieceAt bytes at next o (Damage at (next - at) f) in
-    (record { shows = shows; within = is.within; found = tt; stopped = stopped_none bytes next failure none }, subst P (sym none) (damage_piece bytes at next f low found is))
+    (record { shows = shows; within = is.within; found = tt }, subst P (sym none) (damage_piece bytes at next f low found is))
+
+-- a search that stopped is why reading stops
+reach_is : (kind : FaultKind) (offset : ℕ) → (kind ≡ kinds.Read) ⊎ (kind ≡ kinds.Memory) → reach_by kind offset ≡ offset
+reach_is kinds.Read offset fails = refl
+reach_is kinds.Memory offset fails = refl
+reach_is kind offset fails = absurd (⊎_elim (λ e. cc) (λ e. cc) fails)
+
+stops_by : (kind : FaultKind) (bytes : List ℕ) (end stop : ℕ) (f : Fault) → (kind ≡ kinds.Read) ⊎ (kind ≡ kinds.Memory) → MissesBy kind stop bytes f → StopsBy kind bytes end stop f
+stops_by kinds.Read bytes end stop f fails miss = miss
+stops_by kinds.Memory bytes end stop f fails miss = miss
+stops_by kind bytes end stop f fails miss = absurd (⊎_elim (λ e. cc) (λ e. cc) fails)
+
+search_stop : (bytes : List ℕ) (at : ℕ) (g f : Fault) → ReadsAs head_fault at (drop at (near bytes)) [] (Some g) → (f.kind ≡ kinds.Read) ⊎ (f.kind ≡ kinds.Memory)
+    → IsSearchStopped bytes (at + 1) f → IsStop bytes at f
+search_stop bytes at g f found fails stopped =
+    let reach : f.offset ≡ reach_of f = sym (reach_is f.kind f.offset fails) in
+    let low = failed_from f.kind stopped.at bytes f fails stopped.misses in
+    let P : ℕ → Type 0 = λ m. (q : ℕ) → at ≤ q → q < stopped.at → BeginsWithNone (drop q (take m (near bytes))) in
+    let none : P f.offset = λ q first last. ⊎_elim
+    (λ (here : q < at + 1).
+    let same : at ≡ q = omega (arith, first, here) in
+    let Q : ℕ → Type 0 = λ k. BeginsWithNone (drop k (take f.offset (near bytes))) in
+    subst Q same (none_in_part (near bytes) at f.offset (omega (arith, low, stopped.after)) (none_here at (drop at (near bytes)) g found)))
+    (λ (later : at + 1 ≤ q). stopped.none q later last)
+    (cases_lt q (at + 1)) in
+    record { stop = stopped.at; after = omega (arith, stopped.after); none = subst P reach none; by = stops_by f.kind bytes at stopped.at f fails stopped.misses }
+
+-- damage was found, and the search for the next good record stopped
+pub search_stopped : (bytes : List ℕ) (at : ℕ) (g f : Fault) (damage : Option Fault) (was w : Shown) → IsWalkBefore bytes was at damage → Shows bytes w
+    → ReadsAs head_fault at (drop at (near bytes)) [] (Some g) → (f.kind ≡ kinds.Read) ⊎ (f.kind ≡ kinds.Memory) → IsSearchStopped bytes (at + 1) f
+    → IsWalkBefore bytes w at damage × (IsStop bytes at f × (at ≡ at))
+search_stopped bytes at g f damage was w before shows found fails stopped =
+    (record { shows = shows; within = before.within; found = before.found }, (search_stop bytes at g f found fails stopped, refl))
 
 pub inside_of : (bytes : List ℕ) (at : ℕ) (f : Fault) → at ≤ length (near bytes) → ReadsAs head_fault at (drop at (near bytes)) [] (Some f) → at + 1 ≤ length (near bytes)
 inside_of bytes at f low found = found_inside bytes at f low found
@@ -246,30 +309,30 @@ run_or_end bytes at count len (Some piece) below low run empty none (is, some) =
 -- a run was read to the end of the bytes
 pub end_given : (bytes : List ℕ) (at count len : ℕ) (end failure : Option Fault) (w : Shown) (piece : Option Piece) → failure ≡ None → end ≡ None → Shows bytes w
     → at < max_archive → at ≤ length (near bytes) → IsRead at bytes count len end → (count ≡ 0 → len ≡ 0) → (piece ≡ None → count ≡ 0)
-    → IfSome piece (λ p. (p ≡ Records at len count) × (0 < count)) → IsWalkBefore bytes w (at + len) None failure × GivesOf bytes at (at + len) failure (Ok piece)
+    → IfSome piece (λ p. (p ≡ Records at len count) × (0 < count)) → IsWalkBefore bytes w (at + len) None × GivesOf bytes at (at + len) failure (Ok piece)
 end_given bytes at count len end failure w piece none is shows below low read empty absent some =
     let R : Option Fault → Type 0 = λ o. IsRead at bytes count len o in
     let run = subst R is read in
     let P : Option Fault → Type 0 = λ o. GivesOf bytes at (at + len) o (Ok piece) in (
-      record { shows = shows; within = run_inside bytes at count len None low run; found = tt; stopped = stopped_none bytes (at + len) failure none },
+      record { shows = shows; within = run_inside bytes at count len None low run; found = tt },
       subst P (sym none) (run_or_end bytes at count len piece below low run empty absent some),
     )
 
 -- a run was read to a failure
-fails_by : (bytes : List ℕ) (at count len x : ℕ) (f : Fault) → (f.kind ≡ kinds.Read) ⊎ (f.kind ≡ kinds.Memory) → RunEndsBy f.kind at bytes count len f
-    → Fails bytes at count len x f f.kind
-fails_by bytes at count len x f is ends =
-    ⊎_elim (λ read. read_fails bytes at count len x f read ends) (λ memory. memory_fails bytes at count len x f memory ends) is
+fails_by : (bytes : List ℕ) (at count len : ℕ) (f : Fault) → (f.kind ≡ kinds.Read) ⊎ (f.kind ≡ kinds.Memory) → RunEndsBy f.kind at bytes count len f
+    → Fails bytes at count len f f.kind
+fails_by bytes at count len f is ends =
+    ⊎_elim (λ read. read_fails bytes at count len f read ends) (λ memory. memory_fails bytes at count len f memory ends) is
 
-reach_inside : (bytes : List ℕ) (at count len x : ℕ) (f : Fault) → (f.kind ≡ kinds.Read) ⊎ (f.kind ≡ kinds.Memory) → at ≤ length (near bytes)
+reach_inside : (bytes : List ℕ) (at count len : ℕ) (f : Fault) → (f.kind ≡ kinds.Read) ⊎ (f.kind ≡ kinds.Memory) → at ≤ length (near bytes)
     → RunEndsBy f.kind at bytes count len f → at + len ≤ length (near bytes)
-reach_inside bytes at count len x f is low ends =
+reach_inside bytes at count len f is low ends =
     let P : FaultKind → Type 0 = λ kind. RunEndsBy kind at bytes count len f in
     ⊎_elim
     (λ read.
     let parts : RunEndsBy kinds.Read at bytes count len f = subst P read ends in
-    let (within, found, run, cut) = parts in
-    front_inside bytes at count len f.offset found low within run)
+    let (found, run, unread) = parts in
+    front_inside bytes at count len f.offset found low unread.within run)
     (λ memory.
     let parts : RunEndsBy kinds.Memory at bytes count len f = subst P memory ends in
     let (offset, within, run) = parts in
@@ -277,17 +340,23 @@ reach_inside bytes at count len x f is low ends =
     is
 
 pub failure_given : (bytes : List ℕ) (at count len : ℕ) (end : Option Fault) (f : Fault) (w : Shown) → end ≡ Some f → (f.kind ≡ kinds.Read) ⊎ (f.kind ≡ kinds.Memory)
-    → Shows bytes w → at ≤ length (near bytes) → IsRead at bytes count len end → IsWalkBefore bytes w (at + len) None (Some f) × Fails bytes at count len (at + len) f f.kind
+    → Shows bytes w → at ≤ length (near bytes) → IsRead at bytes count len end → IsWalkBefore bytes w (at + len) None × Fails bytes at count len f f.kind
 failure_given bytes at count len end f w is fails shows low read =
     let R : Option Fault → Type 0 = λ o. IsRead at bytes count len o in
     let ends : RunEndsBy f.kind at bytes count len f = subst R is read in
-    let failed = fails_by bytes at count len (at + len) f fails ends in
-    (record { shows = shows; within = reach_inside bytes at count len 0 f fails low ends; found = tt; stopped = failed.2 }, failed)
+    (record { shows = shows; within = reach_inside bytes at count len f fails low ends; found = tt }, fails_by bytes at count len f fails ends)
+
+-- a read failed or memory ran out for the first record
+pub failure_here : (bytes : List ℕ) (at count len : ℕ) (f : Fault) → len ≡ 0 → Fails bytes at count len f f.kind → IsStop bytes at f × (at + len ≡ at)
+failure_here bytes at count len f none (found, run, stops) =
+    let here : at + len ≡ at = omega (arith, none) in
+    let P : ℕ → Type 0 = λ n. StopsBy f.kind bytes n n f in
+    (stop_here bytes at f (subst P here stops), here)
 
 -- a run was read to damage
 pub found_given : (bytes : List ℕ) (at count len : ℕ) (end failure : Option Fault) (f : Fault) (w : Shown) → end ≡ Some f → failure ≡ None → f.kind ≢ kinds.Read
     → f.kind ≢ kinds.Memory → Shows bytes w → at ≤ length (near bytes) → IsRead at bytes count len end
-    → IsWalkBefore bytes w (at + len) (Some f) failure × IsRun at (drop at (near bytes)) count len (Some f)
+    → IsWalkBefore bytes w (at + len) (Some f) × IsRun at (drop at (near bytes)) count len (Some f)
 found_given bytes at count len end failure f w is none no_read no_memory shows low read =
     let R : Option Fault → Type 0 = λ o. IsRead at bytes count len o in
     let run = run_to_damage bytes at count len f f.kind no_read no_memory (subst R is read) in (
@@ -295,7 +364,6 @@ found_given bytes at count len end failure f w is none no_read no_memory shows l
         shows = shows;
         within = run_inside bytes at count len (Some f) low run;
         found = found_after at (near bytes) count len f run;
-        stopped = stopped_none bytes (at + len) failure none;
       },
       run,
     )
@@ -336,14 +404,12 @@ advances_after n answer w now old mid new at after failure given reads same next
 
 -- a reader gives one more answer, or says its failure again
 pub next_gives : (bytes : List ℕ) (at after : ℕ) (was now : Option Fault) (pieces : List Piece) (answer : Result (Option Piece) Fault)
-    → (was ≡ None → GivesOf bytes at after now answer) → ((f : Fault) → was ≡ Some f → (answer ≡ Err f) × (after ≡ at)) → IsStoppedBy bytes at was
+    → (was ≡ None → GivesOf bytes at after now answer) → ((f : Fault) → was ≡ Some f → answer ≡ Err f)
     → AreGiven bytes at was pieces → GivesMore bytes after now pieces answer
-next_gives bytes at after None now pieces answer gives again stopped given = gives_more bytes at after now pieces answer given (gives refl)
-next_gives bytes at after (Some f) now pieces answer gives again stopped given =
-    let (is, same) = again f refl in
+next_gives bytes at after None now pieces answer gives again given = gives_more bytes at after now pieces answer given (gives refl)
+next_gives bytes at after (Some f) now pieces answer gives again given =
     let P : Result (Option Piece) Fault → Type 0 = λ a. GivesMore bytes after now pieces a in
-    let Q : ℕ → Type 0 = λ n. StopsBy f.kind bytes n f in
-    subst P (sym is) (given, subst Q (sym same) stopped)
+    subst P (sym (again f refl)) given
 
 -- ---- what a run gives
 
@@ -352,10 +418,10 @@ goes_some p at count len failure is some few =
     let P : Piece → Type 0 = λ q. GoesBy at (at + len) failure (Ok (Some q)) in
     subst P (sym is) (refl, refl, omega (arith, some, few), few)
 
-pub goes_by : (piece : Option Piece) (at count len : ℕ) (failure : Option Fault) → failure ≡ None → IfSome piece (λ p. (p ≡ Records at len count) × (0 < count)) → count ≤ len
+pub goes_by : (piece : Option Piece) (at count len : ℕ) (failure : Option Fault) → failure ≡ None → (count ≡ 0 → len ≡ 0) → (piece ≡ None → count ≡ 0) → IfSome piece (λ p. (p ≡ Records at len count) × (0 < count)) → count ≤ len
     → GoesBy at (at + len) failure (Ok piece)
-goes_by None at count len failure none some few = none
-goes_by (Some piece) at count len failure none (is, some) few = goes_some piece at count len failure is some few
+goes_by None at count len failure none empty absent some few = (let e : at + len ≡ at = omega (arith, empty (absent refl)) in e, none)
+goes_by (Some piece) at count len failure none empty absent (is, some) few = goes_some piece at count len failure is some few
 
 pub quiet_end : (end failure : Option Fault) (n : ℕ) → end ≡ None → failure ≡ None → failures_after (answer_of end) n ≡ faults_after_stop failure n
 quiet_end end failure n is none = ap (λ (e : Option Fault). failures_after (answer_of e) n) is ∙ sym (ap (λ o. faults_after_stop o n) none)
@@ -367,11 +433,11 @@ pub quiet_found : (end failure : Option Fault) (f : Fault) (n : ℕ) → end ≡
 quiet_found end failure f n is other none =
     failed_end end f n is ∙ no_fault_by f.kind n other ∙ sym (ap (λ o. faults_after_stop o n) none)
 
-pub failure_piece : (bytes : List ℕ) (at count len x : ℕ) (f : Fault) (p : Piece) → p ≡ Records at len count → 0 < count → Fails bytes at count len x f f.kind
+pub failure_piece : (bytes : List ℕ) (at count len : ℕ) (f : Fault) (p : Piece) → p ≡ Records at len count → 0 < count → Fails bytes at count len f f.kind
     → IsPieceAt bytes at (at + len) (Some f) p
-failure_piece bytes at count len x f p is some fails =
+failure_piece bytes at count len f p is some fails =
     let P : Piece → Type 0 = λ q. IsPieceAt bytes at (at + len) (Some f) q in
-    subst P (sym is) (run_to_failure bytes at count len x f some fails)
+    subst P (sym is) (run_to_failure bytes at count len f some fails)
 
 pub found_piece : (bytes : List ℕ) (at count len : ℕ) (f : Fault) (failure : Option Fault) (p : Piece) → failure ≡ None → p ≡ Records at len count → 0 < count
     → IsRun at (drop at (near bytes)) count len (Some f) → IsPieceAt bytes at (at + len) failure p

@@ -17,7 +17,7 @@ use Rattle.warc_record.proofs.GoodLemmas.{good_heads_have_no_fault}
 use Rattle.warc_reading.specs.Fronts.{BeginsWithNone}
 use Rattle.warc_pieces.specs.Judging.{IsTorn, IsFaultAt, IsUnreadAt, MissesBy}
 use Rattle.warc_pieces.specs.Pieces.{BeginsWithOne, IsRun, near}
-use Rattle.warc_pieces.specs.Run.{RunEndsBy, EndsEarly, IsRead}
+use Rattle.warc_pieces.specs.Run.{RunEndsBy, IsRead}
 use Rattle.warc_pieces.proofs.CutLemmas.{cut_record, truncated_at}
 
 -- what is judged to be a good record is one
@@ -105,18 +105,18 @@ part_is at m t low =
     ap (λ k. drop at (take k t)) sum ∙ drop-take at (m - at) t
 
 -- at a cut
-has_cut : (p : ℕ) (rest : List ℕ) → record_of head_fault rest ≡ Err (fault Truncated (length rest)) → (found : Option Fault) × HasFault head_fault p rest found × EndsEarly found
-has_cut p [] is = (None, refl, tt)
+has_cut : (p : ℕ) (rest : List ℕ) → record_of head_fault rest ≡ Err (fault Truncated (length rest)) → (found : Option Fault) × HasFault head_fault p rest found
+has_cut p [] is = (None, refl)
 has_cut p (b ∷ bs) is =
     let g = fault Truncated (length (b ∷ bs)) in
     let some : b ∷ bs ≢ [] = λ e. cc in
-    (Some (following p g), (some, g, is, refl), refl)
+    (Some (following p g), (some, g, is, refl))
 
-only_cut : (at : ℕ) (text : List ℕ) (count len : ℕ) → GoesOver text count len → IsTorn (drop len text) → (found : Option Fault) × IsRun at text count len found × EndsEarly found
-only_cut at text count len over (inl none) = (None, goes_run at text count len None over none, tt)
+only_cut : (at : ℕ) (text : List ℕ) (count len : ℕ) → GoesOver text count len → IsTorn (drop len text) → (found : Option Fault) × IsRun at text count len found
+only_cut at text count len over (inl none) = (None, goes_run at text count len None over none)
 only_cut at text count len over (inr cut) =
-    let (found, has, only) = has_cut (at + len) (drop len text) cut in
-    (found, goes_run at text count len found over has, only)
+    let (found, has) = has_cut (at + len) (drop len text) cut in
+    (found, goes_run at text count len found over has)
 
 -- nothing is read of no bytes
 nothing_read : record_of head_fault [] ≡ Err (fault Truncated 0)
@@ -140,8 +140,8 @@ run_ends Read at bytes count len f low over other unread =
     let P : List ℕ → Type 0 = λ x. GoesOver x count len in
     let before : GoesOver (drop at (take f.offset t)) count len = subst P (sym part) (goes_cut (drop at t) count len (f.offset - at) (omega (arith, unread.after)) over) in
     let cut = subst IsTorn (sym (drop-drop len at (take f.offset t))) unread.cut in
-    let (found, run, only) = only_cut at (drop at (take f.offset t)) count len before cut in
-    (unread.within, found, run, only)
+    let (found, run) = only_cut at (drop at (take f.offset t)) count len before cut in
+    (found, run, unread)
 run_ends Memory at bytes count len f low over other miss =
     let t = near bytes in
     let (is, some) = miss in

@@ -322,7 +322,7 @@ search_goes_on bytes from at tries line next f w now low comes first occurs not_
     }
 
 -- a text without a good record at an offset has none there in what is read of it
-none_in_part : (t : List ℕ) (q m : ℕ) → q ≤ m → BeginsWithNone (drop q t) → BeginsWithNone (drop q (take m t))
+pub none_in_part : (t : List ℕ) (q m : ℕ) → q ≤ m → BeginsWithNone (drop q t) → BeginsWithNone (drop q (take m t))
 none_in_part t q m low none = λ r text more whole spelled good.
     let rest = drop (m - q) (drop q t) in
     none r text (more ++ rest) (sym (take-append-drop (m - q) (drop q t)) ∙ ap (λ x. x ++ rest) (sym (part_is q m t low) ∙ whole) ∙ append_assoc text more rest) spelled good

@@ -7,7 +7,8 @@ use Rattle.warc_frame.specs.declared.fault.Fault.{Fault}
 use Rattle.warc_frame.specs.declared.fault.FaultKind.{FaultKind}
 use Rattle.warc_frame.specs.declared.fault.FaultKind.TheVariants.{Memory, Read, TooLong}
 use Rattle.warc_record.specs.Heads.{head_fault}
-use Rattle.warc_reading.specs.Fronts.{reach_of}
+use Rattle.warc_reading.specs.Fronts.{BeginsWithNone, reach_of}
+use Rattle.warc_pieces.specs.Judging.{IsUnreadAt}
 use Rattle.warc_pieces.specs.Laws.{count_in, offset_of}
 use Rattle.warc_pieces.specs.Pieces.{AreFirst, ArePieces, IsPiece, piece_len, near}
 use Rattle.warc_pieces.specs.Search.{lines_in}
@@ -29,27 +30,35 @@ abbrev pub IsDamagedAt : ℕ → List ℕ → Option Fault → Type 0
 IsDamagedAt at bytes None = Unit {0}
 IsDamagedAt at bytes (Some f) = ReadsAs head_fault at (drop at (near bytes)) [] (Some f)
 
--- why no piece is given: a read failed or memory ran out before the end; or the bytes go on at offset 2^48
-abbrev pub StopsBy : FaultKind → List ℕ → ℕ → Fault → Type 0
-StopsBy Read bytes at f = f.offset ≤ length (near bytes)
-StopsBy Memory bytes at f = f.offset < length (near bytes)
-StopsBy TooLong bytes at f = (f.offset ≡ max_archive) × (at ≡ max_archive) × (max_archive < length bytes)
-StopsBy kind bytes at f = ⊥
+-- why no piece is given after those that end at an offset: a read failed or memory ran out for the record at `stop`; or
+-- the bytes go on at offset 2^48, where the pieces end
+abbrev pub StopsBy : FaultKind → List ℕ → ℕ → ℕ → Fault → Type 0
+StopsBy Read bytes end stop f = IsUnreadAt stop bytes f.offset
+StopsBy Memory bytes end stop f = (f.offset ≡ stop) × (stop < length (near bytes))
+StopsBy TooLong bytes end stop f = (f.offset ≡ max_archive) × (end ≡ max_archive) × (max_archive < length bytes)
+StopsBy kind bytes end stop f = ⊥
+
+-- Reading stops after pieces that end at an offset. No good record is passed over: none begins from there to `stop` that
+-- lies whole in what was read.
+pub record IsStop (bytes : List ℕ) (end : ℕ) (f : Fault) : Type 0 where
+  pub stop : ℕ
+  pub after : end ≤ stop
+  pub none : (q : ℕ) → end ≤ q → q < stop → BeginsWithNone (drop q (take (reach_of f) (near bytes)))
+  pub by : StopsBy f.kind bytes end stop f
 
 abbrev pub IsStoppedBy : List ℕ → ℕ → Option Fault → Type 0
-IsStoppedBy bytes at None = Unit {0}
-IsStoppedBy bytes at (Some f) = StopsBy f.kind bytes at f
+IsStoppedBy bytes end None = Unit {0}
+IsStoppedBy bytes end (Some f) = IsStop bytes end f
 
 -- a reader stands before a piece of these bytes. A state of the code
-pub record IsWalkBefore (bytes : List ℕ) (w : Shown) (at : ℕ) (damage failure : Option Fault) : Type 0 where
+pub record IsWalkBefore (bytes : List ℕ) (w : Shown) (at : ℕ) (damage : Option Fault) : Type 0 where
   pub shows : Shows bytes w
   pub within : at ≤ length (near bytes)
   pub found : IsDamagedAt at bytes damage
-  pub stopped : IsStoppedBy bytes at failure
 
 -- a walk along a source stands before a piece of these bytes
 abbrev pub IsWalkAt : {A : Type 0} → List ℕ → Walk A → Type 0
-IsWalkAt bytes walk = IsWalkBefore bytes walk.window walk.at walk.damage walk.failure
+IsWalkAt bytes walk = IsWalkBefore bytes walk.window walk.at walk.damage
 
 -- it may go on by its window, unless a failure ended it
 pub record MayGoOn {A : Type 0} (walk : Walk A) : Type 0 where
@@ -70,24 +79,25 @@ pub record IsPieceAt (bytes : List ℕ) (at after : ℕ) (failure : Option Fault
   pub is : IsPiece at (drop at (take (read_reach failure) (near bytes))) piece
   pub after_is : after ≡ at + piece_len piece
   pub before : failure ≢ None → is_run piece ≡ true
+  pub stops : IsStoppedBy bytes after failure
 
 -- what a reader gives of bytes at an offset: a piece; or none, at their end; or a failure
 abbrev pub GivesOf : List ℕ → ℕ → ℕ → Option Fault → Result (Option Piece) Fault → Type 0
 GivesOf bytes at after failure (Ok (Some piece)) = IsPieceAt bytes at after failure piece
 GivesOf bytes at after failure (Ok None) = (at ≡ length bytes) × (failure ≡ None)
-GivesOf bytes at after failure (Err f) = StopsBy f.kind bytes at f × (after ≡ at)
+GivesOf bytes at after failure (Err f) = IsStop bytes at f × (after ≡ at)
 
 -- how often a source has failed after a call: once more exactly if a read failed
 abbrev pub faults_after_stop : Option Fault → ℕ → ℕ
 faults_after_stop None n = n
 faults_after_stop (Some f) n = faults_by f.kind n
 
--- how a reader goes on by an answer: by the piece that it gives, which begins where it was; at the end it keeps no
--- failure
+-- how a reader goes on by an answer: by the piece that it gives, which begins where it was; at the end it stays there
+-- and keeps no failure
 abbrev pub GoesBy : ℕ → ℕ → Option Fault → Result (Option Piece) Fault → Type 0
 GoesBy at after failure (Ok (Some piece)) = (offset_of piece ≡ at) × (after ≡ at + piece_len piece)
     × (0 < piece_len piece) × (count_in piece ≤ piece_len piece)
-GoesBy at after failure (Ok None) = failure ≡ None
+GoesBy at after failure (Ok None) = (after ≡ at) × (failure ≡ None)
 GoesBy at after failure (Err f) = failure ≡ Some f
 
 -- A reader goes on by a piece, or finds the end of its source or a failure, which it keeps. The source holds and
@@ -120,12 +130,15 @@ ReadsFew bytes at answer more was now old new =
     new.reads + was ≤ old.reads + now + (own_reads + 1) * (judged_for bytes at answer + more)
 
 -- The pieces before a failure: those that end before it, and then the run of good records before it, if there is one.
+-- They end at an offset, after which it is why no other is given.
 pub record AreBefore (bytes : List ℕ) (f : Fault) (pieces : List Piece) : Type 0 where
   pub first : List Piece
   pub at : ℕ
+  pub end : ℕ
   pub are : AreFirst 0 (near bytes) first at
-  pub last : (pieces ≡ first) ⊎ ((run : Piece) × (pieces ≡ first ++ run ∷ []) × (is_run run ≡ true)
-      × IsPiece at (drop at (take (reach_of f) (near bytes))) run)
+  pub last : ((pieces ≡ first) × (end ≡ at)) ⊎ ((run : Piece) × (pieces ≡ first ++ run ∷ []) × (is_run run ≡ true)
+      × IsPiece at (drop at (take (reach_of f) (near bytes))) run × (end ≡ at + piece_len run))
+  pub stops : IsStop bytes end f
 
 -- these are the pieces that a reader has given, to where it is or to a failure
 abbrev pub AreGiven : List ℕ → ℕ → Option Fault → List Piece → Type 0
@@ -137,4 +150,4 @@ AreGiven bytes at (Some f) pieces = AreBefore bytes f pieces
 abbrev pub GivesMore : List ℕ → ℕ → Option Fault → List Piece → Result (Option Piece) Fault → Type 0
 GivesMore bytes after failure pieces (Ok (Some piece)) = AreGiven bytes after failure (pieces ++ piece ∷ [])
 GivesMore bytes after failure pieces (Ok None) = ArePieces bytes pieces × (length bytes ≤ max_archive)
-GivesMore bytes after failure pieces (Err f) = AreBefore bytes f pieces × StopsBy f.kind bytes after f
+GivesMore bytes after failure pieces (Err f) = AreBefore bytes f pieces

@@ -2,19 +2,15 @@
 use Rattle.std.specs.Prelude.{◌≡◌, ℕ, ◌+◌, ◌<◌, ◌≤◌, List, length, take, drop, Option, None, Some, Result, Ok, Err}
 use Rattle.warc_frame.specs.declared.fault.Fault.{Fault}
 use Rattle.warc_frame.specs.declared.fault.FaultKind.{FaultKind}
-use Rattle.warc_frame.specs.declared.fault.FaultKind.TheVariants.{Memory, Read, Truncated}
+use Rattle.warc_frame.specs.declared.fault.FaultKind.TheVariants.{Memory, Read}
+use Rattle.warc_pieces.specs.Judging.{IsUnreadAt}
 use Rattle.warc_pieces.specs.Pieces.{IsRun, near}
-
--- nothing is found but that the bytes end too early, if that
-abbrev pub EndsEarly : Option Fault → Type 0
-EndsEarly None = Unit {0}
-EndsEarly (Some f) = f.kind ≡ Truncated
 
 -- a run ended at a fault: a read failed, and these are all good records before its offset; memory ran out for the
 -- record after them, of which a byte is there; or it is the fault of what follows them
 abbrev pub RunEndsBy : FaultKind → ℕ → List ℕ → ℕ → ℕ → Fault → Type 0
-RunEndsBy Read at bytes count len f = (f.offset ≤ length (near bytes)) × (found : Option Fault)
-    × IsRun at (drop at (take f.offset (near bytes))) count len found × EndsEarly found
+RunEndsBy Read at bytes count len f = (found : Option Fault)
+    × IsRun at (drop at (take f.offset (near bytes))) count len found × IsUnreadAt (at + len) bytes f.offset
 RunEndsBy Memory at bytes count len f = (f.offset ≡ at + len) × (f.offset < length (near bytes))
     × IsRun at (drop at (take f.offset (near bytes))) count len None
 RunEndsBy kind at bytes count len f = IsRun at (drop at (near bytes)) count len (Some f)

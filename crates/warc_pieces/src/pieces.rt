@@ -123,6 +123,17 @@ fn next_run<S: Source, A: Allocator + Copy>(
     }
 }
 
+/// Keeps a failure, and answers it.
+fn fail<A: Allocator>(walk: &mut Walk<A>, failure: Fault) -> Result<Option<Piece>, Fault>
+    ensures answer { result ≡ Err failure }
+    ensures failure { walk.new.failure ≡ Some failure }
+    ensures same { (walk.new.window ≡ walk.old.window) × (walk.new.at ≡ walk.old.at)
+        × (walk.new.damage ≡ walk.old.damage) }
+{
+    walk.failure = Some(failure);
+    Err(failure)
+}
+
 /// No piece, if the source ends at offset 2^48.
 fn end<S: Source, A: Allocator>(source: &mut S, walk: &mut Walk<A>) -> Result<Option<Piece>, Fault>
     requires may { MayGoOn walk.old }
@@ -138,14 +149,11 @@ fn end<S: Source, A: Allocator>(source: &mut S, walk: &mut Walk<A>) -> Result<Op
         (S.seen source.new)) }
 {
     let mut byte = [0];
-    let kind = match source.read_at(MAX_ARCHIVE, &mut byte) {
-        Ok(0) => return Ok(None),
-        Ok(_) => FaultKind::TooLong,
-        Err(_) => FaultKind::Read,
-    };
-    let fault = kind.at(MAX_ARCHIVE);
-    walk.failure = Some(fault);
-    Err(fault)
+    match source.read_at(MAX_ARCHIVE, &mut byte) {
+        Ok(0) => Ok(None),
+        Ok(_) => fail(walk, FaultKind::TooLong.at(MAX_ARCHIVE)),
+        Err(_) => fail(walk, FaultKind::Read.at(MAX_ARCHIVE)),
+    }
 }
 
 /// The piece that begins here, or none at the end of the source; or why it can't be read on, which is said again each

@@ -2,7 +2,7 @@ use Rattle.std.proofs.Common.{◌≡◌, ℕ, ◌+◌, ◌∙◌, subst, arith, 
 use Rattle.warc_pieces.specs.Reader.{GivesOf}
 use Rattle.warc_pieces.specs.Run.{answer_of}
 use Rattle.warc_pieces.specs.Window.{reached}
-use Rattle.warc_pieces.proofs.ReaderLemmas.{advances_by, end_few, end_given, few_after, run_few, failed_end, failure_given, failure_piece, found_given, found_piece, goes_by, goes_some, quiet_end, quiet_found}
+use Rattle.warc_pieces.proofs.ReaderLemmas.{advances_by, end_few, end_given, few_after, run_few, failed_end, failure_given, failure_here, failure_piece, found_given, found_piece, goes_by, goes_some, quiet_end, quiet_found}
 use Rattle.warc_pieces.proofs.pieces.next_run.Goals as goal
 
 pub returns-in_default-clause-gives : goal.returns-in_default-clause-gives
@@ -17,7 +17,7 @@ returns-in_default-clause-advances g c =
     let run = c.read_run-count.result in
     let at = c.args.walk.now.at in
     let quiet = quiet_end run.end c.args.walk.now.failure (g.S.Source.seen c.args.source.now).faults c.in_default.is c.requires.sound in
-    let goes = goes_by c.run_piece-piece.result at run.count run.len c.args.walk.now.failure c.requires.sound c.run_piece-piece.ensures.some c.read_run-count.ensures.few in
+    let goes = goes_by c.run_piece-piece.result at run.count run.len c.args.walk.now.failure c.requires.sound c.read_run-count.ensures.none c.run_piece-piece.ensures.none c.run_piece-piece.ensures.some c.read_run-count.ensures.few in
     advances_by _ (answer_of run.end) _ _ _ _ at (at + run.len) c.args.walk.now.failure (Ok c.run_piece-piece.result) c.read_run-count.ensures.reads quiet goes
     c.read_run-count.ensures.limit
 
@@ -28,7 +28,7 @@ returns-in-Some-piece-clause-gives g c = λ bytes held is_present.
     let (shows, read) = c.read_run-count.ensures.run bytes held is_present.shows is_present.within in
     let kind = c.is_failure.ensures.failed c.if-is_failure.true in
     let (now, fails) = failure_given bytes at run.count run.len run.end c.in-Some.fault c.read_run-count.new.window c.in-Some.is kind shows is_present.within read in
-    (now, failure_piece bytes at run.count run.len (at + run.len) c.in-Some.fault c.in-Some-piece.piece c.in-Some-piece.ensures.some.0 c.in-Some-piece.ensures.some.1 fails)
+    (now, failure_piece bytes at run.count run.len c.in-Some.fault c.in-Some-piece.piece c.in-Some-piece.ensures.some.0 c.in-Some-piece.ensures.some.1 fails)
 
 pub returns-in-Some-piece-clause-advances : goal.returns-in-Some-piece-clause-advances
 returns-in-Some-piece-clause-advances g c =
@@ -63,6 +63,16 @@ returns-in-Some-piece-2-clause-advances g c =
     let goes = goes_some c.in-Some-piece-2.piece at run.count run.len c.args.walk.now.failure c.in-Some-piece-2.ensures.some.0 c.in-Some-piece-2.ensures.some.1 c.read_run-count.ensures.few in
     advances_by _ (answer_of run.end) _ _ _ _ at (at + run.len) c.args.walk.now.failure (Ok (Some c.in-Some-piece-2.piece)) c.read_run-count.ensures.reads quiet
     goes c.read_run-count.ensures.limit
+
+pub returns-in-None-clause-gives : goal.returns-in-None-clause-gives
+returns-in-None-clause-gives g c = λ bytes held is_present.
+    let run = c.read_run-count.result in
+    let at = c.args.walk.now.at in
+    let (shows, read) = c.read_run-count.ensures.run bytes held is_present.shows is_present.within in
+    let kind = c.is_failure.ensures.failed c.if-is_failure.true in
+    let (now, fails) = failure_given bytes at run.count run.len run.end c.in-Some.fault c.read_run-count.new.window c.in-Some.is kind shows is_present.within read in
+    let zero = c.read_run-count.ensures.none (c.run_piece-piece.ensures.none c.in-None.is) in
+    (now, failure_here bytes at run.count run.len c.in-Some.fault zero fails)
 
 pub returns-in-None-piece-clause-gives : goal.returns-in-None-piece-clause-gives
 returns-in-None-piece-clause-gives g c = λ bytes held is_present.

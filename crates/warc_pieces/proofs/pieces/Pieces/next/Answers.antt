@@ -1,8 +1,7 @@
-use Rattle.std.proofs.Common.{◌≡◌, List, None, Some, sym, ap, subst, ◌∙◌}
+use Rattle.std.proofs.Common.{◌≡◌, List, None, Some, sym, subst, ◌∙◌}
 use Rattle.warc_pieces.specs.Reader.{GivesMore, AreGiven, Reader, ReadsFew}
 use Rattle.warc_pieces.specs.Window.{reached}
 use Rattle.warc_pieces.specs.declared.piece.Piece.{Piece}
-use Rattle.warc_pieces.specs.declared.pieces.Walk.{Walk}
 use Rattle.warc_pieces.proofs.ReaderLemmas.{next_gives}
 use Rattle.warc_pieces.proofs.pieces.Pieces.next.Goals as goal
 
@@ -22,10 +21,8 @@ returns-clause-gives g c = λ bytes.
     let is_present = c.self.invariant.1 bytes held in
     next_gives bytes c.self.inside.walk.at c.step.new.walk.at c.self.inside.walk.failure c.step.new.walk.failure pieces c.step.result
     (λ none. c.step.ensures.gives none bytes held is_present)
-    (λ f is.
-    let again = c.step.ensures.failed f is in
-    (again.0, ap (λ (w : Walk g.row.A.Denot). w.at) again.1))
-    is_present.stopped given)
+    (λ f is. (c.step.ensures.failed f is).0)
+    given)
 
 pub returns-clause-few : goal.returns-clause-few
 returns-clause-few g c = λ none bytes.
