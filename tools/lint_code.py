@@ -1,15 +1,15 @@
 #!/usr/bin/env python3
 """Checks the code that isn't proved: its types, its layout, and the tools' own warnings.
 
-Each check names the programs, Python modules and files that it needs. Where one isn't installed, the check is left out,
-and a line says so. A check that runs and fails ends this script with 1, after all others have run. So does a Python
-file whose types or whose layout no check looks at.
+Each check names the programs and files that it needs. Where one isn't installed, the check is left out, and a line says
+so. With CI=true what is missing is installed first, and a check that still can't run is a failure. A check that runs
+and fails ends this script with 1, after all others have run. So does a Python file whose types or whose layout no check
+looks at.
 """
 from __future__ import annotations
 
 import dataclasses
 import glob
-import importlib.util
 import os
 import shutil
 import subprocess
@@ -24,15 +24,13 @@ class Check:
 
     name: str
     words: tuple[str, ...]
-    modules: tuple[str, ...] = ()
     programs: tuple[str, ...] = ()  # beside the first word
     files: tuple[str, ...] = ()
 
     def lacks(self) -> list[str]:
-        """Which of the programs, modules and files that it needs aren't here."""
+        """Which of the programs and files that it needs aren't here."""
         programs = [name for name in (self.words[0], *self.programs) if not shutil.which(name)]
-        modules = [name for name in self.modules if importlib.util.find_spec(name) is None]
-        return programs + modules + [path for path in self.files if not os.path.exists(path)]
+        return programs + [path for path in self.files if not os.path.exists(path)]
 
     def passes(self) -> bool:
         """Runs it, and prints what it wrote if it failed."""
@@ -95,7 +93,8 @@ TRIALS = (
 ROWS = "tests/stress/collection_rows.py"
 SERVER = tuple(f"tests/stress/{name}.py" for name in ("serve", "serve_trial", "memento_client"))
 
-# Debian's programs work with Debian's Python, so each is called by its own name.
+# Debian's programs work with Debian's Python, so each is called by its own name, and finds Debian's modules.
+HYPOTHESIS = ("/usr/lib/python3/dist-packages/hypothesis",)
 CHECKS = [
     Check("types of tools/", (*TYPES, *scripts("tools"))),
     Check("layout of tools/", (*LAYOUT, "tools")),
@@ -111,7 +110,11 @@ CHECKS = [
     Check("layout of python/", (*LAYOUT, "python")),
     Check("layout of tests/", (*LAYOUT, "tests")),
     Check("types of tests/callers", (*TYPES, "python/src/zogwedu", *CALLERS)),
-    Check("types of tests/callers/generated.py", (*TYPES, "python/src/zogwedu", *CALLERS, GENERATED), ("hypothesis",)),
+    Check(
+        "types of tests/callers/generated.py",
+        (*TYPES, "python/src/zogwedu", *CALLERS, GENERATED),
+        files=HYPOTHESIS,
+    ),
     Check("types of the second reading and the trials of the program", ("mypy", "--strict", *SYSTEM)),
     Check("warnings of c/warc.c", ("gcc", *C_FLAGS, "c/warc.c")),
     Check("warnings of C's programs", ("gcc", *C_FLAGS, *C_PROGRAMS)),
@@ -124,7 +127,7 @@ CHECKS = [
     Check("types of collection/", (*TYPES, *COLLECTION)),
     Check("types of tests/stress/collection*.py", (*TYPES, *TRIALS)),
     Check("types of the trials of the server", (*TYPES, *SERVER, TRIALS[2])),
-    Check("types of tests/stress/collection_rows.py", (*TYPES, *UNTYPED_CALLS, *COLLECTION, ROWS), ("hypothesis",)),
+    Check("types of tests/stress/collection_rows.py", (*TYPES, *UNTYPED_CALLS, *COLLECTION, ROWS), files=HYPOTHESIS),
     Check("layout of collection/", (*LAYOUT, "collection")),
     Check("types of the page", ("tsc", "-p", "page")),
     Check("types of the page's workers", ("tsc", "-p", "page/tsconfig.worker.json")),
@@ -154,7 +157,8 @@ def is_below(path: str, word: str) -> bool:
 
 def main() -> int:
     """Runs all checks."""
-    failed = 0
+    is_ci = os.environ.get("CI") == "true"
+    failed = subprocess.run(["bash", f"{TOP}/tools/need.sh", "lint"], check=False).returncode if is_ci else 0
     for program in ("mypy", "black"):
         for path in unchecked(program):
             print(f"{path}: no check by {program} names it", flush=True)
@@ -162,7 +166,9 @@ def main() -> int:
     for check in CHECKS:
         lacking = check.lacks()
         if lacking:
-            print(f"{check.name}: left out, since {' and '.join(lacking)} isn't installed", flush=True)
+            word = "FAILED" if is_ci else "left out"
+            print(f"{check.name}: {word}, since {' and '.join(lacking)} isn't installed", flush=True)
+            failed += is_ci
         else:
             failed += not check.passes()
     return 1 if failed else 0
