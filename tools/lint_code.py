@@ -77,7 +77,6 @@ SYSTEM = (
 PAGE_SCRIPTS = tuple(sorted(path[len(TOP) + 1 :] for path in glob.glob(f"{TOP}/page/*.js")))
 PAGE_PYTHON = scripts("tests/page")
 COMPATIBILITY = scripts("tests/compatibility")
-UNTYPED_CALLS = ("--allow-untyped-calls",)  # they use scripts that have no types yet
 
 EXAMPLES = ("python/crawler.py", "python/example.py")
 WITHOUT_STUBS = ("--ignore-missing-imports", "--allow-subclassing-any")  # setuptools has none
@@ -90,11 +89,15 @@ TRIALS = (
     *("tests/stress/collection.py", "tests/stress/collection_faults.py", "tests/stress/collection_trial.py"),
     *("--follow-imports=skip", "--ignore-missing-imports"),
 )
-ROWS = "tests/stress/collection_rows.py"
+UNIT = (
+    *("tests/standin/warc.py", "tests/reference/warc_reference.py", "tests/stress/collection_trial.py"),
+    *("tools/build_page.py", "tools/build.py", "tools/shared.py", *scripts("tests/unit")),
+)
 SERVER = tuple(f"tests/stress/{name}.py" for name in ("serve", "serve_trial", "memento_client"))
 
 # Debian's programs work with Debian's Python, so each is called by its own name, and finds Debian's modules.
 HYPOTHESIS = ("/usr/lib/python3/dist-packages/hypothesis",)
+PYTEST = ("/usr/lib/python3/dist-packages/pytest",)
 CHECKS = [
     Check("types of tools/", (*TYPES, *scripts("tools"))),
     Check("layout of tools/", (*LAYOUT, "tools")),
@@ -127,7 +130,7 @@ CHECKS = [
     Check("types of collection/", (*TYPES, *COLLECTION)),
     Check("types of tests/stress/collection*.py", (*TYPES, *TRIALS)),
     Check("types of the trials of the server", (*TYPES, *SERVER, TRIALS[2])),
-    Check("types of tests/stress/collection_rows.py", (*TYPES, *UNTYPED_CALLS, *COLLECTION, ROWS), files=HYPOTHESIS),
+    Check("types of tests/unit", (*TYPES, *COLLECTION, *UNIT), files=(*HYPOTHESIS, *PYTEST)),
     Check("layout of collection/", (*LAYOUT, "collection")),
     Check("types of the page", ("tsc", "-p", "page")),
     Check("types of the page's workers", ("tsc", "-p", "page/tsconfig.worker.json")),

@@ -1,12 +1,9 @@
-#!/usr/bin/env python3
 """Properties of warc-collection's small parts, over names and rows that hypothesis makes.
-
-    python3 tests/stress/collection_rows.py [COUNT]
 
 Names are shown without a character that a terminal obeys, and no two names alike; rows come back from the text for
 PostgreSQL; columns come back from the lines of the program; compressed members are taken apart as Python's gzip does;
-words reach a command through the shell as they were. The exit status is 1 if a property doesn't hold. Without
-hypothesis (Debian's python3-hypothesis) this is left out.
+words reach a command through the shell as they were. ROWS_COUNT is the number of examples of each, which are others in
+each run where it is given.
 """
 from __future__ import annotations
 
@@ -14,26 +11,24 @@ import gzip
 import io
 import os
 import subprocess
-import sys
 import tempfile
 import unicodedata
-from typing import Callable, List, Optional, Tuple, Union
+from typing import Any, Dict, List, Optional, Tuple, Union
+from unittest import mock
 
-TOP = os.path.dirname(os.path.dirname(os.path.dirname(os.path.abspath(__file__))))
-sys.path.insert(0, os.path.join(TOP, "collection"))
+import pytest
 
+pytest.importorskip("hypothesis")
+
+from hypothesis import HealthCheck, given, settings  # noqa: E402
+from hypothesis import strategies as st  # noqa: E402
 from zogwedu_collection import export, job, lines, runs, texts, unpack  # noqa: E402
 
-try:
-    from hypothesis import given, settings
-    from hypothesis import strategies as st
-except ImportError:
-    print("collection_rows.py: left out, since python3-hypothesis isn't installed")
-    sys.exit(0)
+from .in_node import TOP  # noqa: E402
 
 os.environ["HYPOTHESIS_STORAGE_DIRECTORY"] = os.path.join(TOP, "out", "hypothesis")
 Value = Union[None, int, str, bytes]
-COUNT = int(sys.argv[1]) if len(sys.argv) > 1 else 500
+COUNT = int(os.environ.get("ROWS_COUNT", "100"))
 NAMES = st.one_of(st.binary(min_size=1), st.text(min_size=1).map(lambda name: name.encode("utf-8", "replace")))
 PLAIN = st.binary().map(lambda value: value.replace(b"\n", b"").replace(b"\t", b""))
 TABBED = st.binary().map(lambda value: value.replace(b"\n", b""))
@@ -43,8 +38,13 @@ TEXTS = st.text(st.one_of(ODD, st.characters(blacklist_categories=("Cs",))))
 WORDS = TEXTS.map(lambda word: word.replace("\0", ""))
 TARGETS = TEXTS.map(lambda target: "http://" + target)
 SIZES = st.integers(0, 1 << 48)
-FAST = settings(max_examples=COUNT, deadline=None)
-SLOW = settings(max_examples=max(COUNT // 10, 1), deadline=None)
+ANY_TIME: Dict[str, Any] = {
+    "deadline": None,
+    "suppress_health_check": list(HealthCheck),
+    "derandomize": "ROWS_COUNT" not in os.environ,
+}
+FAST = settings(max_examples=COUNT, **ANY_TIME)
+SLOW = settings(max_examples=max(COUNT // 10, 1), **ANY_TIME)
 
 
 def unescaped(shown: str) -> bytes:
@@ -69,7 +69,7 @@ def first_piece(shown: str) -> Tuple[int, bytes]:
 
 @FAST
 @given(NAMES)
-def names_are_shown_safely(name: bytes) -> None:
+def test_names_are_shown_safely(name: bytes) -> None:
     shown = texts.escaped(texts.decoded(name))
     assert not [it for it in shown if unicodedata.category(it) in ("Cc", "Cf", "Cs", "Zl", "Zp")]
     assert unescaped(shown) == name
@@ -77,7 +77,7 @@ def names_are_shown_safely(name: bytes) -> None:
 
 @FAST
 @given(NAMES.filter(lambda name: b"\0" not in name))
-def paths_come_back(name: bytes) -> None:
+def test_paths_come_back(name: bytes) -> None:
     assert os.fsencode(texts.real_path(texts.stored_path(os.fsdecode(name)))) == name
 
 
@@ -94,7 +94,7 @@ def uncopied(cell: str) -> Optional[str]:
 
 @FAST
 @given(st.one_of(st.none(), st.integers(-(1 << 62), 1 << 62), TEXTS, st.binary()))
-def cells_come_back(value: Value) -> None:
+def test_cells_come_back(value: Value) -> None:
     cell = export.copied(value)
     assert not set("\t\n\r\0") & set(cell)
     text = value.decode("utf-8", "backslashreplace") if isinstance(value, bytes) else value
@@ -103,7 +103,7 @@ def cells_come_back(value: Value) -> None:
 
 @FAST
 @given(SIZES, SIZES, SIZES, PLAIN, PLAIN, TABBED.filter(lambda name: b">" not in name), TABBED)
-def lines_of_list_come_back(
+def test_lines_of_list_come_back(
     position: int, offset: int, length: int, kind: bytes, date: bytes, name: bytes, target: bytes
 ) -> None:
     columns = [b"%d" % position, b"%d" % offset, b"%d" % length, kind, date, b"<" + name + b">", target]
@@ -112,7 +112,7 @@ def lines_of_list_come_back(
 
 @FAST
 @given(SIZES, st.sampled_from([b"bad", b"unchecked"]), PLAIN, PLAIN, TABBED)
-def lines_of_payloads_come_back(position: int, verdict: bytes, name: bytes, reason: bytes, digest: bytes) -> None:
+def test_lines_of_payloads_come_back(position: int, verdict: bytes, name: bytes, reason: bytes, digest: bytes) -> None:
     columns = [b"%d" % position, verdict, name, reason, digest]
     line = b"\t".join(columns)
     assert lines.payload_columns(line) == columns
@@ -121,7 +121,7 @@ def lines_of_payloads_come_back(position: int, verdict: bytes, name: bytes, reas
 
 @SLOW
 @given(st.integers(0, 3), st.integers(0, 3), st.integers(0, 3), st.integers(0, 9), st.binary(max_size=9))
-def counts_of_payloads_come_back(good: int, bad: int, unchecked: int, cut: int, end: bytes) -> None:
+def test_counts_of_payloads_come_back(good: int, bad: int, unchecked: int, cut: int, end: bytes) -> None:
     text = b"0\tbad\tx\t-\ty\n" * bad + b"0\tunchecked\tx\tcoded\ty\tz\n" * unchecked
     text += b"records %d good %d bad %d unchecked %d\n" % (good + bad + unchecked, good, bad, unchecked)
     assert counts_in(text) == (good, unchecked, bad)
@@ -143,23 +143,23 @@ def counts_in(text: bytes) -> Optional[Tuple[int, ...]]:
 
 @FAST
 @given(st.one_of(TEXTS, TARGETS))
-def each_target_has_a_host(target: str) -> None:
+def test_each_target_has_a_host(target: str) -> None:
     assert isinstance(lines.host_of(target), str)
 
 
 @SLOW
 @given(st.lists(st.binary(max_size=5000), min_size=1, max_size=4), st.integers(0, 3000), st.integers(1, 6000))
-def members_are_taken_apart(blocks: List[bytes], padding: int, piece: int) -> None:
+def test_members_are_taken_apart(blocks: List[bytes], padding: int, piece: int) -> None:
     data = b"".join(gzip.compress(block) for block in blocks)
-    unpack.PIECE = piece
-    assert b"".join(unpack.Members(io.BytesIO(data + bytes(padding)))) == b"".join(blocks)
-    for end in (b"x", b"\x1f\x8b", bytes(padding) + b"\x1f"):
-        assert damage(data + end) == "damaged after %d bytes" % len(data)
+    with mock.patch.object(unpack, "PIECE", piece):
+        assert b"".join(unpack.Members(io.BytesIO(data + bytes(padding)))) == b"".join(blocks)
+        for end in (b"x", b"\x1f\x8b", bytes(padding) + b"\x1f"):
+            assert damage(data + end) == "damaged after %d bytes" % len(data)
 
 
 @SLOW
 @given(st.binary(max_size=3000), st.data())
-def cut_members_are_damaged(block: bytes, data: st.DataObject) -> None:
+def test_cut_members_are_damaged(block: bytes, data: st.DataObject) -> None:
     first, second = gzip.compress(b"first"), gzip.compress(block)
     cut = data.draw(st.integers(1, len(second) - 1))
     assert damage(first + second[:cut]) == "damaged after %d bytes" % len(first)
@@ -176,21 +176,9 @@ def damage(data: bytes) -> Optional[str]:
 
 @SLOW
 @given(st.lists(WORDS, min_size=1, max_size=3))
-def words_reach_a_command(words: List[str]) -> None:
+def test_words_reach_a_command(words: List[str]) -> None:
     words = [*words, *(word + "'{= 1 =}" for word in words)]
     command = runs.for_parallel(words)
     assert "{" not in command
     done = subprocess.run(["sh", "-c", "printf '%s\\0' " + command], stdout=subprocess.PIPE, check=True)
     assert done.stdout == b"".join(word.encode() + b"\0" for word in words)
-
-
-PROPERTIES: List[Callable[[], None]] = [
-    *(names_are_shown_safely, paths_come_back, cells_come_back, lines_of_list_come_back, each_target_has_a_host),
-    *(lines_of_payloads_come_back, counts_of_payloads_come_back),
-    *(members_are_taken_apart, cut_members_are_damaged, words_reach_a_command),
-]
-
-if __name__ == "__main__":
-    for holds in PROPERTIES:
-        holds()
-    print("warc-collection, names and rows: %d properties hold" % len(PROPERTIES))
