@@ -6,6 +6,8 @@
 # make lib          proves the crates that C calls, and puts libwarc.a, libwarc.so and warc.h under out/lib
 # make python       puts the Python package with the library under out/python, and tests it
 # make rust         builds and tests the Rust crate over the library
+# make test-around  tries what people touch, over what is built, in small sizes side by side: pages, zwarc, C, Python,
+#                   Rust, the collection, the reading room in Chromium; ARGS="-k zwarc" picks tests
 # make test-callers compares what the program, C, Python and Rust give of many archives; 10,000 damaged ones by valgrind
 # make plants       tries the planted bugs of tests/plants, which the gate leaves out; hours; before a release
 # make check        the quick check while editing: the whole tree, over what earlier checks kept
@@ -39,6 +41,7 @@
 # The scripts read these in the environment, so that each may hold spaces and quotes.
 PREFIX ?= /usr/local
 export PREFIX LIBDIR DESTDIR PYTHONDIR FILE RUN
+ARGS ?=
 
 .PHONY: all try quick test test-around plants check lint lint-code test-docs lint-docs man install uninstall
 .PHONY: install-python uninstall-python dist verify-dist test-compatibility test-package stress bench bench-libraries
@@ -88,6 +91,10 @@ test-callers: bin/warc out/lib/libwarc.so python
 # The tools take a built program as it is. Build anew with `make`.
 bin/warc:
 	@python3 tools/build.py
+
+# Takes what is built as it is.
+test-around: bin/warc out/lib/libwarc.so zogwedu.html
+	@python3 tools/test_around.py $(ARGS)
 
 test-docs: bin/warc
 	@python3 tools/test_docs.py bin/warc README.md docs/PROGRAM.md

@@ -52,7 +52,7 @@ MACHINE = ("tests/tools/test_install.py", "tests/stress/zwarc.py")
 SHELL = (
     *(".ci/run", "shell/zwarc", "tools/need.sh", "packaging/build.sh", "packaging/test.sh"),
     *(f"packaging/debian/tests/{name}" for name in ("library", "program", "python")),
-    *("tests/callers/python.sh", "tests/callers/run.sh", "tests/stress/run.sh"),
+    *("tests/callers/package.sh", "tests/callers/python.sh", "tests/callers/run.sh", "tests/stress/run.sh"),
 )
 
 C_FLAGS = ("-std=c11", "-fsyntax-only", "-Wall", "-Wextra", "-Wconversion", "-Wpedantic", "-Werror", "-Ic")
@@ -88,6 +88,11 @@ COLLECTION = ("collection/__main__.py", "collection/zogwedu_collection")
 TRIALS = (
     *("tests/stress/collection.py", "tests/stress/collection_faults.py", "tests/stress/collection_trial.py"),
     *("--follow-imports=skip", "--ignore-missing-imports"),
+)
+AROUND = (
+    *("tests/page/test_page.py", "tests/page/test_served.py", "tests/page/listener.py", "tests/page/pieces.py"),
+    "tests/stress/zwarc.py",
+    *("tests/stress/collection_faults.py", "tests/stress/serve.py", "tests/stress/collection_trial.py"),
 )
 UNIT = (
     *("tests/standin/warc.py", "tests/reference/warc_reference.py", "tests/stress/collection_trial.py"),
@@ -130,6 +135,11 @@ CHECKS = [
     Check("types of collection/", (*TYPES, *COLLECTION)),
     Check("types of tests/stress/collection*.py", (*TYPES, *TRIALS)),
     Check("types of the trials of the server", (*TYPES, *SERVER, TRIALS[2])),
+    Check(
+        "types of tests/around",
+        ("mypy", "--strict", "--follow-imports=silent", *scripts("tests/around"), *AROUND),
+        files=PYTEST,
+    ),
     Check("types of tests/unit", (*TYPES, *COLLECTION, *UNIT), files=(*HYPOTHESIS, *PYTEST)),
     Check("layout of collection/", (*LAYOUT, "collection")),
     Check("types of the page", ("tsc", "-p", "page")),

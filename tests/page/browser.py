@@ -29,6 +29,7 @@ FLAGS = [
 ]
 
 PATIENCE = 300  # seconds
+SLOWNESS = float(os.environ.get("PAGE_SLOWNESS", "1"))  # how many times longer everything takes on a busy computer
 CONTROLS = ("button", "textbox", "searchbox", "combobox", "grid", "tab", "tabpanel", "image", "Iframe")
 
 
@@ -67,9 +68,7 @@ class Browser:
             os.close(end)
         self.rest, self.number = b"", 0
         self.events: list[Any] = []
-        targets = self.ask("Target.getTargets", session=None)["targetInfos"]
-        target = next(it for it in targets if it["type"] == "page")
-        self.session = self.ask("Target.attachToTarget", {"targetId": target["targetId"], "flatten": True}, None)[
+        self.session = self.ask("Target.attachToTarget", {"targetId": self.first_page(), "flatten": True}, None)[
             "sessionId"
         ]
         for domain in ("Page", "Runtime", "Network", "Log", "DOM", "Audits"):
@@ -83,6 +82,16 @@ class Browser:
             "Emulation.setDeviceMetricsOverride",
             {"width": size[0], "height": size[1], "deviceScaleFactor": 1, "mobile": False},
         )
+
+    def first_page(self) -> str:
+        """The page that the browser begins with, as soon as it is there."""
+        end = time.monotonic() + PATIENCE
+        while time.monotonic() < end:
+            for target in self.ask("Target.getTargets", session=None)["targetInfos"]:
+                if target["type"] == "page":
+                    return str(target["targetId"])
+            time.sleep(0.05)
+        raise RuntimeError("the browser has no page")
 
     def hear(self) -> Any:
         """The next message of the browser."""
@@ -139,7 +148,7 @@ class Browser:
         """Waits until an expression is true, and gives how long that took."""
         begun = time.monotonic()
         while not self.run(code):
-            if time.monotonic() - begun > seconds:
+            if time.monotonic() - begun > seconds * SLOWNESS:
                 raise RuntimeError(
                     f"never true: {code}; the page says: {self.run('document.body.innerText.slice(-300)')}"
                 )

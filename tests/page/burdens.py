@@ -4,17 +4,16 @@ out."""
 from __future__ import annotations
 
 import gzip
-import os
 import time
 from typing import Any
 
+from browser import SLOWNESS
 from hostile import record
 from stations import picture
 
 SITE = "http://a.example"
-SLOWNESS = float(os.environ.get("PAGE_SLOWNESS", "1"))  # how many times longer everything takes on a busy computer
 QUICK = 3.0 * SLOWNESS  # seconds in which a page must be shown
-MOST = 60.0 * SLOWNESS  # seconds that a test waits for one
+MOST = 60  # seconds that a test waits for one
 PICTURE = picture(1, 900, 760) + bytes(2_000_000)  # a PNG with 2 MB after its end
 DEEP = 30_000  # brackets that nest: the browser itself doesn't survive them
 NESTED = {

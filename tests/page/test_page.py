@@ -18,7 +18,7 @@ import subprocess
 import sys
 import tempfile
 import time
-from collections.abc import Callable
+from collections.abc import Callable, Sequence
 from concurrent.futures import ThreadPoolExecutor
 from typing import Any
 
@@ -652,43 +652,57 @@ def compare_all(tests: Tests, folder: str, crawled: str) -> None:
         same_as_program(tests, os.path.basename(archive), archive)
 
 
+ALL = (
+    *("building", "codings", "compare", "compressed", "damaged", "hostile", "connections", "firefox", "burdens"),
+    *("robust", "faithful", "views", "keyboard", "saved", "selection", "pieces", "missing", "long", "many", "segments"),
+)
+OVER_A_CRAWL = {"compare", "pieces", "views"}
+
+
+def parts(tests: Tests, folder: str, crawled: str, where: str) -> dict[str, Callable[[], None]]:
+    """Each part, by its name. Those over a crawl need one, and the address of its site."""
+    small = f"{TOP}/examples/crawl.warc"
+    return {
+        "building": lambda: building.building(tests, folder),
+        "codings": lambda: codings.codings(tests),
+        "compare": lambda: compare_all(tests, folder, crawled),
+        "compressed": lambda: compressed.compressed(tests, folder, same_as_program),
+        "damaged": lambda: damaged(tests, folder),
+        "hostile": lambda: hostile_archive(tests, folder),
+        "connections": lambda: connections.no_connections(tests, folder),
+        "firefox": lambda: firefox.in_firefox(tests, folder),
+        "burdens": lambda: burdens.burdens(tests, folder),
+        "robust": lambda: robust.robust(tests, folder),
+        "faithful": lambda: faithful.faithful(tests, folder),
+        "views": lambda: views(tests, crawled, where),
+        "keyboard": lambda: by_keyboard(tests, small),
+        "saved": lambda: saved_bytes(tests, folder, small),
+        "selection": lambda: selection.selection(tests, folder),
+        "pieces": lambda: pieces.pieces(tests, folder, crawled, same_as_program),
+        "missing": lambda: missing.missing(tests),
+        "long": lambda: too_long(tests, folder, small),
+        "many": lambda: many_rows(tests, folder),
+        "segments": lambda: in_segments(tests, folder),
+    }
+
+
+def try_parts(tests: Tests, names: Sequence[str], folder: str) -> None:
+    """Tries parts in a folder. A browser that ends is a check that doesn't hold."""
+    crawled = f"{folder}/stations.warc"
+    where = stations.crawl(crawled) if OVER_A_CRAWL & set(names) else ""
+    every = parts(tests, folder, crawled, where)
+    for name in names:
+        try:
+            every[name]()
+        except (RuntimeError, OSError) as error:
+            tests.holds(False, name, error)
+
+
 def main() -> None:
     tests = Tests(sys.argv[1], sys.argv[2], (sys.argv[3:] or [""])[0])
+    names = os.environ.get("PAGE_TESTS", ",".join(ALL)).split(",")
     with tempfile.TemporaryDirectory(prefix="zogwedu-page-test-") as folder:
-        crawled, small = f"{folder}/stations.warc", f"{TOP}/examples/crawl.warc"
-        names = os.environ.get(
-            "PAGE_TESTS",
-            "building,codings,compare,compressed,damaged,hostile,connections,firefox,burdens,robust,faithful,views,"
-            "keyboard,saved,selection,pieces,missing,long,many,segments",
-        ).split(",")
-        where = stations.crawl(crawled) if {"compare", "pieces", "views"} & set(names) else ""
-        parts: dict[str, Callable[[], None]] = {
-            "building": lambda: building.building(tests, folder),
-            "codings": lambda: codings.codings(tests),
-            "compare": lambda: compare_all(tests, folder, crawled),
-            "compressed": lambda: compressed.compressed(tests, folder, same_as_program),
-            "damaged": lambda: damaged(tests, folder),
-            "hostile": lambda: hostile_archive(tests, folder),
-            "connections": lambda: connections.no_connections(tests, folder),
-            "firefox": lambda: firefox.in_firefox(tests, folder),
-            "burdens": lambda: burdens.burdens(tests, folder),
-            "robust": lambda: robust.robust(tests, folder),
-            "faithful": lambda: faithful.faithful(tests, folder),
-            "views": lambda: views(tests, crawled, where),
-            "keyboard": lambda: by_keyboard(tests, small),
-            "saved": lambda: saved_bytes(tests, folder, small),
-            "selection": lambda: selection.selection(tests, folder),
-            "pieces": lambda: pieces.pieces(tests, folder, crawled, same_as_program),
-            "missing": lambda: missing.missing(tests),
-            "long": lambda: too_long(tests, folder, small),
-            "many": lambda: many_rows(tests, folder),
-            "segments": lambda: in_segments(tests, folder),
-        }
-        for name in names:
-            try:
-                parts[name]()
-            except (RuntimeError, OSError) as error:
-                tests.holds(False, name, error)
+        try_parts(tests, names, folder)
     print(f"{tests.passed} passed, {tests.failed} failed")
     sys.exit(1 if tests.failed else 0)
 
@@ -701,4 +715,5 @@ def copied(archive: str, folder: str) -> str:
     return path
 
 
-main()
+if __name__ == "__main__":
+    main()

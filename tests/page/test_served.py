@@ -17,6 +17,7 @@ import os
 import sys
 import tempfile
 import time
+from collections.abc import Iterator
 from typing import Any
 
 HERE = os.path.dirname(os.path.abspath(__file__))
@@ -24,7 +25,7 @@ sys.path[:0] = [HERE, os.path.join(os.path.dirname(HERE), "stress")]
 from browser import Browser
 from collection_trial import Trial, put, record
 from listener import Listener
-from serve_trial import PACKAGE, Served, served
+from serve_trial import PACKAGE, Served, served, wait_for
 
 FIRST, SECOND = "2020-01-01T00:00:00Z", "2021-06-01T12:00:00Z"
 TOP = b"http://site.example/"
@@ -236,8 +237,21 @@ def as_it_is(tests: Tests, listener: Listener, folder: str) -> None:
     """The same page without a room, which must be counted."""
     path = put(os.path.join(folder, "evil.html"), evil(listener.port))
     tests.browser.ask("Page.navigate", {"url": "file://" + path})
-    time.sleep(3)
+    wait_for(lambda: len(listener.hosts) > 2, 60)
     tests.holds(len(listener.hosts) > 2, "the page as it is gets out", len(listener.hosts))
+
+
+@contextlib.contextmanager
+def room(trial: Trial, listener: Listener) -> Iterator[Tests]:
+    """A browser in the room over a collection of two crawls."""
+    collection(trial.path("disk"), listener.port)
+    trial.run("c", "run", "--quiet", trial.path("disk"))
+    with served(trial, "c") as server:
+        browser = Browser()
+        try:
+            yield Tests(browser, server)
+        finally:
+            browser.close()
 
 
 def main() -> int:
@@ -247,19 +261,12 @@ def main() -> int:
         return 0
     with tempfile.TemporaryDirectory(prefix="warc-served-") as made, contextlib.closing(Listener()) as listener:
         trial = Trial(program, made)
-        collection(trial.path("disk"), listener.port)
-        trial.run("c", "run", "--quiet", trial.path("disk"))
-        with served(trial, "c") as server:
-            browser = Browser()
-            try:
-                tests = Tests(browser, server)
-                search_and_page(tests, folder)
-                answers(tests)
-                dates(tests)
-                hostile(tests, listener)
-                as_it_is(tests, listener, made)
-            finally:
-                browser.close()
+        with room(trial, listener) as tests:
+            search_and_page(tests, folder)
+            answers(tests)
+            dates(tests)
+            hostile(tests, listener)
+            as_it_is(tests, listener, made)
     print(f"{tests.passed} passed, {tests.failed + trial.surprises} failed")
     return 1 if tests.failed or trial.surprises else 0
 

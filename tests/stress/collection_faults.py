@@ -1570,7 +1570,8 @@ def older_catalogue(trial: Trial) -> None:
     trial.judge(trial.run("c", "export", trial.path("tables")).returncode == 0, "an export")
 
 
-PARTS: List[Callable[[Trial], None]] = [
+Part = Callable[[Trial], None]
+PARTS: List[Part] = [
     *(
         no_room,
         odd_temporary,

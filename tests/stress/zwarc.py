@@ -505,6 +505,7 @@ def crawl(trials: Trials) -> None:
 
 KINDS = (
     good,
+    streamed,
     torn_at_an_end,
     bad,
     damaged,
