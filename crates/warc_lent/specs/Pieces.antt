@@ -34,7 +34,8 @@ pub record AllArePut (bytes : List ℕ) (number : ℕ) (old new : List PieceNumb
   pub number_is : number ≡ length pieces
   pub put : HoldsPieces pieces old new
 
--- the pieces of bytes before a fault are put, and this is the problem: memory ran out, or the bytes go on at offset 2^48
+-- the pieces of bytes before a fault are put, and this is the problem: memory ran out, or the bytes go on at offset
+-- 2^48
 pub record SomeArePut (bytes : List ℕ) (problem : Problem) (old new : List PieceNumbers) : Type 0 where
   pub pieces : List Piece
   pub fault : Fault

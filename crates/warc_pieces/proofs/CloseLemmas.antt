@@ -1,7 +1,9 @@
 -- The record at an offset, by what a window shows and by what closes it.
-use Rattle.std.proofs.Common.{◌≡◌, ◌≢◌, ℕ, ◌+◌, ◌-◌, ◌*◌, ◌<◌, ◌≤◌, Bool, true, false, List, length, drop, Result, Ok, Err, ◌⊎◌, refl, sym, ap, subst, ◌∙◌, arith, length-drop}
+use Rattle.std.proofs.Common.{◌≡◌, ◌≢◌, ℕ, ◌+◌, ◌-◌, ◌*◌, ◌<◌, ◌≤◌, Bool, true, false, List, ◌++◌, length, take, drop, Result, Ok, Err, ◌⊎◌, inr, ⊎_elim, refl, sym, ap, subst, ◌∙◌, arith, length-drop}
+use Rattle.std.proofs.lemmas.Bool.{cases_lt}
+use Rattle.std.proofs.lemmas.List.{length-take, take-append-drop, take-take}
 use Rattle.warc_frame.specs.Faults.{following}
-use Rattle.warc_frame.specs.Reading.{head_of, record_of}
+use Rattle.warc_frame.specs.Reading.{fault, head_of, record_of}
 use Rattle.warc_frame.specs.Record.{Record, max_head}
 use Rattle.warc_frame.specs.Seen.{SeenSource}
 use Rattle.warc_frame.specs.declared.fault.Fault.{Fault}
@@ -9,11 +11,13 @@ use Rattle.warc_frame.specs.declared.fault.FaultKind.{FaultKind}
 use Rattle.warc_frame.specs.declared.fault.FaultKind.TheVariants.{Memory, Read, Truncated}
 use Rattle.warc_frame.proofs.LawLemmas.{heads_are_stable}
 use Rattle.warc_record.specs.Heads.{head_fault}
-use Rattle.warc_pieces.specs.Ends.{ClosesBy, HasBlockEnd, HeadMisses, closed_at}
+use Rattle.warc_pieces.specs.Ends.{ClosesBy, HasBlockEnd, HeadMisses, IsOpenBefore, closed_at}
 use Rattle.warc_pieces.specs.Judging.{IsTorn, IsUnreadAt, MissesBy}
 use Rattle.warc_pieces.specs.Pieces.{near}
 use Rattle.warc_pieces.specs.Reads.{IsNoFurther, goes_on_by, reads_beside}
 use Rattle.warc_pieces.specs.Window.{ReadsBy, Shown, Shows, faults_by, reached}
+use Rattle.warc_pieces.proofs.CutLemmas.{cut_again}
+use Rattle.warc_pieces.proofs.RunLemmas.{part_is}
 use Rattle.warc_pieces.proofs.RecordLemmas.{ahead, slack, closed_cut, closed_fault_kind, closed_from, cut_head, cut_off, has_fault, has_record, head_not_read, headless, misses_head, record_stays, shown_fault, shown_front, shown_up_to, shown_within, unclosed_from}
 
 -- a record that is shown whole
@@ -46,16 +50,53 @@ good_beyond bytes at end w h before there shows closed = has_record (drop at (ne
 pub unread : (bytes : List ℕ) (at offset : ℕ) (w : Shown) → w.begin ≤ at → at ≤ length (near bytes) → Shows bytes w → IsTorn (drop (at - w.begin) w.bytes) → offset ≡ at + length (drop (at - w.begin) w.bytes) → IsUnreadAt at bytes offset
 unread bytes at offset w before there shows cut is = record {
   after = omega (arith, is);
-  within = omega (arith, is, shown_within bytes at w before there shows);
   cut = subst IsTorn (sym (shown_up_to bytes at offset w before there shows is)) cut;
 }
+
+-- the bytes before an offset, where less than these or more is shown
+cut_before : (bytes : List ℕ) (at offset known : ℕ) (w : Shown) → w.begin ≤ at → at ≤ length (near bytes) → Shows bytes w → known ≡ at + length (drop (at - w.begin) w.bytes) → at ≤ offset → offset < known
+    → record_of head_fault (drop (at - w.begin) w.bytes) ≡ Err (fault Truncated (length (drop (at - w.begin) w.bytes)))
+    → record_of head_fault (drop at (take offset (near bytes))) ≡ Err (fault Truncated (length (drop at (take offset (near bytes)))))
+cut_before bytes at offset known w before there shows known_is after less torn =
+    let t = near bytes in
+    let seen = drop (at - w.begin) w.bytes in
+    let part : drop at (take offset t) ≡ take (offset - at) seen =
+    part_is at offset t after ∙ sym (take-take (offset - at) (known - at) (drop at t) (omega (arith, less))) ∙ ap (take (offset - at)) (sym (part_is at known t (omega (arith, after, less))) ∙ shown_up_to bytes at known w before there shows known_is) in
+    let P : List ℕ → Type 0 = λ xs. record_of head_fault xs ≡ Err (fault Truncated (length xs)) in
+    subst P (sym part) (cut_again seen (offset - at) torn)
+
+cut_beyond : (bytes : List ℕ) (at end offset known : ℕ) (w : Shown) → HasBlockEnd (drop (at - w.begin) w.bytes) end → w.begin ≤ at → at ≤ length (near bytes) → Shows bytes w → known ≡ at + length (drop (at - w.begin) w.bytes)
+    → at ≤ offset → known ≤ offset → IsOpenBefore offset (at + end) (near bytes)
+    → record_of head_fault (drop at (take offset (near bytes))) ≡ Err (fault Truncated (length (drop at (take offset (near bytes)))))
+cut_beyond bytes at end offset known w h before there shows known_is after more unclosed =
+    let t = near bytes in
+    let seen = drop (at - w.begin) w.bytes in
+    let text = drop at (take offset t) in
+    let here : at ≤ length (take offset t) = omega (arith, there, after, length-take offset t) in
+    let front : take (length seen) text ≡ seen =
+    ap (take (length seen)) (part_is at offset t after) ∙ take-take (length seen) (offset - at) (drop at t) (omega (arith, known_is, more)) ∙ ap (λ n. take n (drop at t)) (let e : length seen ≡ known - at = omega (arith, known_is) in e)
+    ∙ sym (part_is at known t (omega (arith, known_is))) ∙ shown_up_to bytes at known w before there shows known_is in
+    let whole : text ≡ seen ++ drop (length seen) text = sym (take-append-drop (length seen) text) ∙ ap (λ xs. xs ++ drop (length seen) text) front in
+    let head : head_of head_fault text ≡ Ok h.head = ap (head_of head_fault) whole ∙ heads_are_stable head_fault seen (drop (length seen) text) h.head h.reads in
+    let (x, fails, same) = unclosed_from at end (take offset t) (fault Truncated (length (take offset t))) here unclosed in
+    let kind : x.kind ≡ Truncated = sym (ap (λ (f : Fault). f.kind) same) in
+    has_fault text h.head end x head h.end_is fails ∙ ap Err (closed_cut end text x fails kind)
 
 beyond_by : (kind : FaultKind) (bytes shown : List ℕ) (at end known : ℕ) (w : Shown) (g f : Fault) → shown ≡ drop (at - w.begin) w.bytes → HasBlockEnd (drop (at - w.begin) w.bytes) end → w.begin ≤ at → at ≤ length (near bytes) → Shows bytes w
     → closed_at end shown ≡ Err g → g.kind ≡ Truncated → known ≡ at + length shown → ClosesBy kind known (at + end) bytes f → f.kind ≡ kind → MissesBy kind at bytes f
 beyond_by Read bytes shown at end known w g f is h before there shows short cut known_is bad kind_is =
     let seen = drop (at - w.begin) w.bytes in
     let short_seen = subst (λ xs. closed_at end xs ≡ Err g) is short in
-    unread bytes at f.offset w before there shows (cut_off seen g (has_fault seen h.head end g h.reads h.end_is short_seen) (closed_cut end seen g short_seen cut)) (bad ∙ known_is ∙ ap (λ xs. at + length xs) is)
+    let torn = has_fault seen h.head end g h.reads h.end_is short_seen ∙ ap Err (closed_cut end seen g short_seen cut) in
+    let known_seen : known ≡ at + length seen = known_is ∙ ap (λ xs. at + length xs) is in
+    let after : at ≤ f.offset = ⊎_elim (λ (low : known ≤ f.offset). omega (arith, known_is, low)) (λ (low : at + end ≤ f.offset). omega (arith, low)) bad.0 in
+    record {
+      after = after;
+      cut = inr (⊎_elim
+          (λ (less : f.offset < known). cut_before bytes at f.offset known w before there shows known_seen after less torn)
+          (λ (more : known ≤ f.offset). cut_beyond bytes at end f.offset known w h before there shows known_seen after more bad.1)
+          (cases_lt f.offset known));
+    }
 beyond_by Memory bytes shown at end known w g f is h before there shows short cut known_is bad kind_is = absurd ((closed_fault_kind (at + end) (near bytes) f bad).1 kind_is)
 beyond_by kind bytes shown at end known w g f is h before there shows short cut known_is bad kind_is =
     let (x, fails, same) = unclosed_from at end (near bytes) f there bad in

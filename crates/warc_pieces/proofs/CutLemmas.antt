@@ -132,6 +132,30 @@ kind_cases : (k : FaultKind) → (k ≡ Truncated) ⊎ (k ≢ Truncated)
 kind_cases Truncated = inl refl
 kind_cases k = inr (λ e. cc)
 
+-- less than a text that is cut off is cut off
+pub cut_again : (t : List ℕ) (m : ℕ) → record_of head_fault t ≡ Err (fault Truncated (length t)) → record_of head_fault (take m t) ≡ Err (fault Truncated (length (take m t)))
+cut_again t m is =
+    let cut = take m t in
+    let whole : t ≡ cut ++ drop m t = sym (take-append-drop m t) in
+    ⊎_elim
+    (λ (good : (x : Record × ℕ) × (record_of head_fault cut ≡ Ok x)).
+    let k = good.0.1 in
+    let found = reading_is_spelling head_fault cut good.0.0 k good.1 in
+    let again : cut ++ drop m t ≡ take k cut ++ (drop k cut ++ drop m t) =
+    ap (λ c. c ++ drop m t) (sym (take-append-drop k cut)) ∙ append_assoc (take k cut) (drop k cut) (drop m t) in
+    let read = reading_is_spelling-read head_fault good.0.0 (take k cut) (drop k cut ++ drop m t) found.1 found.2 in
+    let no : ◌≡◌ {A = Result (Record × ℕ) Fault} (Err (fault Truncated (length t))) (Ok (good.0.0, length (take k cut))) = sym is ∙ ap (record_of head_fault) (whole ∙ again) ∙ read in
+    absurd (cc no))
+    (λ (bad : (f : Fault) × (record_of head_fault cut ≡ Err f)). ⊎_elim
+    (λ (truncated : bad.0.kind ≡ Truncated). truncated_is cut bad.0 bad.1 truncated)
+    (λ (other : bad.0.kind ≢ Truncated).
+    let stays = faults_are_stable-record head_fault cut (drop m t) bad.0 bad.1 other in
+    let both : ◌≡◌ {A = Result (Record × ℕ) Fault} (Err (fault Truncated (length t))) (Err bad.0) = sym is ∙ ap (record_of head_fault) whole ∙ stays in
+    let same : fault Truncated (length t) ≡ bad.0 = cc both in
+    absurd (other (sym (ap (λ (f : Fault). f.kind) same))))
+    (kind_cases bad.0.kind))
+    (result_cases (record_of head_fault cut))
+
 -- less than the good record at the front of a text is cut off
 pub cut_record : (t : List ℕ) (r : Record) (n m : ℕ) → record_of head_fault t ≡ Ok (r, n) → m < n → IsTorn (take m t)
 cut_record t r n m is less =

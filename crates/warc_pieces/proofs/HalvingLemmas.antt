@@ -1,11 +1,17 @@
 -- Reads that go one after the other, and a distance that is halved with each.
-use Rattle.std.proofs.Common.{◌≡◌, ◌==◌, ℕ, zero, suc, ◌+◌, ◌*◌, ◌^◌, ◌<◌, ◌≤◌, Bool, true, false, List, length, take, refl, sym, ap, ◌∙◌, arith, add-one, if◌then◌else◌}
+use Rattle.std.proofs.Common.{◌≡◌, ◌==◌, ℕ, zero, suc, ◌+◌, ◌-◌, ◌*◌, ◌^◌, ◌<◌, ◌≤◌, Bool, true, false, List, ◌++◌, length, length-drop, take, drop, refl, sym, ap, subst, ◌∙◌, arith, add-one, ⊎_elim, if◌then◌else◌}
 use Rattle.std.proofs.Math.Nat.{mul-le-mul_left, pow-suc}
-use Rattle.std.proofs.lemmas.Bool.{eqb-true}
-use Rattle.std.proofs.lemmas.List.{take_all}
+use Rattle.std.proofs.lemmas.Bool.{cases_lt, eqb-true}
+use Rattle.std.proofs.lemmas.List.{length-take-le, take_all}
+use Rattle.std.proofs.lemmas.Slice.{take-put_mid_below}
+use borrow.Rule.Slice.PartMut.{put_mid}
+use Rattle.warc_field.specs.Lines.{crlf}
 use Rattle.warc_frame.specs.Count.{raised}
+use Rattle.warc_frame.specs.Device.{Gives}
+use Rattle.warc_frame.specs.Reading.{begins}
 use Rattle.warc_frame.specs.Seen.{SeenSource}
 use Rattle.warc_frame.specs.declared.fault.Fault.{Fault}
+use Rattle.warc_pieces.specs.Ends.{IsFrontOpen, IsFrontRead}
 use Rattle.warc_pieces.specs.Reads.{ReadsNear}
 use Rattle.std.proofs.Common.{Result}
 use Rattle.warc_pieces.specs.Window.{ReadsBy, Shown, failures_after}
@@ -41,6 +47,30 @@ halved d e s m half span =
 -- the end of what is read
 pub read_end : (rest buf : List ℕ) (filled len : ℕ) → take filled buf ≡ take filled rest → length rest ≤ filled → filled ≤ len → take filled buf ≡ take len rest
 read_end rest buf filled len is over le = is ∙ take_all filled rest over ∙ sym (take_all len rest (omega (arith, over, le)))
+
+-- the front of what a buffer was filled with
+pub front_read : (at len : ℕ) (t buf : List ℕ) (n : ℕ) → n ≤ length buf → take n buf ≡ take n (drop at t) → (begins (take n buf) (crlf ++ crlf) ≡ true → take n buf ≡ take len (drop at t)) → IsFrontRead at len t (take n buf)
+front_read at len t buf n few same whole = record { same = same ∙ ap (λ k. take k (drop at t)) (sym (length-take-le n buf few)); whole = whole }
+
+-- nothing more was read
+pub front_last : (at len : ℕ) (t buf part : List ℕ) (filled n : ℕ) → filled ≤ length buf → filled < len → len ≡ length buf → length part ≡ length buf - filled → take filled buf ≡ take filled (drop at t) → Gives t (at + filled) part n → n ≡ 0
+    → IsFrontRead at len t (take filled (put_mid filled (length buf - filled) buf part))
+front_last at len t buf part filled n within short room size same gives none =
+    let new = put_mid filled (length buf - filled) buf part in
+    let kept : take filled new ≡ take filled buf = take-put_mid_below filled (length buf - filled) buf part filled (omega arith) within in
+    let over : length (drop at t) ≤ filled = ⊎_elim (λ (more : at + filled < length t). absurd (omega (arith, gives.some more (omega (arith, size, short, room)), none))) (λ (few : length t ≤ at + filled). omega (arith, few, length-drop at t)) (cases_lt (at + filled) (length t)) in
+    let P : List ℕ → Type 0 = λ xs. IsFrontRead at len t xs in
+    subst P (sym kept) (front_read at len t buf filled within same (λ yes. read_end (drop at t) buf filled len same over (omega (arith, short))))
+
+-- a read failed after bytes that are as wanted
+pub front_open : (at place : ℕ) (t buf part : List ℕ) (filled : ℕ) → place ≡ at + filled → filled ≤ length buf → take filled buf ≡ take filled (drop at t) → begins (take filled buf) (crlf ++ crlf) ≡ true
+    → IsFrontOpen at t (take (place - at) (put_mid filled (length buf - filled) buf part))
+front_open at place t buf part filled there within same good =
+    let new = put_mid filled (length buf - filled) buf part in
+    let count : place - at ≡ filled = omega (arith, there) in
+    let kept : take (place - at) new ≡ take filled buf = ap (λ n. take n new) count ∙ take-put_mid_below filled (length buf - filled) buf part filled (omega arith) within in
+    let P : List ℕ → Type 0 = λ xs. IsFrontOpen at t xs in
+    subst P (sym kept) (record { same = same ∙ ap (λ k. take k (drop at t)) (sym (length-take-le filled buf within)); begins_as = good })
 
 pub is_zero : (n : ℕ) → (n == 0) ≡ true → n ≡ 0
 is_zero n is = eqb-true n 0 is

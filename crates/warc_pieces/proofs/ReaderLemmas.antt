@@ -128,10 +128,10 @@ run_inside bytes at count len found low run =
     omega (arith, low, run_within at (drop at (near bytes)) count len found run, length-drop at (near bytes))
 
 -- a run of the first bytes does
-front_inside : (bytes : List ℕ) (at count len m : ℕ) (found : Option Fault) → at ≤ length (near bytes) → m ≤ length (near bytes)
+front_inside : (bytes : List ℕ) (at count len m : ℕ) (found : Option Fault) → at ≤ length (near bytes)
     → IsRun at (drop at (take m (near bytes))) count len found → at + len ≤ length (near bytes)
-front_inside bytes at count len m found low high run =
-    omega (arith, low, high, run_within at (drop at (take m (near bytes))) count len found run, length-drop at (take m (near bytes)), length-take m (near bytes))
+front_inside bytes at count len m found low run =
+    omega (arith, low, run_within at (drop at (take m (near bytes))) count len found run, length-drop at (take m (near bytes)), length-take m (near bytes))
 
 -- a run to the end of the bytes ends there
 pub run_at_end : (bytes : List ℕ) (at count len : ℕ) → at ≤ length (near bytes) → IsRun at (drop at (near bytes)) count len None
@@ -216,7 +216,6 @@ pub unread_there : (bytes : List ℕ) (at : ℕ) → at ≡ max_archive → at �
 unread_there bytes at limit low =
     let unread : IsUnreadAt at bytes max_archive = record {
       after = omega (arith, limit);
-      within = omega (arith, limit, low);
       cut = inl (cut_there at max_archive (near bytes) limit);
     } in
     (stop_here bytes at (record { kind = kinds.Read; offset = max_archive }) unread, refl)
@@ -332,7 +331,7 @@ reach_inside bytes at count len f is low ends =
     (λ read.
     let parts : RunEndsBy kinds.Read at bytes count len f = subst P read ends in
     let (found, run, unread) = parts in
-    front_inside bytes at count len f.offset found low unread.within run)
+    front_inside bytes at count len f.offset found low run)
     (λ memory.
     let parts : RunEndsBy kinds.Memory at bytes count len f = subst P memory ends in
     let (offset, within, run) = parts in
@@ -375,15 +374,23 @@ below_near old new asks = λ unwatched. asks (λ q low. unwatched q (omega (arit
 
 pub advances_by : {X : Type 0} (n : ℕ) (answer : Result X Fault) (w now : Shown) (old new : SeenSource) (at after : ℕ) (failure : Option Fault)
     (given : Result (Option Piece) Fault) → ReadsBy n answer w now old new → failures_after answer old.faults ≡ faults_after_stop failure old.faults
-    → GoesBy at after failure given → after ≤ max_archive → Advances old new at after failure given
-advances_by n answer w now old new at after failure given reads same goes limit = record {
+    → IfSome failure (λ f. f.kind ≡ kinds.Read → f.offset ≡ new.asked) → GoesBy at after failure given → after ≤ max_archive → Advances old new at after failure given
+advances_by n answer w now old new at after failure given reads same asked goes limit = record {
   kept = reads.kept;
   watched = reads.watched;
   cause = reads.cause ∙ same;
   near = below_near old new reads.near;
+  asked = asked;
   goes = goes;
   limit = limit;
 }
+
+-- at which offset a read failed
+pub asked_none : (failure : Option Fault) (new : SeenSource) → failure ≡ None → IfSome failure (λ f. f.kind ≡ kinds.Read → f.offset ≡ new.asked)
+asked_none failure new none = let P : Option Fault → Type 0 = λ o. IfSome o (λ f. f.kind ≡ kinds.Read → f.offset ≡ new.asked) in subst P (sym none) tt
+
+pub asked_some : (end : Option Fault) (f : Fault) (new : SeenSource) → end ≡ Some f → IfSome end (λ e. e.kind ≡ kinds.Read → e.offset ≡ new.asked) → f.kind ≡ kinds.Read → f.offset ≡ new.asked
+asked_some end f new is asked = let P : Option Fault → Type 0 = λ o. IfSome o (λ e. e.kind ≡ kinds.Read → e.offset ≡ new.asked) in subst P is asked
 
 -- a quiet part before it
 pub advances_after : {X : Type 0} (n : ℕ) (answer : Result X Fault) (w now : Shown) (old mid new : SeenSource) (at after : ℕ) (failure : Option Fault)
@@ -396,6 +403,7 @@ advances_after n answer w now old mid new at after failure given reads same next
   near = λ unwatched.
       let P : (ℕ → Bool) → Type 0 = λ watches. (q : ℕ) → q ≤ max_archive → watches q ≡ false in
       next.near (subst P (sym reads.watched) unwatched) ∙ below_near old mid reads.near unwatched;
+  asked = next.asked;
   goes = next.goes;
   limit = next.limit;
 }

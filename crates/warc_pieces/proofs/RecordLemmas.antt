@@ -2,7 +2,7 @@
 use Rattle.std.proofs.Common.{◌≡◌, ◌≢◌, ℕ, suc, ◌+◌, ◌-◌, ◌<◌, ◌≤◌, ◌&&◌, ◌==◌, Bool, true, false, not, nat_le, nat_lt, is_none, slice_range, List, [], ◌∷◌, ◌++◌, length, take, drop, min, max, Option, Some, None, Result, Ok, Err, IfErr, if◌then◌else◌, ◌⊎◌, inl, inr, ⊎_elim, refl, sym, ap, subst, ◌∙◌, arith, append_assoc, length-append, length-drop}
 use Rattle.std.specs.List.{starts_with}
 use Rattle.std.proofs.lemmas.Bool.{le-leb, leb-false, lt-leb, cases_lt}
-use Rattle.std.proofs.lemmas.List.{append-nil, drop-drop, drop-take, drop_all, length-take, length-take-le, take-append-drop, take-take}
+use Rattle.std.proofs.lemmas.List.{append-nil, drop-drop, drop-take, drop_all, length-take, length-take-le, take-append-drop, take-take, take_all}
 use Rattle.warc_field.specs.Area.{Pair, area_of, count_of, first_value}
 use Rattle.warc_field.specs.Lines.{crlf}
 use Rattle.warc_frame.specs.Faults.{following}
@@ -17,11 +17,12 @@ use Rattle.warc_frame.specs.declared.fault.Mandatory.TheVariants.{ContentLength}
 use Rattle.warc_frame.specs.declared.version.Version.{Version}
 use Rattle.warc_frame.specs.declared.version.Version.TheVariants.{V1_1}
 use Rattle.warc_frame.proofs.StableLemmas.{unfinished}
+use Rattle.warc_frame.proofs.StreamHeads.{begins-not}
 use Rattle.warc_frame.proofs.StreamState.{empty_head}
 use Rattle.warc_frame.proofs.LawLemmas.{faults_are_stable-record, reading_is_spelling, reading_is_spelling-read}
 use Rattle.warc_record.specs.Heads.{head_fault}
 use Rattle.warc_reading.proofs.KindLemmas.{head_kind, is_of_head}
-use Rattle.warc_pieces.specs.Ends.{HeadMisses, closed_at}
+use Rattle.warc_pieces.specs.Ends.{HeadMisses, IsFrontOpen, IsOpenBefore, closed_at}
 use Rattle.warc_pieces.specs.Judging.{IsTorn, IsFaultAt, MissesBy}
 use Rattle.warc_pieces.specs.Pieces.{near}
 use Rattle.warc_pieces.specs.Window.{Shown, Shows}
@@ -154,9 +155,13 @@ first_four end n t buf is = ap (λ xs. begins xs (crlf ++ crlf)) is ∙ ap (λ x
 four_len : (end n : ℕ) (t buf : List ℕ) → take n buf ≡ take 4 (drop end t) → n ≤ length buf → n ≡ min 4 (length t - end)
 four_len end n t buf is few = sym (length-take-le n buf few) ∙ ap length is ∙ length-take 4 (drop end t) ∙ ap (min 4) (length-drop end t)
 
-pub closing_other : (end n : ℕ) (t buf : List ℕ) → take n buf ≡ take 4 (drop end t) → begins (take n buf) (crlf ++ crlf) ≡ false → closed_at end t ≡ Err (fault End end)
+pub closing_wrong : (end : ℕ) (t front : List ℕ) → front ≡ take (length front) (drop end t) → begins front (crlf ++ crlf) ≡ false → closed_at end t ≡ Err (fault End end)
 unfolding closed_at
-closing_other end n t buf is bad = rw (sym (first_four end n t buf is) ∙ bad) refl
+closing_wrong end t front same bad =
+    let rest = drop (length front) (drop end t) in
+    let whole : drop end t ≡ front ++ rest = sym (take-append-drop (length front) (drop end t)) ∙ ap (λ xs. xs ++ rest) (sym same) in
+    let no : begins (drop end t) (crlf ++ crlf) ≡ false = ap (λ xs. begins xs (crlf ++ crlf)) whole ∙ sym (begins-not front rest (crlf ++ crlf) bad) in
+    rw no refl
 
 pub closing_whole : (end n : ℕ) (t buf : List ℕ) → take n buf ≡ take 4 (drop end t) → n ≤ length buf → begins (take n buf) (crlf ++ crlf) ≡ true → n ≡ 4 → closed_at end t ≡ Ok tt
 unfolding closed_at
@@ -169,6 +174,25 @@ unfolding closed_at
 closing_cut end n m t buf is few good short same =
     let size = four_len end n t buf is few in
     rw (sym (first_four end n t buf is) ∙ good, le-leb (suc (length t)) (end + 4) (omega (arith, size, short)), same) refl
+
+-- the bytes before an offset don't close a block that ends there or after it
+pub closing_before : (place end : ℕ) (t : List ℕ) → place ≤ end → IsOpenBefore place end t
+closing_before place end t low =
+    let none : drop end (take place t) ≡ [] = drop_all end (take place t) (omega (arith, low, length-take place t)) in
+    closing_cut end 0 (length (take place t)) (take place t) [] (sym (ap (take 4) none)) (omega arith) refl (omega arith) refl
+
+-- nor do fewer than four bytes after it that are as wanted
+pub closing_open : (place end : ℕ) (t buf : List ℕ) → end ≤ place → place < end + 4 → length buf ≡ 4 → IsFrontOpen end t (take (place - end) buf) → IsOpenBefore place end t
+closing_open place end t buf low few room wanted =
+    let k : ℕ = place - end in
+    let front = take k buf in
+    let sum : place ≡ end + k = omega (arith, low) in
+    let size : length front ≡ k = length-take-le k buf (omega (arith, few, room)) in
+    let rest : drop end (take place t) ≡ take k (drop end t) = ap (λ n. drop end (take n t)) sum ∙ drop-take end k t in
+    let same : front ≡ take k (drop end t) = wanted.same ∙ ap (λ n. take n (drop end t)) size in
+    let four : take 4 (drop end (take place t)) ≡ front = ap (take 4) rest ∙ ap (take 4) (sym same) ∙ take_all 4 front (omega (arith, size, few)) in
+    let all : take k front ≡ front = take_all k front (omega (arith, size)) in
+    closing_cut end k (length (take place t)) (take place t) front (all ∙ sym four) (omega (arith, size)) (ap (λ xs. begins xs (crlf ++ crlf)) all ∙ wanted.begins_as) (omega (arith, few, low)) refl
 
 pub some_left : (end n : ℕ) (t buf : List ℕ) → take n buf ≡ take 4 (drop end t) → n ≤ length buf → 0 < n → n < 4 → end + n ≡ length t
 some_left end n t buf is few some short = omega (arith, four_len end n t buf is few, some, short)

@@ -193,6 +193,5 @@ read_cut at bytes r len offset low is after before =
     let found = reading_is_spelling head_fault (drop at t) r len is in
     record {
       after = after;
-      within = omega (arith, low, before, found.0, length-drop at t);
       cut = subst IsTorn (sym (part_is at offset t after)) (cut_record (drop at t) r len (offset - at) is (omega (arith, after, before)));
     }

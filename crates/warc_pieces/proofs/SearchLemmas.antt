@@ -353,7 +353,6 @@ search_stops bytes from at tries f w low comes read (after, within, absent) =
     let part = take f.offset t in
     let unread : IsUnreadAt f.offset bytes f.offset = record {
       after = omega arith;
-      within = within;
       cut = inl (drop_all f.offset part (omega (arith, length-take f.offset t)));
     } in
     let P : FaultKind → Type 0 = λ kind. MissesBy kind f.offset bytes f in

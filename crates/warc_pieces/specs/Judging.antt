@@ -20,7 +20,6 @@ IsTorn text = (text ≡ []) ⊎ (record_of head_fault text ≡ Err (fault Trunca
 -- a read failed at an offset, and what lies before it is no more than the beginning of a record
 pub record IsUnreadAt (at : ℕ) (bytes : List ℕ) (offset : ℕ) : Type 0 where
   pub after : at ≤ offset
-  pub within : offset ≤ length (near bytes)
   pub cut : IsTorn (drop at (take offset (near bytes)))
 
 -- why no good record was found at an offset: a read failed; memory ran out for the head there; or none is there

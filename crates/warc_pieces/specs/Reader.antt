@@ -1,5 +1,5 @@
 -- Reading the pieces of a source one after another.
-use Rattle.std.specs.Prelude.{◌≡◌, ◌≢◌, ℕ, ◌+◌, ◌-◌, ◌*◌, ◌<◌, ◌≤◌, ◌⊎◌, List, [], ◌∷◌, ◌++◌, length, take, drop, Bool, true, false, Option, None, Some, Result, Ok, Err}
+use Rattle.std.specs.Prelude.{◌≡◌, ◌≢◌, ℕ, ◌+◌, ◌-◌, ◌*◌, ◌<◌, ◌≤◌, ◌⊎◌, List, [], ◌∷◌, ◌++◌, length, take, drop, Bool, true, false, Option, None, Some, Result, Ok, Err, IfSome}
 use Rattle.warc_frame.specs.Faults.{ReadsAs}
 use Rattle.warc_frame.specs.Record.{max_archive}
 use Rattle.warc_frame.specs.Seen.{AsksOnly, SeenSource}
@@ -38,8 +38,8 @@ StopsBy Memory bytes end stop f = (f.offset ≡ stop) × (stop < length (near by
 StopsBy TooLong bytes end stop f = (f.offset ≡ max_archive) × (end ≡ max_archive) × (max_archive < length bytes)
 StopsBy kind bytes end stop f = ⊥
 
--- Reading stops after pieces that end at an offset. No good record is passed over: none begins from there to `stop` that
--- lies whole in what was read.
+-- Reading stops after pieces that end at an offset. No good record is passed over: none begins from there to `stop`
+-- that lies whole in what was read.
 pub record IsStop (bytes : List ℕ) (end : ℕ) (f : Fault) : Type 0 where
   pub stop : ℕ
   pub after : end ≤ stop
@@ -101,14 +101,15 @@ GoesBy at after failure (Ok None) = (after ≡ at) × (failure ≡ None)
 GoesBy at after failure (Err f) = failure ≡ Some f
 
 -- A reader goes on by a piece, or finds the end of its source or a failure, which it keeps. The source holds and
--- watches what it did, has failed once more exactly if the failure is a failed read, and was asked for no byte above
--- offset 2^48.
+-- watches what it did, has failed once more exactly if the failure is a failed read, at the offset asked last, and was
+-- asked for no byte above offset 2^48.
 pub record Advances (old new : SeenSource) (at after : ℕ) (failure : Option Fault)
     (answer : Result (Option Piece) Fault) : Type 0 where
   pub kept : new.holds ≡ old.holds
   pub watched : new.watches ≡ old.watches
   pub cause : new.faults ≡ faults_after_stop failure old.faults
   pub near : AsksOnly (λ q. q ≤ max_archive) old new
+  pub asked : IfSome failure (λ f. f.kind ≡ Read → f.offset ≡ new.asked)
   pub goes : GoesBy at after failure answer
   pub limit : after ≤ max_archive
 

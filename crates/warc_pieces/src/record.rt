@@ -4,11 +4,11 @@ ghost use Rattle.warc_frame.specs.Reading.{begins};
 ghost use Rattle.warc_frame.specs.Record.{max_archive, max_block};
 ghost use Rattle.warc_frame.specs.Seen.{IfHeld};
 ghost use Rattle.warc_frame.specs.declared.fault.FaultKind.TheVariants.{Read, Truncated};
-ghost use Rattle.warc_pieces.specs.Ends.{Closes, HasBlockEnd, HeadMisses, closed_at};
+ghost use Rattle.warc_pieces.specs.Ends.{Closes, HasBlockEnd, HeadMisses, IsFrontOpen, IsFrontRead, IsReadFaultIn, closed_at};
 ghost use Rattle.warc_pieces.specs.Judging.{FindsRecord, MissesBy};
 ghost use Rattle.warc_pieces.specs.Pieces.{near};
 ghost use Rattle.warc_pieces.specs.Reads.{ReadsAlone, ReadsNear};
-ghost use Rattle.warc_pieces.specs.Window.{ReadsBy, Shows, own_reads};
+ghost use Rattle.warc_pieces.specs.Window.{ReadsBy, Shows, own_reads, reached};
 
 use crate::window::{Window, after, read_near};
 use std::alloc::Allocator;
@@ -59,14 +59,18 @@ fn check_end(text: &[u8], end: u64) -> Result<(), Fault>
     Ok(())
 }
 
-/// Reads at an offset, until the buffer is full or the source ends; none of it from offset 2^48 on.
-fn read_up_to<S: Source>(source: &mut S, at: u64, buf: &mut [u8]) -> Result<usize, ReadFault>
+/// Reads at an offset, until the buffer is full, the source ends, or the bytes aren't those that close a record; none
+/// of it from offset 2^48 on. A failed read is reported at the offset that was asked for.
+fn read_closing<S: Source>(source: &mut S, at: u64, buf: &mut [u8]) -> Result<usize, Fault>
     requires { at ≤ 2 ^ 62 }
     ensures len { length buf.new ≡ length buf.old }
     ensures bound { IfOk result (λ n. n ≤ length buf.old) }
     ensures limit { IfOk result (λ n. 0 < n → at + n ≤ max_archive) }
-    ensures bytes { IfHeld (S.seen source.old).holds (λ bytes. IfOk result (λ n.
-        take n buf.new ≡ take (length buf.old) (drop at (near bytes)))) }
+    ensures bytes { IfHeld (S.seen source.old).holds (λ bytes. IfOk result (λ n. IsFrontRead at (length buf.old)
+        (near bytes) (take n buf.new))) }
+    ensures unread { IfErr result (λ f. IsReadFaultIn at (length buf.old) f (S.seen source.new)) }
+    ensures unclosed { IfHeld (S.seen source.old).holds (λ bytes. IfErr result (λ f. IsFrontOpen at (near bytes)
+        (take (f.offset - at) buf.new))) }
     ensures reads { ReadsNear (length buf.old) (is_err result) (S.seen source.old) (S.seen source.new) }
 {
     let mut filled = 0;
@@ -75,11 +79,17 @@ fn read_up_to<S: Source>(source: &mut S, at: u64, buf: &mut [u8]) -> Result<usiz
         if place >= MAX_ARCHIVE {
             return Ok(filled);
         }
-        let n = read_near(source, place, &mut buf[filled..])?;
+        let n = match read_near(source, place, &mut buf[filled..]) {
+            Ok(n) => n,
+            Err(_) => return Err(FaultKind::Read.at(place)),
+        };
         if n == 0 {
             return Ok(filled);
         }
         filled += n;
+        if !begins_as(&buf[..filled], b"\r\n\r\n") {
+            return Ok(filled);
+        }
     }
     Ok(filled)
 }
@@ -89,6 +99,7 @@ fn has_byte<S: Source>(source: &mut S, at: u64) -> Result<bool, ReadFault>
     requires { at < max_archive }
     ensures has { IfHeld (S.seen source.old).holds (λ bytes.
         IfOk result (λ has. has ≡ nat_lt at (length (near bytes)))) }
+    ensures asked { (S.seen source.new).asked ≡ at }
     ensures reads { ReadsNear 1 (is_err result) (S.seen source.old) (S.seen source.new) }
 {
     let mut byte = [0u8; 1];
@@ -96,11 +107,13 @@ fn has_byte<S: Source>(source: &mut S, at: u64) -> Result<bool, ReadFault>
     Ok(n > 0)
 }
 
-/// Where a source ends, or 2^48 if it goes on there. It has a byte before offset `from`, and none from `to` on.
-fn find_end<S: Source>(source: &mut S, from: u64, to: u64) -> Result<u64, ReadFault>
+/// Where a source ends, or 2^48 if it goes on there. It has a byte before offset `from`, and none from `to` on. A
+/// failed read is reported at the offset that was asked for.
+fn find_end<S: Source>(source: &mut S, from: u64, to: u64) -> Result<u64, Fault>
     requires { 0 < from }
     ensures end { IfHeld (S.seen source.old).holds (λ bytes. from ≤ length (near bytes) → length (near bytes) ≤ to →
         IfOk result (λ n. n ≡ length (near bytes))) }
+    ensures unread { IfErr result (λ f. IsReadFaultIn from (to - from) f (S.seen source.new)) }
     ensures reads { ReadsNear HALVINGS (is_err result) (S.seen source.old) (S.seen source.new) }
 {
     let mut low = from;
@@ -110,7 +123,10 @@ fn find_end<S: Source>(source: &mut S, from: u64, to: u64) -> Result<u64, ReadFa
             return Ok(low);
         }
         let middle = low + (high - low) / 2;
-        let has = has_byte(source, middle)?;
+        let has = match has_byte(source, middle) {
+            Ok(has) => has,
+            Err(_) => return Err(FaultKind::Read.at(middle)),
+        };
         if has {
             low = middle + 1;
         } else {
@@ -121,18 +137,20 @@ fn find_end<S: Source>(source: &mut S, from: u64, to: u64) -> Result<u64, ReadFa
 }
 
 /// What is wrong after a block that ends at an offset of a source, if anything is. The source has a byte before offset
-/// `known`, and no byte of the block from there on is read. A failed read is reported at that offset.
+/// `known`, and no byte of the block from there on is read. A failed read is reported at the offset that was asked for.
 fn check_end_beyond<S: Source>(source: &mut S, known: u64, end: u64) -> Result<(), Fault>
     requires some { 0 < known }
     requires limit { end ≤ 2 ^ 62 }
     ensures closes { IfHeld (S.seen source.old).holds (λ bytes. known ≤ length (near bytes) →
         Closes known end bytes result) }
     ensures limit { IfOk result (λ _. end + CLOSING ≤ max_archive) }
+    ensures asked { IfErr result (λ f. f.kind ≡ Read → f.offset ≡ (S.seen source.new).asked) }
     ensures reads { ReadsAlone 52 result (S.seen source.old) (S.seen source.new) }
 {
     let mut closing = [0u8; 4];
-    let Ok(n) = read_up_to(source, end, &mut closing) else {
-        return Err(FaultKind::Read.at(known));
+    let n = match read_closing(source, end, &mut closing) {
+        Ok(n) => n,
+        Err(fault) => return Err(fault),
     };
     if !begins_as(&closing[..n], b"\r\n\r\n") {
         return Err(FaultKind::End.at(end));
@@ -145,7 +163,7 @@ fn check_end_beyond<S: Source>(source: &mut S, known: u64, end: u64) -> Result<(
     }
     match find_end(source, known, end) {
         Ok(len) => Err(FaultKind::Truncated.at(len)),
-        Err(_) => Err(FaultKind::Read.at(known)),
+        Err(unread) => Err(unread),
     }
 }
 
@@ -182,6 +200,7 @@ fn find_block_end<S: Source, A: Allocator + Copy>(
     ensures misses { IfHeld (S.seen source.old).holds (λ bytes. Shows bytes window.old → at ≤ length (near bytes) →
         IfErr result (λ f. MissesBy f.kind at bytes f)) }
     ensures begin { window.new.begin ≤ at }
+    ensures asked { IfErr result (λ f. f.kind ≡ Read → f.offset ≡ (S.seen source.new).asked) }
     ensures reads { ReadsBy 1 result window.old window.new (S.seen source.old) (S.seen source.new) }
 {
     'reading: loop {
@@ -215,6 +234,7 @@ fn close_record<S: Source, A: Allocator>(
         FindsRecord at bytes result) }
     ensures some { IfOk result (λ len. 0 < len) }
     ensures far { IfOk result (λ len. at + len ≤ max_archive) }
+    ensures asked { IfErr result (λ f. f.kind ≡ Read → f.offset ≡ (S.seen source.new).asked) }
     ensures reads { ReadsAlone 52 result (S.seen source.old) (S.seen source.new) }
 {
     let shown = window.shown(at);
@@ -243,6 +263,7 @@ fn quick_len<A: Allocator>(window: &Window<A>, at: u64) -> Option<u64>
     ensures judges { (bytes : List ℕ) → Shows bytes window.now → at ≤ length (near bytes) →
         IfSome result (λ len. FindsRecord at bytes (Ok len)) }
     ensures some { IfSome result (λ len. 0 < len) }
+    ensures shown { IfSome result (λ _. at ≤ reached window.now) }
     ensures far { IfSome result (λ len. at + len ≤ max_archive) }
 {
     let Some(found) = quick_record(window.shown(at)) else {
@@ -265,6 +286,8 @@ fn record_len_by_fields<S: Source, A: Allocator + Copy>(
     ensures begin { window.new.begin ≤ at }
     ensures some { IfOk result (λ len. 0 < len) }
     ensures far { IfOk result (λ len. at + len ≤ max_archive) }
+    ensures shown { IfOk result (λ _. at ≤ reached window.new) }
+    ensures asked { IfErr result (λ f. f.kind ≡ Read → f.offset ≡ (S.seen source.new).asked) }
     ensures reads { ReadsBy own_reads result window.old window.new (S.seen source.old) (S.seen source.new) }
 {
     let end = find_block_end(alloc, source, window, at)?;
@@ -287,6 +310,8 @@ pub(crate) fn record_len<S: Source, A: Allocator + Copy>(
     ensures begin { window.new.begin ≤ at }
     ensures some { IfOk result (λ len. 0 < len) }
     ensures far { IfOk result (λ len. at + len ≤ max_archive) }
+    ensures shown { IfOk result (λ _. at ≤ reached window.new) }
+    ensures asked { IfErr result (λ f. f.kind ≡ Read → f.offset ≡ (S.seen source.new).asked) }
     ensures reads { ReadsBy own_reads result window.old window.new (S.seen source.old) (S.seen source.new) }
 {
     match quick_len(window, at) {

@@ -40,6 +40,7 @@ fn read_one<S: Source, A: Allocator + Copy>(
     ensures stays { IfErr result (λ f. f.kind ≢ Read → window.new.begin ≤ at) }
     ensures some { IfOk result (λ len. 0 < len) }
     ensures far { IfOk result (λ len. at + len ≤ max_archive) }
+    ensures asked { IfErr result (λ f. f.kind ≡ Read → f.offset ≡ (S.seen source.new).asked) }
     ensures reads { ReadsBy (own_reads + 1) result window.old window.new (S.seen source.old) (S.seen source.new) }
 {
     let len = record_len(alloc, source, window, at)?;
@@ -47,7 +48,7 @@ fn read_one<S: Source, A: Allocator + Copy>(
         Ok(()) => Ok(len),
         Err(fault) => {
             if fault.kind == FaultKind::Read {
-                return Err(FaultKind::Read.at(fault.offset.max(at)));
+                return Err(FaultKind::Read.at(fault.offset));
             }
             // The source has become shorter since. What follows shows it.
             Ok(len)
@@ -81,6 +82,7 @@ pub(crate) fn read_run<S: Source, A: Allocator + Copy>(
     ensures none { result.count ≡ 0 → result.len ≡ 0 }
     ensures few { result.count ≤ result.len }
     ensures limit { at + result.len ≤ max_archive }
+    ensures asked { IfSome result.end (λ f. f.kind ≡ Read → f.offset ≡ (S.seen source.new).asked) }
     ensures reads { ReadsBy ((own_reads + 1) * (result.count + 1)) (answer_of result.end) window.old window.new
         (S.seen source.old) (S.seen source.new) }
 {

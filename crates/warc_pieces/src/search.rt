@@ -38,6 +38,7 @@ fn next_line<S: Source, A: Allocator>(
     ensures begin { IfOk result (λ found. IfSome found (λ at. window.new.begin ≤ at)) }
     ensures limit { IfOk result (λ found. IfSome found (λ at. (from ≤ at) × (at < max_archive))) }
     ensures fault { IfErr result (λ f. f.kind ≡ Read) }
+    ensures asked { IfErr result (λ f. f.offset ≡ (S.seen source.new).asked) }
     ensures reads { ReadsBy 1 result window.old window.new (S.seen source.old) (S.seen source.new) }
 {
     let mut at = from;
@@ -80,6 +81,7 @@ pub(crate) fn next_record<S: Source, A: Allocator + Copy>(
     ensures begin { IfOk result (λ found. window.new.begin ≤ found) }
     ensures limit { IfOk result (λ found. (from ≤ found) × (found ≤ max_archive)) }
     ensures fault { IfErr result (λ f. (f.kind ≡ Read) ⊎ (f.kind ≡ Memory)) }
+    ensures asked { IfErr result (λ f. f.kind ≡ Read → f.offset ≡ (S.seen source.new).asked) }
     ensures reads { (tries : ℕ) × ReadsBy ((own_reads + 1) * tries) result window.old window.new (S.seen source.old)
         (S.seen source.new) × IfHeld (S.seen source.old).holds (λ bytes. Shows bytes window.old →
         from ≤ length (near bytes) → tries ≤ lines_in (drop from (near bytes)) (search_end result - from) + 1) }

@@ -64,6 +64,7 @@ pub(crate) fn read_near<S: Source>(
     ensures len { length buf.new ≡ length buf.old }
     ensures limit { IfOk result (λ n. at + n ≤ max_archive) }
     ensures bytes { IfHeld (S.seen source.old).holds (λ bytes. IfOk result (Gives (near bytes) at buf.new)) }
+    ensures asked { (S.seen source.new).asked ≡ at }
     ensures read { ReadsNear 1 (is_err result) (S.seen source.old) (S.seen source.new) }
 {
     let room = (MAX_ARCHIVE - at).min(buf.len() as u64) as usize;
@@ -85,6 +86,7 @@ fn read_after<S: Source>(
     ensures limit { IfOk result (λ n. at + n ≤ max_archive) }
     ensures bytes { IfHeld (S.seen source.old).holds
         (λ bytes. IfOk result (Gives (near bytes) at (drop place buf.new))) }
+    ensures asked { (S.seen source.new).asked ≡ at }
     ensures read { ReadsNear 1 (is_err result) (S.seen source.old) (S.seen source.new) }
 {
     read_near(source, at, &mut buf[place..])
@@ -187,6 +189,7 @@ impl<A: Allocator> Window<A> {
         ensures goes_on { IfOk result (goes_on_by self.old self.new (reached self.old)) }
         ensures fault { IfErr result (λ f. (f.kind ≡ Read) × (f.offset ≡ reached self.new)
             × IsNoFurther self.old self.new (reached self.old)) }
+        ensures asked { IfErr result (λ f. f.offset ≡ (S.seen source.new).asked) }
         ensures reads { ReadsBy (reads_beside result) result self.old self.new (S.seen source.old)
             (S.seen source.new) }
     {
@@ -226,6 +229,7 @@ impl<A: Allocator> Window<A> {
         ensures goes_on { IfOk result (goes_on_by self.old self.new at) }
         ensures fault { IfErr result (λ f. (f.kind ≡ Read) × (f.offset ≡ reached self.new)
             × IsNoFurther self.old self.new at) }
+        ensures asked { IfErr result (λ f. f.offset ≡ (S.seen source.new).asked) }
         ensures reads { ReadsBy (reads_beside result) result self.old self.new (S.seen source.old)
             (S.seen source.new) }
     {
@@ -244,8 +248,10 @@ impl<A: Allocator> Window<A> {
         requires begin { self.old.begin ≤ to }
         ensures shows { IfHeld (S.seen source.old).holds (λ bytes. Shows bytes self.old → Shows bytes self.new) }
         ensures begin { self.new.begin ≤ to }
+        ensures further { reached self.old ≤ reached self.new }
         ensures far { OnOk result (to ≤ reached self.new) }
         ensures fault { IfErr result (λ f. (f.offset ≡ reached self.new) × (f.offset < to)) }
+        ensures asked { IfErr result (λ f. f.kind ≡ Read → f.offset ≡ (S.seen source.new).asked) }
         ensures whole { IfHeld (S.seen source.old).holds (λ bytes. Shows bytes self.old → to ≤ length (near bytes) →
             IfErr result (λ f. f.kind ≡ Read)) }
         ensures reads { ReadsBy 1 result self.old self.new (S.seen source.old) (S.seen source.new) }

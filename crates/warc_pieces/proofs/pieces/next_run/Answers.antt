@@ -2,7 +2,7 @@ use Rattle.std.proofs.Common.{◌≡◌, ℕ, ◌+◌, ◌∙◌, subst, arith, 
 use Rattle.warc_pieces.specs.Reader.{GivesOf}
 use Rattle.warc_pieces.specs.Run.{answer_of}
 use Rattle.warc_pieces.specs.Window.{reached}
-use Rattle.warc_pieces.proofs.ReaderLemmas.{advances_by, end_few, end_given, few_after, run_few, failed_end, failure_given, failure_here, failure_piece, found_given, found_piece, goes_by, goes_some, quiet_end, quiet_found}
+use Rattle.warc_pieces.proofs.ReaderLemmas.{advances_by, asked_none, asked_some, end_few, end_given, few_after, run_few, failed_end, failure_given, failure_here, failure_piece, found_given, found_piece, goes_by, goes_some, quiet_end, quiet_found}
 use Rattle.warc_pieces.proofs.pieces.next_run.Goals as goal
 
 pub returns-in_default-clause-gives : goal.returns-in_default-clause-gives
@@ -18,7 +18,7 @@ returns-in_default-clause-advances g c =
     let at = c.args.walk.now.at in
     let quiet = quiet_end run.end c.args.walk.now.failure (g.S.Source.seen c.args.source.now).faults c.in_default.is c.requires.sound in
     let goes = goes_by c.run_piece-piece.result at run.count run.len c.args.walk.now.failure c.requires.sound c.read_run-count.ensures.none c.run_piece-piece.ensures.none c.run_piece-piece.ensures.some c.read_run-count.ensures.few in
-    advances_by _ (answer_of run.end) _ _ _ _ at (at + run.len) c.args.walk.now.failure (Ok c.run_piece-piece.result) c.read_run-count.ensures.reads quiet goes
+    advances_by _ (answer_of run.end) _ _ _ _ at (at + run.len) c.args.walk.now.failure (Ok c.run_piece-piece.result) c.read_run-count.ensures.reads quiet (asked_none c.args.walk.now.failure (g.S.Source.seen c.read_run-count.new.source) c.requires.sound) goes
     c.read_run-count.ensures.limit
 
 pub returns-in-Some-piece-clause-gives : goal.returns-in-Some-piece-clause-gives
@@ -37,7 +37,7 @@ returns-in-Some-piece-clause-advances g c =
     let fault = c.in-Some.fault in
     let same = failed_end run.end fault (g.S.Source.seen c.args.source.now).faults c.in-Some.is in
     let goes = goes_some c.in-Some-piece.piece at run.count run.len (Some fault) c.in-Some-piece.ensures.some.0 c.in-Some-piece.ensures.some.1 c.read_run-count.ensures.few in
-    advances_by _ (answer_of run.end) _ _ _ _ at (at + run.len) (Some fault) (Ok (Some c.in-Some-piece.piece)) c.read_run-count.ensures.reads same goes
+    advances_by _ (answer_of run.end) _ _ _ _ at (at + run.len) (Some fault) (Ok (Some c.in-Some-piece.piece)) c.read_run-count.ensures.reads same (asked_some run.end fault (g.S.Source.seen c.read_run-count.new.source) c.in-Some.is c.read_run-count.ensures.asked) goes
     c.read_run-count.ensures.limit
 
 pub returns-in-Some-piece-2-clause-gives : goal.returns-in-Some-piece-2-clause-gives
@@ -61,7 +61,7 @@ returns-in-Some-piece-2-clause-advances g c =
     let kind = c.is_failure.ensures.found c.if-is_failure.false in
     let quiet = quiet_found run.end c.args.walk.now.failure c.in-Some.fault (g.S.Source.seen c.args.source.now).faults c.in-Some.is kind.0 c.requires.sound in
     let goes = goes_some c.in-Some-piece-2.piece at run.count run.len c.args.walk.now.failure c.in-Some-piece-2.ensures.some.0 c.in-Some-piece-2.ensures.some.1 c.read_run-count.ensures.few in
-    advances_by _ (answer_of run.end) _ _ _ _ at (at + run.len) c.args.walk.now.failure (Ok (Some c.in-Some-piece-2.piece)) c.read_run-count.ensures.reads quiet
+    advances_by _ (answer_of run.end) _ _ _ _ at (at + run.len) c.args.walk.now.failure (Ok (Some c.in-Some-piece-2.piece)) c.read_run-count.ensures.reads quiet (asked_none c.args.walk.now.failure (g.S.Source.seen c.read_run-count.new.source) c.requires.sound)
     goes c.read_run-count.ensures.limit
 
 pub returns-in-None-clause-gives : goal.returns-in-None-clause-gives

@@ -20,6 +20,10 @@ pub returns-then-not-is_cut-clause-reads : goal.returns-then-not-is_cut-clause-r
 returns-then-not-is_cut-clause-reads g c =
     no_read 52 c.at.result _ (subst (λ (f : Fault). f.kind ≢ Read) (sym c.at.ensures) (closed_fault_kind c.args.end c.shown-shown.result.now c.in-Err.fault c.in-Err.ensures.exact).0)
 
+pub returns-then-not-is_cut-clause-asked : goal.returns-then-not-is_cut-clause-asked
+returns-then-not-is_cut-clause-asked g c = λ read.
+    absurd ((closed_fault_kind c.args.end c.shown-shown.result.now c.in-Err.fault c.in-Err.ensures.exact).0 (sym (ap (λ (f : Fault). f.kind) c.at.ensures) ∙ read))
+
 pub returns-then-is_last-clause-judges : goal.returns-then-is_last-clause-judges
 returns-then-is_last-clause-judges g c = λ bytes held shows there.
     let P : Fault → Type 0 = λ f. MissesBy f.kind c.args.at bytes f in

@@ -1,4 +1,4 @@
-use Rattle.std.proofs.Common.{◌≢◌, Ok, inl, inr, refl, sym, subst, ◌∙◌, arith}
+use Rattle.std.proofs.Common.{◌≢◌, Ok, ap, inl, inr, refl, sym, subst, ◌∙◌, arith}
 use Rattle.std.proofs.lemmas.Result.{err_from_is_err_and}
 use Rattle.warc_frame.specs.Record.{max_archive}
 use Rattle.warc_frame.specs.declared.fault.Fault.{Fault}
@@ -19,6 +19,10 @@ returns-then-not-is_cut-clause-misses g c = λ bytes held shows there.
 pub returns-then-not-is_cut-clause-reads : goal.returns-then-not-is_cut-clause-reads
 returns-then-not-is_cut-clause-reads g c =
     read_fault _ 1 c.at.result _ _ _ _ (subst (λ (f : Fault). f.kind ≢ Read) (sym c.at.ensures) (misses_not_read c.shown.result.now c.in-Err.fault c.in-Err.ensures.exact)) c.reading.invariant.reads (slack_most c.reading.window.is_last)
+
+pub returns-then-not-is_cut-clause-asked : goal.returns-then-not-is_cut-clause-asked
+returns-then-not-is_cut-clause-asked g c = λ read.
+    absurd (misses_not_read c.shown.result.now c.in-Err.fault c.in-Err.ensures.exact (sym (ap (λ (f : Fault). f.kind) c.at.ensures) ∙ read))
 
 pub returns-then-is_last-clause-misses : goal.returns-then-is_last-clause-misses
 returns-then-is_last-clause-misses g c = λ bytes held shows there.

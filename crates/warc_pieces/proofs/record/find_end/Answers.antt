@@ -11,19 +11,19 @@ halving-init g c = record {
   between = λ bytes held low high. (low, omega (arith, high, near_len bytes, c.min-high.ensures));
   span = omega (arith, c.min-high.ensures, c.requires);
   limit = omega (arith, c.min-high.ensures);
+  low = omega arith;
+  high = omega (arith, c.min-high.ensures);
   reads = near_none _;
 }
 
-pub returns-in_err-has-clause-reads : goal.returns-in_err-has-clause-reads
-returns-in_err-has-clause-reads g c =
-    let p = err_from_is_err_and c.from_residual.result c.from_residual.ensures.1 in
-    rw p.1 (near_then c.halving.step 1 48 true _ _ _ c.halving.invariant.reads c.in_err-has.ensures.reads (omega (arith, c.halving-test.true)))
+pub returns-in-Err-clause-reads : goal.returns-in-Err-clause-reads
+returns-in-Err-clause-reads g c = near_then c.halving.step 1 48 true _ _ _ c.halving.invariant.reads c.in-Err.ensures.reads (omega (arith, c.halving-test.true))
 
 pub halving-preserved : goal.halving-preserved
 halving-preserved g c = record {
   between = λ bytes held low high.
       let before = c.halving.invariant.between bytes held low high in
-      let test = c.in_ok-has.ensures.has bytes (c.halving.invariant.reads.kept ∙ held) in
+      let test = c.in-Ok.ensures.has bytes (c.halving.invariant.reads.kept ∙ held) in
       elim c.if-has.branch [
         | then-has w ↦
             let there = leb-true _ _ (sym test ∙ w.if-has.true) in
@@ -40,5 +40,13 @@ halving-preserved g c = record {
     | then-has w ↦ omega (arith, w.high-is, c.halving.invariant.limit)
     | else-has w ↦ omega (arith, w.high-is, c.halving.invariant.limit)
   ];
-  reads = near_then c.halving.step 1 (c.halving.step + 1) false _ _ _ c.halving.invariant.reads c.in_ok-has.ensures.reads (omega arith);
+  low = elim c.if-has.branch [
+    | then-has w ↦ omega (arith, w.low-is, c.halving.invariant.low)
+    | else-has w ↦ omega (arith, w.low-is, c.halving.invariant.low)
+  ];
+  high = elim c.if-has.branch [
+    | then-has w ↦ omega (arith, w.high-is, c.halving.invariant.high)
+    | else-has w ↦ omega (arith, w.high-is, c.halving.invariant.high)
+  ];
+  reads = near_then c.halving.step 1 (c.halving.step + 1) false _ _ _ c.halving.invariant.reads c.in-Ok.ensures.reads (omega arith);
 }

@@ -11,5 +11,7 @@ invariant-halving g l = record {
       (l.low ≤ length (near bytes)) × (length (near bytes) ≤ l.high));
   span : (l.high - l.low) * 2 ^ l.step < 2 ^ 48;
   limit : l.high ≤ 2 ^ 48;
+  low : l.from ≤ l.low;
+  high : l.high ≤ l.to;
   reads : ReadsNear l.step false (g.S.Source.seen l.fn.source) (g.S.Source.seen l.source);
 }

@@ -18,6 +18,7 @@ passing-preserved g c = record {
       let there : c.reached-at.result ≤ length (near bytes) = omega (arith, c.reached-at.ensures.is, before.within) in
       c.in_ok-more.ensures.shows bytes (c.passing.invariant.reads.kept ∙ held) before there;
   begin = omega (arith, c.in_ok-more.ensures.begin, c.reached-at.ensures.is, c.reached.ensures.is, c.passing-test.true);
+  far = omega (arith, c.passing.invariant.far, c.in_ok-more.ensures.far.1);
   reads =
       let none : reads_beside (Ok c.in_ok-more.field-0) ≡ 0 = ap (λ (b : Bool). reads_beside (Ok b)) c.if-not-branch.false in
       read_then 0 _ 0 tt _ (Ok tt) _ _ _ _ _ _ c.passing.invariant.reads c.in_ok-more.ensures.reads (omega (arith, none)) (λ n. refl);

@@ -8,6 +8,7 @@ abbrev pub invariant-passing : goal.invariant-passing
 invariant-passing g l = record {
   shows : IfHeld (g.S.Source.seen l.fn.source).holds (λ bytes. Shows bytes l.fn.self → Shows bytes l.self);
   begin : l.self.begin ≤ l.to;
+  far : reached l.fn.self ≤ reached l.self;
   reads : ReadsBy {X = Unit {0}} 0 (Ok tt) l.fn.self l.self (g.S.Source.seen l.fn.source) (g.S.Source.seen l.source);
 }
 
