@@ -1,18 +1,23 @@
-//! The suite of look-ups, by a script on standard input: entries in order, series of segments, captures and where
-//! revisits lead, and what is answered of joined blocks.
+//! The suite of look-ups, by a script on standard input: series of segments, captures and where revisits lead, and what
+//! is answered of joined blocks.
 #![tactic(auto)]
 
+mod captures;
+mod heads;
+mod replays;
+mod series;
+mod stored;
+mod text;
+
+use heads::Records;
+use replays::Replays;
 use std::alloc::{AllocError, Global};
 use std::io::{self, Read, Write};
 use std::process::ExitCode;
-use suites_lookups_answered::Replays;
-use suites_lookups_kept::Records;
-use suites_lookups_ordered::Orders;
 use suites_script::{Case, Trial, try_script};
 
 #[derive(Drop)]
 struct Trials {
-    orders: Orders,
     records: Records,
     replays: Replays,
 }
@@ -25,14 +30,6 @@ impl Trial for Trials {
         answer: &mut Vec<u8>,
     ) -> Result<(), AllocError> {
         match case.text(0) {
-            "texts"
-            | "entries"
-            | "draw"
-            | "list"
-            | "order"
-            | "filled"
-            | "waited"
-            | "refused-order" => self.orders.answer(alloc, case, answer),
             "head"
             | "stored"
             | "block"
@@ -52,7 +49,6 @@ fn main(rt: HostRuntime) -> io::Result<ExitCode> {
     let mut script = Vec::new(alloc);
     rt.reader().read_to_end(&mut script)?;
     let mut trials = Trials {
-        orders: Orders::new(alloc),
         records: Records::new(alloc),
         replays: Replays::new(alloc),
     };

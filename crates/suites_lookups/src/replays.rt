@@ -13,7 +13,7 @@ use warc_vectors::{Break, BrokenSource, BrokenWriter};
 
 /// The heads of origins by their names, that of the origin, and its blocks.
 #[derive(Drop)]
-pub struct Replays {
+pub(crate) struct Replays {
     heads: Vec<Named>,
     head: Vec<u8>,
     blocks: Vec<Block>,

@@ -48,7 +48,7 @@ pub(crate) enum Step {
 
 /// The records that are known, and what happens to the archive.
 #[derive(Drop)]
-pub struct Records {
+pub(crate) struct Records {
     heads: Vec<Head>,
     steps: Vec<Step>,
 }
