@@ -21,7 +21,7 @@ from shared import TOP, crates, groups, read
 PAGE = "docs/ARCHITECTURE.md"
 TITLE = "## What a reader must believe, in reading order\n"
 # They test and show the library, so nobody has to believe what they define.
-BESIDE = ("suites_", "example_", "program_", "warc_vectors")
+BESIDE = ("suites_", "example_", "warc_vectors")
 FUNCTION = re.compile(r'^\s*(pub )?(?:const |unsafe )*(?:extern "C" )?fn \w+')
 USE = re.compile(r"^\s*(?:ghost )?use Rattle\.(\w+)\.specs\.(\w+)\.\{([^}]*)\}", re.MULTILINE)
 GROUP = re.compile(r"^### (.*)\n\n\| Crate \| Owns \|\n\|---\|---\|\n((?:\| .*\n)*)", re.MULTILINE)

@@ -77,6 +77,10 @@ SYSTEM = (
 PAGE_SCRIPTS = tuple(sorted(path[len(TOP) + 1 :] for path in glob.glob(f"{TOP}/page/*.js")))
 PAGE_PYTHON = scripts("tests/page")
 COMPATIBILITY = scripts("tests/compatibility")
+# The tests of cases import the second reading and what compares it with the program.
+CASES = (*scripts("tests/cases"), *SYSTEM[:1], "tests/stress/differential.py", "tests/stress/generate.py")
+PYTEST = ("/usr/lib/python3/dist-packages/pytest/__init__.py",)  # Debian's, for Debian's mypy
+UNTYPED_CALLS = ("--allow-untyped-calls",)  # they use scripts that have no types yet
 
 EXAMPLES = ("python/crawler.py", "python/example.py")
 WITHOUT_STUBS = ("--ignore-missing-imports", "--allow-subclassing-any")  # setuptools has none
@@ -124,6 +128,7 @@ CHECKS = [
         files=HYPOTHESIS,
     ),
     Check("types of the second reading and the trials of the program", ("mypy", "--strict", *SYSTEM)),
+    Check("types of tests/cases", ("mypy", "--strict", "--python-version=3.9", *CASES), files=PYTEST),
     Check("warnings of c/warc.c", ("gcc", *C_FLAGS, "c/warc.c")),
     Check("warnings of C's programs", ("gcc", *C_FLAGS, *C_PROGRAMS)),
     Check("warnings of bench/walk.c", ("gcc", *C_FLAGS, "bench/walk.c")),

@@ -10,7 +10,7 @@
 - A link or a path that a page names is there.
 - README.md has at most 9 KB.
 - CHANGELOG.md has a section for the version, and the packages for Python and Rust have that version.
-- docs/PROMISES.md names the number of cases that the reports of the suites count.
+- docs/PROMISES.md and docs/TRUST.md name the number of cases that the suites and tests/cases have.
 - docs/NUMBERS.md is what tools/make_numbers.py makes, and docs/FORMAT.md has the same numbers and names.
 - The exit statuses of docs/PROGRAM.md are what tools/make_statuses.py makes of the help texts.
 - Each crates/NAME/CALLING.md is what tools/make_calling.py makes, and has at most 150 lines.
@@ -43,7 +43,7 @@ MOST = 9 * 1024
 CHECKS = (lint_architecture, lint_changes, lint_trust, make_numbers, make_statuses)
 # A crate, a colon, and the names of its calls and laws: "`warc`: `open` and `grow` of `Archive`, law `no_faults`".
 CALLS = re.compile(
-    r"`(warc\w*|suites_\w+)`: ((?:laws? )?`[\w:]+`(?:(?:, | and | of |, and | or )(?:laws? )?`[\w:]+`(?!:))*)"
+    r"`(warc\w*|example_\w+)`: ((?:laws? )?`[\w:]+`(?:(?:, | and | of |, and | or )(?:laws? )?`[\w:]+`(?!:))*)"
 )
 
 
@@ -95,23 +95,37 @@ def missing_paths(page: str) -> Iterator[str]:
     for link in re.findall(r"\]\(([^)#:]+)(?:#[^)]*)?\)", text):
         if not os.path.exists(f"{TOP}/{folder}/{link}"):
             yield f"{page}: no file {link}"
-    for path in re.findall(r"`((?:crates|tools|docs|examples|packaging|bench|c|python|rust)/[\w./-]*\w)`", text):
+    for path in re.findall(r"`((?:crates|tests|tools|docs|examples|packaging|bench|c|python|rust)/[\w./-]*\w)`", text):
         if not os.path.exists(f"{TOP}/{path}") and "NAME" not in path:
             yield f"{page}: no file {path}"
 
 
+def cases_in(script: str) -> int:
+    """How many words of a script are followed by what is wanted of them. README.md of tests/cases says how it reads."""
+    count, is_open = 0, False
+    for line in script.split("\n"):
+        if line.startswith((">", ".")):
+            count, is_open = count + is_open, False
+        elif line and not line.startswith(("#", "== ", "|", "+", "*")):
+            is_open = True
+    return count
+
+
 def cases_elsewhere() -> Iterator[str]:
-    """Numbers of cases in docs/PROMISES.md that the reports of the suites, which the gate compares, don't count."""
+    """Numbers of cases in pages that the suites' reports, which the gate compares, and the scripts don't have."""
     count = 0
     for path in glob.glob(f"{TOP}/crates/suites_*/stdout"):
         report = read(os.path.relpath(path, TOP))
         count += sum(map(int, re.findall(r"^(\d+) cases, \d+ steps, 0 failed$", report, re.MULTILINE)))
-    numbers = re.findall(r"\b(\d[\d,]*)\s+cases\b", read("docs/PROMISES.md"))
-    for number in numbers:
-        if number != f"{count:,}":
-            yield f"docs/PROMISES.md: {number} cases, and the suites have {count:,}"
-    if not numbers:
-        yield "docs/PROMISES.md: no number of cases"
+    for path in glob.glob(f"{TOP}/tests/cases/*.script"):
+        count += cases_in(read(os.path.relpath(path, TOP)))
+    for page in ("docs/PROMISES.md", "docs/TRUST.md"):
+        numbers = re.findall(r"\b(\d[\d,]*)\s+cases\b", read(page))
+        for number in numbers:
+            if number != f"{count:,}":
+                yield f"{page}: {number} cases, and the suites and tests/cases have {count:,}"
+        if not numbers:
+            yield f"{page}: no number of cases"
 
 
 def versions_elsewhere() -> Iterator[str]:

@@ -1,7 +1,7 @@
 """What docs/TRUST.md must be: eight claims of at most 30 words, each with what it rests on, as links that lead there.
 
-Below each claim are a premise, a contract, a case of a suite and a planted bug. A link to a file of src/ names a
-function of that file, one to a script of a suite names a case of it, and one to an edit names a file of must-fail/.
+Below each claim are a premise, a contract, a case and a planted bug. A link to a file of src/ names a function
+of that file, one to a script of cases names a case of it, and one to an edit names a file of must-fail/.
 """
 from __future__ import annotations
 
@@ -18,7 +18,7 @@ LINK = re.compile(r"\[([^\]]+)\]\(\.\./([^)]+)\)")
 # What each claim rests on, with the files that its links lead to.
 CARRIERS = {
     "Contract": r"crates/\w+/src/[\w/]+\.rt",
-    "Case": r"crates/suites_\w+/(?:stdin|data/\w+\.script)",
+    "Case": r"crates/suites_\w+/stdin|tests/cases/\w+\.script",
     "Planted bug": r"crates/\w+/must-fail/\w+\.edit",
 }
 

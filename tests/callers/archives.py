@@ -1,11 +1,12 @@
 #!/usr/bin/env python3
-"""The archives of the suites' scripts, as files.
+"""The archives of the scripts of cases, as files.
 
 Usage: archives.py FOLDER
 
 Every text that a case of a script gives and that begins as an archive becomes a file, and so do its changed and
-shortened forms. Most are damaged in some way. crates/suites_script says how a script is written.
+shortened forms. Most are damaged in some way. tests/cases/README.md says how a script is written.
 """
+import glob
 import os
 import re
 import sys
@@ -46,7 +47,7 @@ def cases(script: bytes) -> Iterator[Tuple[bytes, bytes]]:
 
 
 def texts(script: bytes, named: Dict[bytes, bytes]) -> Iterator[bytes]:
-    """The archives that a script speaks of. Those that it gives with a name are kept for the scripts after it."""
+    """The archives that a script speaks of. It may give those again that any script gives with a name."""
     last, old = b"", b""
     for words, given in cases(script):
         word, _, rest = words.partition(b" ")
@@ -60,24 +61,29 @@ def texts(script: bytes, named: Dict[bytes, bytes]) -> Iterator[bytes]:
             last = named[rest]
         else:
             if word == b"archive":
-                last = named[rest] = given
+                last = given
             yield given
 
 
-def scripts() -> Iterator[str]:
-    """The paths of the scripts, in the order in which the suites read them."""
-    with open(f"{TOP}/crates/suites_archives/args", encoding="ascii") as args:
-        yield from (f"suites_archives/data/{name}" for name in args.read().split())
-    yield from ("suites_lookups/stdin", "suites_texts/stdin")
+def scripts() -> List[bytes]:
+    """The scripts of tests/cases and of the suites."""
+    paths = sorted(glob.glob(f"{TOP}/tests/cases/*.script"))
+    paths += [f"{TOP}/crates/suites_{name}/stdin" for name in ("failures", "lookups", "texts")]
+    found: List[bytes] = []
+    for path in paths:
+        with open(path, "rb") as script:
+            found.append(script.read())
+    return found
 
 
 def archives() -> List[bytes]:
     """All archives of all scripts, each once."""
-    found = {b"": None}
     named: Dict[bytes, bytes] = {}
-    for path in scripts():
-        with open(f"{TOP}/crates/{path}", "rb") as script:
-            found.update((text, None) for text in texts(script.read(), named) if text.startswith(b"WARC/"))
+    for script in scripts():
+        named.update((words[8:], given) for words, given in cases(script) if words.startswith(b"archive "))
+    found = {b"": None}
+    for script in scripts():
+        found.update((text, None) for text in texts(script, named) if text.startswith(b"WARC/"))
     return list(found)
 
 

@@ -15,7 +15,7 @@ import shutil
 import signal
 import sys
 import tempfile
-from typing import Counter, List, NoReturn, Optional, Sequence, Tuple
+from typing import Counter, Iterable, List, NoReturn, Optional, Sequence, Tuple
 
 HERE = os.path.dirname(os.path.abspath(__file__))
 sys.path.insert(0, os.path.join(os.path.dirname(HERE), "reference"))
@@ -110,16 +110,17 @@ def count_answers(counts: Counter[str], line: Sequence[str], expected: Answer) -
             counts["payload " + (verdict if reason == b"-" else reason).decode()] += 1
 
 
-def compare_seed(program: str, folder: str, seed: int, counts: Counter[str]) -> None:
-    """Runs all command lines over the archive of a seed."""
-    data = generate.archive(seed)
+def compare_lines(
+    program: str, folder: str, seed: int, data: bytes, lines: Iterable[Sequence[str]], counts: Counter[str]
+) -> None:
+    """Runs command lines over an archive."""
     with open(os.path.join(folder, "a.warc"), "wb") as file:
         file.write(data)
     archive = warc_reference.Archive(data)
     counts["archives"] += 1
     counts["refused"] += archive.fault is not None
     counts["records"] += len(archive.records)
-    for line in generate.command_lines(seed, data):
+    for line in lines:
         given, expected = run_program(program, folder, line), run_reference(archive, line)
         counts["runs"] += 1
         counts["runs of " + " ".join(line if line[0] == "fixity" else line[:1])] += 1
@@ -129,6 +130,12 @@ def compare_seed(program: str, folder: str, seed: int, counts: Counter[str]) -> 
             counts["differences"] += 1
             if counts["differences"] <= MOST_SHOWN:
                 show(seed, line, given, expected)
+
+
+def compare_seed(program: str, folder: str, seed: int, counts: Counter[str]) -> None:
+    """Runs all command lines over the archive of a seed."""
+    data = generate.archive(seed)
+    compare_lines(program, folder, seed, data, generate.command_lines(seed, data), counts)
 
 
 def answer_of(columns: Sequence[bytes]) -> Tuple[bytes, bytes, int]:

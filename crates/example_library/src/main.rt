@@ -3,11 +3,16 @@
 
 mod description;
 mod growth;
+mod migration;
+mod opened;
 mod pieces;
 mod replays;
+mod round_trip;
 
+use round_trip::Plan;
 use std::{fs, io};
 use warc::{Archive, MemSource, Moment, read_date};
+use warc_record::Kind;
 
 /// Prints how many records an archive has, what is listed and found, or why it isn't described.
 fn report_described(rt: &HostRuntime, bytes: Vec<u8>) -> io::Result<()> {
@@ -68,6 +73,34 @@ fn report_as_of(rt: &HostRuntime, bytes: Vec<u8>, date: &[u8]) -> io::Result<()>
     }
 }
 
+/// Prints how many records an archive has once it is moved to WARC 1.1.
+fn report_moved(rt: &HostRuntime, bytes: Vec<u8>) -> io::Result<()> {
+    match migration::migrate(rt.alloc(), MemSource::new(bytes, usize::MAX)) {
+        Ok(archive) => {
+            let count = archive.count();
+            archive.into_source();
+            println!(rt; "records of WARC 1.1: {count}")
+        }
+        Err(fault) => println!(rt; "not moved: {fault:?}"),
+    }
+}
+
+/// Prints how many records come back that are made, written and opened.
+fn report_returned(rt: &HostRuntime) -> io::Result<()> {
+    let plans = [Plan {
+        kind: Kind::named(b"resource"),
+        uri: b"http://a.example/x",
+        date: b"2020",
+        uuid: b"00000000-0000-4000-8000-000000000001",
+        content_type: b"text/plain",
+        block: b"abc",
+    }];
+    match round_trip::round_trip(rt.alloc(), &plans) {
+        Ok(records) => println!(rt; "records that came back: {}", records.len()),
+        Err(fault) => println!(rt; "none came back: {fault:?}"),
+    }
+}
+
 fn main(rt: HostRuntime) -> io::Result<()> {
     report_described(&rt, fs::read(&rt, "described.warc")?)?;
     report_in_pieces(&rt, &fs::read(&rt, "late.warc")?)?;
@@ -78,5 +111,7 @@ fn main(rt: HostRuntime) -> io::Result<()> {
         fs::read(&rt, "late.warc")?,
     )?;
     report_as_of(&rt, fs::read(&rt, "described.warc")?, b"2021")?;
-    report_as_of(&rt, fs::read(&rt, "described.warc")?, b"2019")
+    report_as_of(&rt, fs::read(&rt, "described.warc")?, b"2019")?;
+    report_moved(&rt, fs::read(&rt, "old.warc")?)?;
+    report_returned(&rt)
 }
