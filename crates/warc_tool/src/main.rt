@@ -3,6 +3,7 @@
 
 mod answers;
 mod files;
+mod wrong_words;
 
 use answers::hint_answer;
 use files::Files;
@@ -13,6 +14,7 @@ use warc_arguments::{CommandLine, Request};
 use warc_commands::run;
 use warc_frame::Sink;
 use warc_host::{Ended, ErasingSink, Host, Progress, ShownSink, hint, words};
+use wrong_words::hint_word;
 
 /// The exit status where a write failed.
 const FAILED: u8 = 3;
@@ -71,6 +73,7 @@ fn give_hints(
     };
     let _ = hint(rt, line.words(), request, ended);
     let _ = hint_answer(&files.host, request, report);
+    let _ = hint_word(rt, request, report);
     progress.erase();
 }
 
