@@ -14,6 +14,7 @@ import os
 import shutil
 import subprocess
 import sys
+from concurrent.futures import ThreadPoolExecutor
 
 from shared import TOP
 
@@ -32,13 +33,10 @@ class Check:
         programs = [name for name in (self.words[0], *self.programs) if not shutil.which(name)]
         return programs + [path for path in self.files if not os.path.exists(path)]
 
-    def passes(self) -> bool:
-        """Runs it, and prints what it wrote if it failed."""
+    def said(self) -> str:
+        """Runs it, and returns what it wrote if it failed, or else nothing."""
         run = subprocess.run(self.words, cwd=TOP, capture_output=True, text=True, check=False)
-        print(f"{self.name}: {'passed' if run.returncode == 0 else 'FAILED'}", flush=True)
-        if run.returncode:
-            print(run.stdout + run.stderr, end="", flush=True)
-        return run.returncode == 0
+        return (run.stdout + run.stderr or "it failed and said nothing\n") if run.returncode else ""
 
 
 def scripts(folder: str) -> tuple[str, ...]:
@@ -187,8 +185,11 @@ def main() -> int:
             word = "FAILED" if is_ci else "left out"
             print(f"{check.name}: {word}, since {' and '.join(lacking)} isn't installed", flush=True)
             failed += is_ci
-        else:
-            failed += not check.passes()
+    here = [check for check in CHECKS if not check.lacks()]
+    with ThreadPoolExecutor(os.cpu_count() or 1) as pool:
+        for check, said in zip(here, pool.map(Check.said, here)):
+            print(f"{check.name}: {'FAILED' if said else 'passed'}\n{said}", end="", flush=True)
+            failed += bool(said)
     return 1 if failed else 0
 
 

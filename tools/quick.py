@@ -45,7 +45,7 @@ def suite(name: str) -> Callable[[], Outcome]:
     folder = f"{TOP}/crates/{name}"
 
     def step() -> Outcome:
-        words = ["rt", "try", "--seconds", SECONDS]
+        words = ["rt", "try", "--steps", "1", "--seconds", SECONDS]
         if os.path.exists(f"{folder}/args"):
             with open(f"{folder}/args", encoding="utf-8") as text:
                 words += ["--", *(f"data/{line}" for line in text.read().splitlines())]
