@@ -15,10 +15,11 @@ lint=(
 around=(
     /usr/bin/python3:python3 "$modules/pytest:python3-pytest" "$modules/xdist:python3-pytest-xdist"
     "$modules/hypothesis:python3-hypothesis" "$modules/pip:python3-pip" "$modules/setuptools:python3-setuptools"
-    "$modules/wheel:python3-wheel" '/usr/lib/python3.*/ensurepip:python3-venv'
+    "$modules/zstandard:python3-zstandard" "$modules/wheel:python3-wheel" '/usr/lib/python3.*/ensurepip:python3-venv'
     gcc:gcc g++:g++ /usr/include/zlib.h:zlib1g-dev valgrind:valgrind
     gzip:gzip zstd:zstd wget:wget bsdtar:libarchive-tools parallel:parallel strace:strace node:nodejs
-    chromium:chromium /usr/share/nodejs/dompurify:node-dompurify /usr/share/nodejs/pako:node-pako
+    chromium:chromium "/usr/share/fonts/truetype/*/*.ttf:fonts-dejavu-core"
+    /usr/share/nodejs/dompurify:node-dompurify /usr/share/nodejs/pako:node-pako
 )
 
 pairs=()

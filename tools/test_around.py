@@ -26,6 +26,8 @@ OUT = f"{TOP}/out/around"
 BUILT = ("bin/warc", "out/lib/libwarc.so", "out/lib/libwarc.a", "out/lib/warc.h", "zogwedu.html")
 CALLERS = tuple(f"tests/callers/test_{name}.py" for name in ("python", "compressed", "verdicts", "wheel"))
 MOST_SECONDS = 2400
+# Why a test may be left out also where everything has to be there: only root can mount, and not everywhere.
+MAY_BE_LEFT_OUT = ("no small disk can be made here",)
 IS_CI = os.environ.get("CI") == "true"
 
 
@@ -72,11 +74,12 @@ class Lane:
         """Counts the tests of a report. Where there is none, or no test in it, that is a failure."""
         cases = list(xml.etree.ElementTree.parse(report).iter("testcase")) if os.path.exists(report) else []
         for case in cases:
-            kinds = {child.tag for child in case}
-            left_out = "skipped" in kinds
-            failed = bool(kinds & {"failure", "error"}) or (left_out and IS_CI)
+            tags = {child.tag: child.get("message", "") for child in case}
+            is_left_out = "skipped" in tags
+            is_fine = not IS_CI or tags.get("skipped", "") in MAY_BE_LEFT_OUT
+            failed = bool({"failure", "error"} & set(tags)) or (is_left_out and not is_fine)
             self.failed += failed
-            self.passed += not failed and not left_out
+            self.passed += not failed and not is_left_out
         if not cases and not is_picked:
             self.failed += 1
 

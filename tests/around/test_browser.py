@@ -15,7 +15,7 @@ from .conftest import built, needs
 
 PARTS = (
     *("building", "codings", "damaged", "hostile", "keyboard", "saved", "long", "missing", "selection", "faithful"),
-    *("compressed", "views"),
+    "views",
 )
 Room = Tuple[test_served.Tests, Listener, Trial]
 

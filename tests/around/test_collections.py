@@ -11,12 +11,12 @@ from collection_trial import Trial
 
 from .conftest import built, hold, needs
 
-# These mount disks, or take rights away, or start a server of PostgreSQL, as root; or they wait until something takes
-# too long. They are in `make stress`.
+# These mount disks, or take rights away, or start a server of PostgreSQL, as root; or they trace calls of the system;
+# or what they say depends on how soon something is done. They are in `make stress`.
 LEFT_OUT = {
     *("no_room", "odd_temporary", "frames", "limited_time", "long_readers", "damage_without_room"),
     *("payloads_without_room", "kept_rows", "unknown_names", "later_damage", "rot_beside_failures"),
-    *("hostile_tables", "synced_jobs", "slow_pieces"),
+    *("hostile_tables", "synced_jobs", "slow_pieces", "run_beside_replay", "stopped_export"),
 }
 FAULTS = [part for part in collection_faults.PARTS if part.__name__ not in LEFT_OUT]
 SERVED = (

@@ -48,6 +48,14 @@ DATES = ("9999", "2026-11-26T04:49Z", "2000")
 STATUS = "document.getElementById('status')"
 WITHOUT_SECONDS = f"{STATUS}.textContent = {STATUS}.textContent.replace(/ in [0-9.]+ s, findings after [0-9.]+ s$/, '')"
 
+# A tab is drawn, and so is its view with all its pictures, if it has one.
+DRAWN = """(() => {
+  const frame = document.querySelector('iframe.view'), page = frame?.contentDocument;
+  if (document.getElementById('panel')?.dataset.ready !== 'yes') return false;
+  return !frame || (frame.dataset.shown === 'yes' && page.readyState === 'complete' &&
+                    [...page.images].every((it) => it.complete));
+})()"""
+
 ASKED = """async (questions) => {
   const bytes = (text) => Uint8Array.from(atob(text), (letter) => letter.charCodeAt(0));
   const answers = await room.library.ask(
@@ -453,7 +461,7 @@ def follows_links(tests: Tests, browser: Browser, site: str) -> None:
             "document.getElementById('panel').dataset.ready === 'yes'",
             30,
         )
-        time.sleep(0.3)
+        browser.until(DRAWN, 30)
         browser.run(
             "[...document.querySelector('iframe.view').contentDocument.querySelectorAll('a[href]')].find((it) => "
             f"it.title.endsWith('{link}')).click()"
@@ -486,8 +494,7 @@ def views(tests: Tests, archive: str, site: str) -> None:
 
     def show(kind: str, end: str) -> str:
         browser.run(f"room.tab = 'Page'; openRecord({browser.run(where % (kind, end))})")
-        browser.until("document.getElementById('panel')?.dataset.ready === 'yes'", 60)
-        time.sleep(0.7)
+        browser.until(DRAWN, 60)
         return str(browser.run("document.getElementById('panel').innerText"))
 
     try:
@@ -570,8 +577,7 @@ def views(tests: Tests, archive: str, site: str) -> None:
     browser = tests.opened(archive, dark=True)
     try:
         browser.run(f"openRecord({browser.run(where % ('response', '/page/12'))})")
-        browser.until("document.getElementById('panel')?.dataset.ready === 'yes'", 60)
-        time.sleep(0.7)
+        browser.until(DRAWN, 60)
         browser.run("scrollTo(0, 0)")
         tests.picture(browser, "dark")
         dark = browser.run("getComputedStyle(document.body).backgroundColor")

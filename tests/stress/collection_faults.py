@@ -606,14 +606,21 @@ def failing_load(trial: Trial) -> None:
         time.sleep(0.1)
     with contextlib.closing(trial.base("c")) as base:
         base.execute("DROP TABLE hosts")
-    child.wait(120)
-    time.sleep(1)
-    left, message = running_with(trial.path("c", "jobs")), read(trial.path("messages"))
+    child.wait(600)
+    left, message = left_running(trial, 60), read(trial.path("messages"))
     trial.judge(child.returncode == 3 and b"Traceback" not in message, "the run", message)
     trial.judge(not left, "what runs on", left)
     for process in left:
         with contextlib.suppress(ProcessLookupError):
             os.kill(process, signal.SIGKILL)
+
+
+def left_running(trial: Trial, seconds: float) -> List[int]:
+    """Waits until no process works on the jobs of a run, and not longer than this. Returns those that still do."""
+    end = time.monotonic() + seconds
+    while running_with(trial.path("c", "jobs")) and time.monotonic() < end:
+        time.sleep(0.1)
+    return running_with(trial.path("c", "jobs"))
 
 
 def killed_parent(trial: Trial) -> None:
@@ -627,10 +634,7 @@ def killed_parent(trial: Trial) -> None:
         time.sleep(0.1)
     child.kill()
     child.wait()
-    begun = time.monotonic()
-    while running_with(trial.path("c", "jobs")) and time.monotonic() - begun < 90:
-        time.sleep(1)
-    left = running_with(trial.path("c", "jobs"))
+    left = left_running(trial, 90)
     trial.judge(not left, "what runs on after 90 s", left)
     for process in left:
         with contextlib.suppress(ProcessLookupError):

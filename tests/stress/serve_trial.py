@@ -22,7 +22,7 @@ START_SECONDS = 60
 HEAD_OF_REPLY = re.compile(rb"HTTP/1\.[01] (\d{3}) [^\r\n]*\r\n((?:[A-Za-z0-9-]+: [\x20-\x7e]*\r\n)*)\r\n", re.ASCII)
 
 
-def wait_for(is_so: Callable[[], bool], seconds: float = 10) -> bool:
+def wait_for(is_so: Callable[[], bool], seconds: float = 60) -> bool:
     """Waits until a condition holds. Returns whether it does."""
     end = time.monotonic() + seconds
     while time.monotonic() < end:

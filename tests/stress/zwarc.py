@@ -375,8 +375,8 @@ def no_room(trials: Trials) -> None:
 
 
 def is_gone(group: int) -> bool:
-    """Whether a process group ends within some seconds."""
-    for _ in range(100):
+    """Whether a process group ends within a minute."""
+    for _ in range(1200):
         try:
             os.killpg(group, 0)
         except ProcessLookupError:
@@ -385,11 +385,31 @@ def is_gone(group: int) -> bool:
     return False
 
 
+def await_work(process: int) -> None:
+    """Waits until the script has started a program, and some more, in which it comes to wait for input."""
+    end = time.monotonic() + SECONDS
+    while time.monotonic() < end:
+        with open(f"/proc/{process}/task/{process}/children", encoding="ascii") as children:
+            if children.read():
+                break
+        time.sleep(0.02)
+    time.sleep(0.5)
+
+
+TRAPPED = (signal.SIGHUP, signal.SIGINT, signal.SIGTERM, signal.SIGQUIT)
+
+
+def obey_signals() -> None:
+    """A job in the background ignores some signals, and a shell can't trap what it was started to ignore."""
+    for number in TRAPPED:
+        signal.signal(number, signal.SIG_DFL)
+
+
 def signals(trials: Trials) -> None:
     """A signal ends the script as it ends any program, and all that it started, and leaves nothing."""
     data = b"".join(MEMBERS)
     plain = PLAIN[: len(PLAIN) // 2]
-    for number in (signal.SIGHUP, signal.SIGINT, signal.SIGTERM, signal.SIGQUIT, signal.SIGKILL):
+    for number in (*TRAPPED, signal.SIGKILL):
         for words, begin in ((("list", "-"), data), (("--stream", "list", "-"), data), (("list", "-"), plain)):
             child = subprocess.Popen(
                 ["zwarc", *words],
@@ -398,11 +418,12 @@ def signals(trials: Trials) -> None:
                 stderr=subprocess.PIPE,
                 env=trials.environment(),
                 start_new_session=True,
+                preexec_fn=obey_signals,
             )
             assert child.stdin and child.stdout and child.stderr
             child.stdin.write(begin)
             child.stdin.flush()
-            time.sleep(0.5)
+            await_work(child.pid)
             child.send_signal(number)
             if number == signal.SIGKILL:
                 child.stdin.close()
