@@ -14,7 +14,7 @@ from .disk import Stamp, is_on_local_disk
 from .states import READ, as_list
 from .texts import Stored, Trouble, say, shown, stored_path
 
-VERSION = 4
+VERSION = 5
 MANY_FILES = 100
 CACHE_KIB = 1_000_000
 # How long a question waits for the end of a transaction, and a run for a reader before it says that it waits.
@@ -28,6 +28,7 @@ READER_CACHE_KIB = 8_000
 # tables of OF_A_FILE were read, and from which bytes.
 TABLES = {
     "settings": "name TEXT PRIMARY KEY, value TEXT",
+    "watched": "path TEXT, kind TEXT, given_in TEXT, added TEXT, read_on TEXT, trouble TEXT",
     "runs": "run BIGINT PRIMARY KEY, began TEXT, ended TEXT, scope TEXT, attempts BIGINT, hosts BIGINT,"
     " files_read BIGINT, seconds DOUBLE PRECISION, good BIGINT, unchecked BIGINT, bad BIGINT, no_bytes BIGINT,"
     " payloads_good BIGINT, payloads_unchecked BIGINT, payloads_bad BIGINT",
@@ -106,14 +107,6 @@ class Run:
     began: str
     ended: Optional[str]
     scope: str
-
-
-@dataclasses.dataclass(frozen=True)
-class Lists:
-    """The lists that name files, and the folder from which their relative names are meant."""
-
-    paths: Sequence[str]
-    folder: str
 
 
 @dataclasses.dataclass(frozen=True)
@@ -209,10 +202,14 @@ class Catalogue:
 
     def make_tables(self) -> None:
         """Makes what isn't there, and brings an older catalogue to this version."""
+        from .watched import carry_over  # here, since it is about a catalogue
+
         with self.transaction():
-            self.bring_up_to_date()
+            is_old = self.bring_up_to_date()
             for statement in self.missing():
                 self.base.execute(statement)
+            if is_old:
+                carry_over(self)
             self.base.execute("PRAGMA user_version = %d" % VERSION)
 
     def missing(self) -> Iterator[str]:
@@ -222,13 +219,14 @@ class Catalogue:
             yield "CREATE TABLE IF NOT EXISTS %s (%s)%s" % (name, columns, ending)
         yield from ("CREATE INDEX IF NOT EXISTS " + index for index in SMALL_INDEXES)
 
-    def bring_up_to_date(self) -> None:
-        """Changes the tables of an older catalogue."""
+    def bring_up_to_date(self) -> bool:
+        """Changes the tables of an older catalogue. Returns whether it is one."""
         is_there = self.one("SELECT count(*) FROM sqlite_master WHERE name = 'files'")[0]
         version = self.one("PRAGMA user_version")[0] if is_there else VERSION
         for later, steps in ((2, TO_VERSION_2), (3, TO_VERSION_3), (4, TO_VERSION_4)):
             for statement in steps if version < later else ():
                 self.base.execute(statement)
+        return bool(version < VERSION)
 
     def make_indexes(self) -> None:
         with self.transaction():
@@ -298,10 +296,6 @@ class Catalogue:
 
     def set(self, name: str, value: Any) -> None:
         self.base.execute("INSERT OR REPLACE INTO settings VALUES (?, ?)", (name, json.dumps(value)))
-
-    def lists(self) -> Lists:
-        """The lists of files. A catalogue of an earlier version doesn't know where they were given."""
-        return Lists(self.setting("lists") or [], self.setting("lists_from") or os.getcwd())
 
     def last_run(self) -> Optional[Run]:
         row = self.one("SELECT run, began, ended, scope FROM runs ORDER BY run DESC LIMIT 1")

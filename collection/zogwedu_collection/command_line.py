@@ -45,7 +45,7 @@ def add_run_options(parser: argparse.ArgumentParser) -> None:
         "paths",
         nargs="*",
         metavar="PATH",
-        help="a folder or a file of the collection; without one those of the last run",
+        help="a folder or a file that the collection is to have too; those of before stay",
     )
     names = "a file that names files, a name a line or ended by a zero byte"
     add("--files", action="append", default=[], metavar="LIST", help=names)
@@ -166,7 +166,7 @@ def add_upkeep(command: Command) -> None:
     add_forms(made, "in its place the files that need a look,")
     made = command("export", "writes the tables as text, and a script for PostgreSQL's psql")
     made.add_argument("folder", metavar="FOLDER")
-    made = command("forget", "forgets files that were removed on purpose")
+    made = command("forget", "ends the watch of folders, and forgets files that were removed on purpose")
     made.add_argument("paths", nargs="+", metavar="PATH", help="a file, or a folder with all below it")
     made = command("prune", "drops what earlier runs found of single files")
     keep = "how many runs are kept, %d without it" % KEPT_RUNS

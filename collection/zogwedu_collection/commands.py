@@ -11,7 +11,7 @@ from .catalogue import Catalogue
 from .decode import Decoder
 from .export import export
 from .limits import Limits
-from .listing import all_good, capture_line, put, status_pieces
+from .listing import all_good, capture_line, is_partly_unread, put, status_pieces
 from .moves import forget_files, prune
 from .program import usable_program
 from .replay import Answer, Replayer, settled, write_body
@@ -28,9 +28,11 @@ def asked(options: Options) -> Asked:
 
 
 def print_status(catalogue: Catalogue, form: str = "text") -> int:
-    """Prints how many files there are in each state, and a line for each that needs a look. Returns the status."""
+    """Prints how the collection is, and a line for each file that needs a look. Returns the status."""
     for piece in status_pieces(catalogue, form):
         put(piece)
+    if is_partly_unread(catalogue):
+        return 3
     return 0 if all_good(catalogue) else 1
 
 

@@ -1,48 +1,59 @@
 """Looking for files, and which of them are to be read."""
 from __future__ import annotations
 
+import collections
 import dataclasses
 import errno
 import itertools
 import os
-from typing import Dict, Iterator, List, Optional, Sequence
+from typing import Dict, Iterable, Iterator, List, Optional, Sequence
 
-from .catalogue import Catalogue, Lists, Run
+from .catalogue import Catalogue, Run
 from .disk import Stamp, is_regular, stamp_of
 from .states import TRIED_AGAIN
-from .texts import real_path, say, shown, stored_path
+from .texts import counted, real_path, say, shown, stored_path
+from .watched import LIST, NOT_THERE, Watched
 
 SUFFIXES = (b".warc", b".warc.gz", b".warc.zst")
 # What the system says of a file that isn't there. Of any other error nothing follows.
-NOT_THERE = (errno.ENOENT, errno.ENOTDIR)
+NO_FILE = (errno.ENOENT, errno.ENOTDIR)
+UNWATCHED = "no folder and no list of the collection has it: forget it, or run its folder"
 
 
 @dataclasses.dataclass
 class Found:
     """The files of a collection with what the system says of each (None for one that isn't there), what couldn't be
-    read, and the names of lists that nothing has."""
+    read and why, and the names that nothing has, with the list of each."""
 
     files: Dict[str, Optional[Stamp]] = dataclasses.field(default_factory=dict)
-    unread: List[str] = dataclasses.field(default_factory=list)
-    missing: List[str] = dataclasses.field(default_factory=list)
+    unread: Dict[str, str] = dataclasses.field(default_factory=dict)
+    missing: Dict[str, str] = dataclasses.field(default_factory=dict)
 
-    def add(self, name: str, is_asked_for: bool, is_listed: bool) -> None:
+    def add(self, name: str, is_asked_for: bool, listed_in: Optional[str] = None) -> None:
         """Adds a file. A name that is no regular file's is left out: reading a pipe or a device may never end."""
+        is_file = False
         try:
             is_file = is_regular(name)
             self.files[name] = stamp_of(os.stat(name)) if is_file else None
             why, is_unknown = None if is_file else "not a regular file; it is left out", False
         except OSError as error:
             self.files[name], why = None, error.strerror or str(error)
-            is_unknown = error.errno not in NOT_THERE
-            self.missing += [name] if is_listed and not is_unknown else []
+            is_unknown = error.errno not in NO_FILE
+            if listed_in is not None and not is_unknown:
+                self.missing[name] = listed_in
         if why is not None:
             say("%s: %s" % (shown(name), why))
-            self.unread += [name] if is_asked_for or is_unknown else []
+            if is_asked_for or is_unknown:
+                self.unread[name] = why if is_file or is_unknown else NOT_THERE
+
+    def troubles(self) -> Dict[str, str]:
+        """What kept from reading all: of paths, and of lists that have names of no file."""
+        lists = collections.Counter(self.missing.values())
+        return {**{path: "%s of it isn't there" % counted(lists[path], "name") for path in lists}, **self.unread}
 
     def note(self, error: OSError) -> None:
         """Notes a folder that couldn't be read."""
-        self.unread.append(os.fsdecode(error.filename))
+        self.unread[os.fsdecode(error.filename)] = error.strerror or str(error)
         say("%s: %s" % (shown(os.fsdecode(error.filename)), error.strerror))
 
 
@@ -69,49 +80,76 @@ def listed_files(path: str, folder: str, found: Found) -> List[str]:
     return [os.path.abspath(os.path.join(folder, os.fsdecode(name))) for name in names if name]
 
 
-def all_listed(lists: Lists, found: Found) -> Iterator[str]:
-    """The files that lists name."""
-    for path in lists.paths:
-        yield from listed_files(path, lists.folder, found)
+def all_listed(whole: Sequence[Watched], found: Found) -> Dict[str, str]:
+    """The files that lists name, of all that is watched, with the list of each."""
+    lists = [it for it in whole if it.kind == LIST]
+    return {name: it.path for it in lists for name in listed_files(it.path, it.given_in, found)}
 
 
-def found_files(paths: Sequence[str], lists: Lists) -> Found:
+def plain_paths(whole: Sequence[Watched]) -> List[str]:
+    """The folders and files of all that is watched."""
+    return [it.path for it in whole if it.kind != LIST]
+
+
+def found_files(whole: Sequence[Watched]) -> Found:
     """Each file of the collection once."""
-    found = Found()
+    found, paths = Found(), plain_paths(whole)
     folders = [path for path in paths if os.path.isdir(path)]
     top = [os.path.realpath(folder) for folder in folders]
     below = (name for folder in folders for name in files_below(folder, top, found))
     named = dict.fromkeys(path for path in paths if not os.path.isdir(path))
     for name in itertools.chain(below, named):
-        found.add(name, name in named, False)
-    for name in all_listed(lists, found):
-        found.add(name, name in named, True)
+        found.add(name, name in named)
+    for name, listed_in in all_listed(whole, found).items():
+        found.add(name, name in named, listed_in)
     return found
 
 
-def is_below(path: str, folders: Sequence[str]) -> bool:
+def is_below(path: str, folders: Iterable[str]) -> bool:
     return any(path == folder or path.startswith(folder.rstrip("/") + "/") for folder in folders)
 
 
-def note_changes(catalogue: Catalogue, run: int, found: Found, paths: Sequence[str]) -> None:
-    """Adds new files to the catalogue, and marks those that aren't there any more."""
-    rows = catalogue.rows("SELECT path, file, state FROM files")
-    known = {real_path(row[0]): (row[1], row[2]) for row in rows}
-    found.missing = [path for path in found.missing if path not in known]
+@dataclasses.dataclass(frozen=True)
+class Listed:
+    """A file as the catalogue has it."""
+
+    file: int
+    path: str
+    state: str
+
+
+def listed(catalogue: Catalogue) -> Dict[str, Listed]:
+    """The files of the catalogue by their paths."""
+    rows = catalogue.rows("SELECT file, path, state FROM files")
+    return {real_path(path): Listed(file, real_path(path), state) for file, path, state in rows}
+
+
+def note_changes(catalogue: Catalogue, run: int, found: Found, whole: Sequence[Watched]) -> None:
+    """Adds new files to the catalogue, and marks those that aren't there any more, or that nothing has any more."""
+    known, paths = listed(catalogue), plain_paths(whole)
+    found.missing = {name: listed_in for name, listed_in in found.missing.items() if name not in known}
     number = catalogue.one("SELECT coalesce(max(file), 0) FROM files")[0]
     new = [path for path, stamp in found.files.items() if stamp is not None and path not in known]
     catalogue.base.executemany(
         "INSERT INTO files (file, path, state, detail) VALUES (?, ?, 'unread', '')",
         ((number + place, stored_path(path)) for place, path in enumerate(new, 1)),
     )
-    lost = [path for path in known if is_lost(path, found, paths)]
-    for file, state in (known[path] for path in lost if known[path][1] != "gone"):
-        catalogue.base.execute("UPDATE files SET state = 'gone', detail = '' WHERE file = ?", (file,))
-        catalogue.base.execute(
-            "INSERT OR REPLACE INTO changes (run, file, change, state_before, state_after)"
-            " VALUES (?, ?, 'gone', ?, 'gone')",
-            (run, file, state),
-        )
+    for it in known.values():
+        if is_lost(it.path, found, paths):
+            mark(catalogue, run, it, "gone")
+        elif it.state != "gone" and is_unwatched(it.path, found, whole):
+            mark(catalogue, run, it, "unread", UNWATCHED)
+
+
+def mark(catalogue: Catalogue, run: int, it: Listed, state: str, detail: str = "") -> None:
+    """Gives a file a state that no reading gave it, and notes the change."""
+    if it.state == state:
+        return
+    catalogue.base.execute("UPDATE files SET state = ?, detail = ? WHERE file = ?", (state, detail, it.file))
+    catalogue.base.execute(
+        "INSERT OR REPLACE INTO changes (run, file, change, state_before, state_after) VALUES (?, ?, ?, ?, ?)",
+        (run, it.file, "gone" if state == "gone" else "same", it.state, state),
+    )
 
 
 def is_lost(path: str, found: Found, paths: Sequence[str]) -> bool:
@@ -119,6 +157,14 @@ def is_lost(path: str, found: Found, paths: Sequence[str]) -> bool:
     if is_below(path, found.unread):
         return False
     return found.files[path] is None if path in found.files else is_below(path, paths)
+
+
+def is_unwatched(path: str, found: Found, whole: Sequence[Watched]) -> bool:
+    """Whether no folder has a file any more, nor a list. A list that can't be read may have any file. Without this a
+    file that no run looks at would be good for ever."""
+    if path in found.files or is_below(path, found.unread) or is_below(path, plain_paths(whole)):
+        return False
+    return not any(it.kind == LIST and it.path in found.unread for it in whole)
 
 
 def files_to_do(catalogue: Catalogue, run: Run, found: Found, is_digested: bool) -> List[str]:

@@ -9,7 +9,8 @@ from typing import Any, Dict, Iterator, List, Optional, Tuple, Union
 from .captures import Capture
 from .catalogue import Catalogue
 from .states import STATES
-from .texts import Stored, counted, escaped, path_bytes, real_path
+from .texts import Stored, counted, escaped, path_bytes, real_path, shown
+from .watched import FILE, Watched, values_of, watched
 
 NO_BYTES = "revisits with the digest of no bytes, as wget writes them; they aren't counted as bad"
 LOOK = "SELECT state, path, detail, read_on FROM files LEFT JOIN readings USING (file) WHERE state <> 'good'"
@@ -55,8 +56,26 @@ def damaged(catalogue: Catalogue) -> Tuple[int, int, int]:
     return row[0], row[1], row[2]
 
 
+def folder_line(it: Watched) -> str:
+    """A line about a folder, a file or a list of the collection."""
+    read = "read on %s" % it.read_on if it.read_on else "when it was read isn't known"
+    trouble = "%s in the last run; " % escaped(it.trouble) if it.trouble else ""
+    return "%s\t%s\t%s%s\n" % (it.kind, shown(it.path), trouble, read)
+
+
+def folder_lines(catalogue: Catalogue) -> Iterator[str]:
+    """The folders and lists of the collection, and of its files those that weren't there in the last run."""
+    return (folder_line(it) for it in watched(catalogue) if it.kind != FILE or it.trouble)
+
+
+def is_partly_unread(catalogue: Catalogue) -> bool:
+    """Whether the last run couldn't read a part of the collection."""
+    return any(it.trouble for it in watched(catalogue))
+
+
 def status_text(catalogue: Catalogue) -> Iterator[str]:
-    """How many files there are in each state, and a line for each that needs a look."""
+    """The folders, how many files there are in each state, and a line for each that needs a look."""
+    yield from folder_lines(catalogue)
     states, empty, (records, good, bad) = catalogue.states(), no_bytes(catalogue), damaged(catalogue)
     yield from ("%s\t%d\t%s\n" % (state, states[state], about) for state, about in STATES.items() if state in states)
     if empty:
@@ -78,7 +97,9 @@ def status_json(catalogue: Catalogue) -> str:
     Python has it."""
     files = [dict(dataclasses.asdict(it), path=real_path(it.path)) for it in looks(catalogue)]
     last = catalogue.last_run()
-    about = {"run": last.number if last else None, "states": catalogue.states(), "no_bytes": no_bytes(catalogue)}
+    about: Dict[str, Any] = {"run": last.number if last else None, "states": catalogue.states()}
+    about["no_bytes"] = no_bytes(catalogue)
+    about["folders"] = [values_of(it) for it in watched(catalogue)]
     of_damaged = dict(zip(("good_records", "good_bytes", "damaged"), damaged(catalogue)))
     return json.dumps(dict(about, **of_damaged, files=files), indent=1) + "\n"
 

@@ -5,9 +5,10 @@ import collections
 from typing import Dict, List, Sequence, Set
 
 from .catalogue import OF_A_FILE, Catalogue
-from .discover import Found, all_listed, is_below
+from .discover import Found, all_listed, is_below, plain_paths
 from .states import ABOUT_BYTES, READ, as_list
 from .texts import real_path
+from .watched import end_watch, watched
 
 ABOUT_A_FILE = (*OF_A_FILE, "readings", "checks", "counts", "changes", "files")
 COLUMNS = {"records": "position, at_offset, length, kind, date, id, target", "digests": "position, verdict, id, digest"}
@@ -64,18 +65,22 @@ def join_files(catalogue: Catalogue, run: int, before: int, file: int) -> None:
 
 
 def forget_files(catalogue: Catalogue, paths: Sequence[str]) -> List[str]:
-    """Forgets the files of these paths, or below them, that are gone or outside of the collection. Returns the others.
-    Where a list of files can't be read, any file may be in it."""
-    folders, lists = catalogue.setting("paths") or [], Found()
-    listed = set(all_listed(catalogue.lists(), lists))
+    """Ends the watch of these folders and lists, and forgets their files, and other files of these paths or below them
+    that are gone or outside of the collection. Returns those that stay, since the collection has them. Where a list of
+    files can't be read, any file may be in it."""
     kept = []
     with catalogue.transaction():
+        ended = end_watch(catalogue, paths)
+        was_listed, lists, whole = set(all_listed(ended, Found())), Found(), watched(catalogue)
+        folders, listed = plain_paths(whole), set(all_listed(whole, lists))
         for file, stored, state in catalogue.rows("SELECT file, path, state FROM files ORDER BY path"):
             path = real_path(stored)
+            if not (is_below(path, paths) or path in was_listed):
+                continue
             is_in = bool(lists.unread) or path in listed or is_below(path, folders)
-            if is_below(path, paths) and state != "gone" and is_in:
+            if state != "gone" and is_in:
                 kept.append(path)
-            elif is_below(path, paths):
+            else:
                 forget(catalogue, file)
     return kept
 

@@ -19,6 +19,7 @@ from .jobs import write_jobs
 from .program import Settings, not_done, own_words, program_path, version_of
 from .take_in import end_run, take_in, take_in_all
 from .texts import Trouble, now, say, shown
+from .watched import note_reading, watch, watched
 
 SSH = "ssh -o BatchMode=yes -o ConnectTimeout=10 -o ServerAliveInterval=10 -o ServerAliveCountMax=3"
 PR_SET_PDEATHSIG = 1
@@ -84,16 +85,14 @@ def make_plan(catalogue: Catalogue, asked: Asked) -> Plan:
     settings = asked.settings()
     take_in_all(catalogue)
     with catalogue.transaction():
-        if asked.paths or asked.lists:
-            catalogue.set("paths", [os.path.abspath(path) for path in asked.paths])
-            catalogue.set("lists", [os.path.abspath(path) for path in asked.lists])
-            catalogue.set("lists_from", os.getcwd())
-        paths, lists = catalogue.setting("paths"), catalogue.lists()
-        if paths is None:
+        watch(catalogue, asked.paths, asked.lists)
+        whole = watched(catalogue)
+        if not whole:
             raise Trouble("name the folders of the collection")
         run = begin_run(catalogue, asked.is_over_all)
-        found = found_files(paths, lists)
-        note_changes(catalogue, run.number, found, paths)
+        found = found_files(whole)
+        note_changes(catalogue, run.number, found, whole)
+        note_reading(catalogue, found.troubles())
         chosen = files_to_do(catalogue, run, found, asked.digest)
         catalogue.base.execute("UPDATE runs SET attempts = attempts + 1 WHERE run = ?", (run.number,))
         attempt = catalogue.one("SELECT attempts FROM runs WHERE run = ?", (run.number,))[0]

@@ -1,0 +1,74 @@
+"""A catalogue of an earlier version goes on: what it knew is kept, and what it didn't know stays unknown."""
+from __future__ import annotations
+
+import os
+import shutil
+import sqlite3
+
+import pytest
+from conftest import Collection, put, record, to_read
+
+HERE = os.path.dirname(os.path.abspath(__file__))
+VERSIONS = ("catalogue-0.2.0.sql", "catalogue-4.sql")
+READ_THEN = 1_600_000_000
+
+
+def archive(collection: Collection, name: str, *parts: bytes) -> str:
+    """A file that is as it was when the catalogue was made."""
+    path = put(collection.path("disk", name), *parts)
+    os.utime(path, (READ_THEN, READ_THEN))
+    return path
+
+
+def carry(collection: Collection, version: str) -> None:
+    """Makes a catalogue as an earlier version had it, and its files."""
+    os.makedirs(collection.path("catalogue", "jobs"))
+    with open(os.path.join(HERE, version), encoding="ascii") as file:
+        text = file.read().replace("@TOP@", collection.folder)
+    base = sqlite3.connect(collection.path("catalogue", "catalogue.sqlite"))
+    base.executescript(text)
+    base.close()
+    archive(collection, "a.warc", record(1), record(2, b"two"))
+    archive(collection, "cut.warc", record(3), record(4, b"four"))
+    archive(collection, "damaged.warc", record(5), b"garbage", record(6))
+
+
+@pytest.mark.parametrize("version", VERSIONS)
+def test_a_catalogue_goes_on(collection: Collection, version: str) -> None:
+    carry(collection, version)
+    assert collection.run("find", "http://a.example/").returncode == 3, "a run brings it to this version"
+    done = collection.night()
+    assert to_read(done) == 3, "without the time of a reading each file is read once more"
+    states = {"a.warc": "good", "cut.warc": "good", "damaged.warc": "refused", "away.warc": "gone"}
+    assert collection.states() == states
+    assert [it["path"] for it in collection.status()["folders"]] == [collection.path("disk")]
+    assert collection.ask("SELECT count(*) FROM runs") == [(3,)]
+    assert collection.ask("SELECT name FROM settings WHERE name IN ('paths', 'lists')") == []
+    assert collection.night().returncode == 1
+    assert collection.run("export", "tables").returncode == 0
+
+
+def test_an_unmounted_folder_of_before(collection: Collection) -> None:
+    carry(collection, "catalogue-4.sql")
+    shutil.move(collection.path("disk"), collection.path("off"))
+    assert collection.night().returncode == 3
+    (folder,) = collection.status()["folders"]
+    assert folder["read_on"] is None and not folder["is_there"]
+    assert collection.states()["a.warc"] == "good"
+
+
+def test_files_of_a_folder_that_was_replaced_before(collection: Collection) -> None:
+    """An earlier version dropped folders that weren't named again: their files are no longer good for ever."""
+    carry(collection, "catalogue-4.sql")
+    base = sqlite3.connect(collection.path("catalogue", "catalogue.sqlite"))
+    with base:
+        base.execute("UPDATE settings SET value = '[\"%s\"]' WHERE name = 'paths'" % collection.path("other"))
+    base.close()
+    collection.pages("other/b.warc", 1)
+    done = collection.night()
+    assert done.returncode == 1
+    unread = dict.fromkeys(("a.warc", "cut.warc", "damaged.warc"), "unread")
+    assert collection.states() == {**unread, "b.warc": "good", "away.warc": "gone"}
+    assert "no folder" in collection.detail("a.warc")
+    collection.night("disk")
+    assert collection.states()["a.warc"] == "good"
