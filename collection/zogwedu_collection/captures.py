@@ -10,11 +10,13 @@ from .states import READ, as_list
 from .texts import Stored, Trouble, decoded, escaped, say, stored_path
 
 MOST_NAMED = 20
+# The files that captures are given of. An altered one doesn't have the records that were read, or isn't accepted yet.
+GIVES = "state NOT IN ('gone', 'altered')"
 CAPTURES = (
     "SELECT captures.file, position, instant, kind, given, status, media, length, reason, path, state, read_on, %s"
-    " FROM captures JOIN files USING (file) LEFT JOIN readings USING (file) WHERE state <> 'gone' AND " % ABOUT_ROWS
+    " FROM captures JOIN files USING (file) LEFT JOIN readings USING (file) WHERE %s AND " % (ABOUT_ROWS, GIVES)
 )
-OF_TARGET = "FROM captures JOIN files USING (file) WHERE state <> 'gone' AND target = ?"
+OF_TARGET = "FROM captures JOIN files USING (file) WHERE %s AND target = ?" % GIVES
 LATEST = "(SELECT instant %s AND instant <= ? ORDER BY instant DESC LIMIT 1)" % OF_TARGET
 # Of captures of one target and one instant in one file the program chooses the last one.
 IS_LAST = (
@@ -129,7 +131,7 @@ def targets_from(catalogue: Catalogue, front: Stored, most: int) -> List[Tuple[S
     after = front + b"\xff" * 8 if isinstance(front, bytes) else front + "\U0010ffff"
     query = (
         "SELECT target, count(*), min(instant), max(instant) FROM captures JOIN files USING (file)"
-        " WHERE state <> 'gone' AND target >= ? AND target < ? GROUP BY target ORDER BY target LIMIT ?"
+        " WHERE %s AND target >= ? AND target < ? GROUP BY target ORDER BY target LIMIT ?" % GIVES
     )
     return [(row[0], row[1], row[2], row[3]) for row in catalogue.rows(query, (front, after, most))]
 

@@ -8,7 +8,7 @@ import json
 import os
 import sqlite3
 import urllib.parse
-from typing import Any, Dict, Iterator, List, Optional, Sequence, Tuple
+from typing import Any, Dict, Iterator, List, Mapping, Optional, Sequence, Tuple
 
 from .disk import Stamp, is_on_local_disk
 from .states import READ, as_list
@@ -25,7 +25,8 @@ READER_SECONDS = 5.0
 READER_CACHE_KIB = 8_000
 
 # The tables. PostgreSQL takes the same columns, but other keys. A row of `readings` says when the rows of a file in the
-# tables of OF_A_FILE were read, and from which bytes.
+# tables of OF_A_FILE were read, and from which bytes. Of a file that is altered, the new reading is beside the one of
+# before, under the number of the file with a minus sign, until it is accepted.
 TABLES = {
     "settings": "name TEXT PRIMARY KEY, value TEXT",
     "watched": "path TEXT, kind TEXT, given_in TEXT, added TEXT, read_on TEXT, trouble TEXT",
@@ -36,7 +37,8 @@ TABLES = {
     " records BIGINT, run BIGINT, changed BIGINT, inode BIGINT, sha256 TEXT",
     "readings": "file BIGINT PRIMARY KEY, run BIGINT, read_on TEXT, size BIGINT, modified BIGINT, changed BIGINT,"
     " inode BIGINT, records BIGINT, good BIGINT, unchecked BIGINT, bad BIGINT, no_bytes BIGINT, bytes BIGINT,"
-    " damaged BIGINT, payloads_good BIGINT, payloads_unchecked BIGINT, payloads_bad BIGINT",
+    " damaged BIGINT, payloads_good BIGINT, payloads_unchecked BIGINT, payloads_bad BIGINT, found_state TEXT,"
+    " found_detail TEXT, found_sha256 TEXT, is_hashed BIGINT",
     "checks": "run BIGINT, file BIGINT, size BIGINT, modified BIGINT, state TEXT, detail TEXT, host TEXT,"
     " seconds DOUBLE PRECISION, list_status BIGINT, fixity_status BIGINT, check_status BIGINT,"
     " summary_status BIGINT, captures_status BIGINT, sha256 TEXT, good_records BIGINT, good_bytes BIGINT,"
@@ -44,8 +46,11 @@ TABLES = {
     "counts": "run BIGINT, file BIGINT, name TEXT, value TEXT, PRIMARY KEY (run, file, name)",
     "changes": "run BIGINT, file BIGINT, change TEXT, state_before TEXT, state_after TEXT, path_before TEXT,"
     " PRIMARY KEY (run, file)",
+    "accepted": "file BIGINT, accepted_on TEXT, who TEXT, run BIGINT, state TEXT, detail TEXT, read_on_before TEXT,"
+    " size_before BIGINT, modified_before BIGINT, records_before BIGINT, sha256_before TEXT, read_on_now TEXT,"
+    " size_now BIGINT, modified_now BIGINT, records_now BIGINT, sha256_now TEXT",
     "records": "file BIGINT, position BIGINT, at_offset BIGINT, length BIGINT, kind TEXT, date TEXT, id TEXT,"
-    " target TEXT, PRIMARY KEY (file, position)",
+    " target TEXT, hash TEXT, PRIMARY KEY (file, position)",
     "captures": "file BIGINT, position BIGINT, date TEXT, instant TEXT, kind TEXT, given BIGINT, status BIGINT,"
     " media TEXT, length BIGINT, reason TEXT, target TEXT, PRIMARY KEY (file, position)",
     "digests": "file BIGINT, position BIGINT, verdict TEXT, id TEXT, digest TEXT, PRIMARY KEY (file, position)",
@@ -96,6 +101,14 @@ TO_VERSION_4 = (
         for it in COUNTS_OF_PAYLOADS
     ),
     "ALTER TABLE checks ADD COLUMN payloads_status BIGINT",
+)
+# From one of version 4, which kept no hash of a record. What wasn't known then stays unknown.
+TO_VERSION_5 = (
+    "ALTER TABLE records ADD COLUMN hash TEXT",
+    *("ALTER TABLE readings ADD COLUMN found_%s TEXT" % name for name in ("state", "detail", "sha256")),
+    "ALTER TABLE readings ADD COLUMN is_hashed BIGINT",
+    "UPDATE readings SET found_sha256 = (SELECT sha256 FROM files WHERE files.file = readings.file"
+    " AND (files.size, files.modified) IS (readings.size, readings.modified))",
 )
 
 
@@ -223,7 +236,7 @@ class Catalogue:
         """Changes the tables of an older catalogue. Returns whether it is one."""
         is_there = self.one("SELECT count(*) FROM sqlite_master WHERE name = 'files'")[0]
         version = self.one("PRAGMA user_version")[0] if is_there else VERSION
-        for later, steps in ((2, TO_VERSION_2), (3, TO_VERSION_3), (4, TO_VERSION_4)):
+        for later, steps in ((2, TO_VERSION_2), (3, TO_VERSION_3), (4, TO_VERSION_4), (5, TO_VERSION_5)):
             for statement in steps if version < later else ():
                 self.base.execute(statement)
         return bool(version < VERSION)
@@ -289,6 +302,11 @@ class Catalogue:
 
     def one(self, query: str, values: Sequence[Any] = ()) -> Any:
         return self.base.execute(query, values).fetchone()
+
+    def insert(self, table: str, values: Mapping[str, Any]) -> None:
+        """Adds a row, by the names of its columns."""
+        words = table, ", ".join(values), ", ".join("?" * len(values))
+        self.base.execute("INSERT INTO %s (%s) VALUES (%s)" % words, tuple(values.values()))
 
     def setting(self, name: str) -> Any:
         row = self.one("SELECT value FROM settings WHERE name = ?", (name,))

@@ -166,6 +166,8 @@ def add_upkeep(command: Command) -> None:
     add_forms(made, "in its place the files that need a look,")
     made = command("export", "writes the tables as text, and a script for PostgreSQL's psql")
     made.add_argument("folder", metavar="FOLDER")
+    made = command("accept", "takes what is in altered files now for what has to be in them")
+    made.add_argument("paths", nargs="+", metavar="FILE")
     made = command("forget", "ends the watch of folders, and forgets files that were removed on purpose")
     made.add_argument("paths", nargs="+", metavar="PATH", help="a file, or a folder with all below it")
     made = command("prune", "drops what earlier runs found of single files")

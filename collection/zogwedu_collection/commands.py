@@ -4,10 +4,11 @@ from __future__ import annotations
 import argparse
 import os
 import sys
-from typing import Sequence
+from typing import List, Sequence
 
 from .captures import Request, chosen_captures, warn_of_unknown
 from .catalogue import Catalogue
+from .compared import accept
 from .decode import Decoder
 from .export import export
 from .limits import Limits
@@ -123,6 +124,17 @@ def forget_command(options: Options) -> int:
     return 1 if kept else 0
 
 
+def accept_command(options: Options) -> int:
+    catalogue = Catalogue(options.catalogue)
+    with catalogue.locked():
+        paths: List[str] = [os.path.abspath(path) for path in options.paths]
+        left = [path for path in paths if not accept(catalogue, path)]
+        write_own_report(catalogue)
+    for path in left:
+        say("%s has no new reading to be accepted" % shown(path))
+    return 1 if left else 0
+
+
 def prune_command(options: Options) -> int:
     catalogue = Catalogue(options.catalogue)
     if options.keep < 1:
@@ -151,6 +163,7 @@ COMMANDS = {
     "serve": serve_command,
     "report": report_command,
     "export": export_command,
+    "accept": accept_command,
     "forget": forget_command,
     "prune": prune_command,
 }

@@ -40,6 +40,9 @@ DONE = {
 }
 # These read in order, and so also a pipe.
 IN_ORDER = ("list", "fixity", "check", "summary")
+# The most bytes of a head that are hashed, and how much of the SHA-256 is kept.
+MOST_HASHED = 1 << 20
+HASH_DIGITS = 32
 # The digest of no bytes, which wget states in each revisit, though the revisit has a block.
 OF_NO_BYTES = b"sha1:3I42H3S6NNFQ2MSVX7XZKYAYSCX5QBYJ"
 
@@ -135,6 +138,33 @@ def lines_of(folder: str, command: str) -> Iterator[bytes]:
                 if not line.endswith(b"\n"):
                     raise ValueError("a line without an end")
                 yield line[:-1]
+
+
+def has_lines(folder: str, command: str) -> bool:
+    """Whether a command was run."""
+    return os.path.exists(os.path.join(folder, command))
+
+
+def write_hashes(folder: str, source: IO[bytes]) -> None:
+    """Writes a hash of each record: of what `list` says of it, and of as many bytes of it as it has beside its block.
+    So another digest in its head shows, though nothing else differs."""
+    waiting: Optional[List[bytes]] = None
+    with open(os.path.join(folder, "hashes"), "wb") as out:
+        for line in lines_of(folder, "list"):
+            row = line.split(b"\t", 3)
+            if waiting is not None:
+                out.write(hash_of(source, waiting, int(row[1])))
+            waiting = row
+        if waiting is not None:
+            out.write(hash_of(source, waiting, os.fstat(source.fileno()).st_size))
+
+
+def hash_of(source: IO[bytes], row: List[bytes], end: int) -> bytes:
+    """A line with the hash of a record that ends at an offset."""
+    _, offset, length, words = row
+    beside = min(max(end - int(offset) - int(length), 0), MOST_HASHED)
+    head = os.pread(source.fileno(), beside, int(offset))
+    return hashlib.sha256(words + b"\n" + head).hexdigest()[:HASH_DIGITS].encode("ascii") + b"\n"
 
 
 def is_of_bad_payload(line: bytes) -> bool:
@@ -246,6 +276,8 @@ class Job:
             stopped = self.run_each(source, IN_ORDER)
         else:
             stopped = self.run_survey(source) or self.run_each(source, ("payloads",))
+            if not stopped:
+                write_hashes(self.folder, source.seekable)
         return stopped or self.verdict(source)
 
     def run_each(self, source: Source, commands: Sequence[str]) -> Optional[Tuple[str, str]]:

@@ -7,7 +7,7 @@ import functools
 import urllib.parse
 from typing import Counter, Iterator, List, NamedTuple, Optional, Tuple
 
-from .job import lines_of
+from .job import has_lines, lines_of
 from .texts import Stored, decoded
 
 WEB_SCHEMES = ("http", "https", "ftp")
@@ -24,6 +24,7 @@ class RecordRow(NamedTuple):
     date: Stored
     name: Stored
     target: Optional[Stored]
+    hash: Optional[str]
 
 
 class CaptureRow(NamedTuple):
@@ -112,14 +113,19 @@ def list_columns(line: bytes) -> List[bytes]:
 
 
 def record_rows(file: int, folder: str, sums: Sums) -> Iterator[RecordRow]:
-    """The rows of `list`."""
+    """The rows of `list`, each with the hash of its record, where the job wrote these."""
+    hashes, has_hashes = lines_of(folder, "hashes"), has_lines(folder, "hashes")
     for line in lines_of(folder, "list"):
         position, offset, length, kind, date, name, target = list_columns(line)
         key = date[:4], kind.lower()
         sums.years[key] += 1
         sums.year_bytes[key] += int(length)
+        texts = decoded(kind), decoded(date), decoded(name), blank(target)
+        hashed = next(hashes, None)
+        if hashed is None and has_hashes:
+            raise ValueError("a record without a hash")
         yield RecordRow(
-            file, int(position), int(offset), int(length), decoded(kind), decoded(date), decoded(name), blank(target)
+            file, int(position), int(offset), int(length), *texts, None if hashed is None else hashed.decode("ascii")
         )
 
 

@@ -13,6 +13,7 @@ from .texts import Stored, counted, escaped, path_bytes, real_path, shown
 from .watched import FILE, Watched, values_of, watched
 
 NO_BYTES = "revisits with the digest of no bytes, as wget writes them; they aren't counted as bad"
+UNHASHED = "files that an earlier version read: a record in another's place shows by its columns in `list` alone"
 LOOK = "SELECT state, path, detail, read_on FROM files LEFT JOIN readings USING (file) WHERE state <> 'good'"
 
 
@@ -43,6 +44,12 @@ def looks(catalogue: Catalogue) -> List[Look]:
 def no_bytes(catalogue: Catalogue) -> int:
     """How many revisits state the digest of no bytes."""
     query = "SELECT coalesce(sum(no_bytes), 0) FROM readings JOIN files USING (file) WHERE state <> 'gone'"
+    return int(catalogue.one(query)[0])
+
+
+def unhashed(catalogue: Catalogue) -> int:
+    """How many files an earlier version read, which kept no hash of each record."""
+    query = "SELECT count(*) FROM readings JOIN files USING (file) WHERE state <> 'gone' AND is_hashed IS NOT 1"
     return int(catalogue.one(query)[0])
 
 
@@ -83,6 +90,8 @@ def status_text(catalogue: Catalogue) -> Iterator[str]:
     if bad:
         about = "bytes of the refused files", counted(records, "good record"), counted(good, "byte")
         yield "damaged\t%d\t%s; beside them %s, %s\n" % (bad, *about)
+    if unhashed(catalogue):
+        yield "unhashed\t%d\t%s\n" % (unhashed(catalogue), UNHASHED)
     yield from ("%s\t%s\t%s\n" % (it.state, escaped(it.path), escaped(it.detail)) for it in looks(catalogue))
 
 
@@ -98,14 +107,14 @@ def status_json(catalogue: Catalogue) -> str:
     files = [dict(dataclasses.asdict(it), path=real_path(it.path)) for it in looks(catalogue)]
     last = catalogue.last_run()
     about: Dict[str, Any] = {"run": last.number if last else None, "states": catalogue.states()}
-    about["no_bytes"] = no_bytes(catalogue)
+    about["no_bytes"], about["unhashed"] = no_bytes(catalogue), unhashed(catalogue)
     about["folders"] = [values_of(it) for it in watched(catalogue)]
     of_damaged = dict(zip(("good_records", "good_bytes", "damaged"), damaged(catalogue)))
     return json.dumps(dict(about, **of_damaged, files=files), indent=1) + "\n"
 
 
 def all_good(catalogue: Catalogue) -> bool:
-    return set(catalogue.states()) <= {"good"}
+    return set(catalogue.states()) <= {"good", "grown"}
 
 
 def status_pieces(catalogue: Catalogue, form: str) -> Iterator[Union[str, bytes]]:

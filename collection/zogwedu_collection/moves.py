@@ -10,7 +10,7 @@ from .states import ABOUT_BYTES, READ, as_list
 from .texts import real_path
 from .watched import end_watch, watched
 
-ABOUT_A_FILE = (*OF_A_FILE, "readings", "checks", "counts", "changes", "files")
+ABOUT_A_FILE = (*OF_A_FILE, "readings", "checks", "counts", "changes", "accepted", "files")
 COLUMNS = {"records": "position, at_offset, length, kind, date, id, target", "digests": "position, verdict, id, digest"}
 
 
@@ -38,9 +38,20 @@ def same_files(catalogue: Catalogue, run: int) -> Dict[int, List[int]]:
     )
     found: Dict[int, List[int]] = collections.defaultdict(list)
     for file, now, old, before in rows:
-        is_same = before == now if before and now else all(has_same(catalogue, table, old, file) for table in COLUMNS)
+        is_same = before == now if before and now else has_same_records(catalogue, old, file)
         found[file] += [old] if is_same else []
     return found
+
+
+def has_same_records(catalogue: Catalogue, one: int, other: int) -> bool:
+    """Whether two files have the same records, by their hashes too where both are known."""
+    query = (
+        "SELECT 1 FROM records AS one JOIN records AS other USING (position) WHERE one.file = ? AND other.file = ?"
+        " AND one.hash <> other.hash LIMIT 1"
+    )
+    return all(has_same(catalogue, table, one, other) for table in COLUMNS) and (
+        catalogue.one(query, (one, other)) is None
+    )
 
 
 def has_same(catalogue: Catalogue, table: str, one: int, other: int) -> bool:
@@ -58,6 +69,7 @@ def join_files(catalogue: Catalogue, run: int, before: int, file: int) -> None:
         catalogue.base.execute(
             "UPDATE OR REPLACE %s SET file = ? WHERE file = ? AND run < ?" % table, (file, before, run)
         )
+    catalogue.base.execute("UPDATE accepted SET file = ? WHERE file = ?", (file, before))
     forget(catalogue, before)
     catalogue.base.execute(
         "UPDATE changes SET change = 'moved', path_before = ? WHERE run = ? AND file = ?", (path, run, file)
@@ -86,9 +98,9 @@ def forget_files(catalogue: Catalogue, paths: Sequence[str]) -> List[str]:
 
 
 def forget(catalogue: Catalogue, file: int) -> None:
-    """Drops all that is known of a file."""
+    """Drops all that is known of a file, also the reading that is beside its own."""
     for table in ABOUT_A_FILE:
-        catalogue.base.execute("DELETE FROM %s WHERE file = ?" % table, (file,))
+        catalogue.base.execute("DELETE FROM %s WHERE file IN (?, ?)" % table, (file, -file))
 
 
 def prune(catalogue: Catalogue, keep: int) -> int:

@@ -14,7 +14,7 @@ import subprocess
 import tempfile
 from typing import Callable, Deque, Dict, Generator, IO, Iterable, Iterator, List, Optional, Sequence, Set, Tuple
 
-from .captures import Capture, captures_where
+from .captures import GIVES, Capture, captures_where
 from .catalogue import Catalogue, Known
 from .damaged import good_records
 from .disk import Stamp, open_regular, open_stamp, reason_of, stamp_of, temporary_folder
@@ -338,9 +338,10 @@ class Replayer:
     def of_series(self, capture: Capture) -> List[Capture]:
         """One capture for each file with continuations of the target of the record that a capture leads to."""
         query = (
-            "SELECT DISTINCT file, path, state FROM records JOIN files USING (file) WHERE state <> 'gone' AND file <> ?"
+            "SELECT DISTINCT file, path, state FROM records JOIN files USING (file) WHERE %s AND file <> ?"
             " AND lower(kind) = 'continuation'"
-            " AND target = (SELECT target FROM records WHERE file = ? AND position = ?) LIMIT %d" % MOST_CANDIDATES
+            " AND target = (SELECT target FROM records WHERE file = ? AND position = ?) LIMIT %d"
+            % (GIVES, MOST_CANDIDATES)
         )
         rows = self.catalogue.rows(query, (capture.file, capture.file, capture.given))
         empty = Capture(0, -1, "", "continuation", None, None, None, None, None, "", "", None)

@@ -3,9 +3,11 @@ from __future__ import annotations
 
 STATES = {
     "good": "nothing was found",
+    "grown": "records were added, and nothing was found",
     "findings": "can be read; check found something",
     "unchecked": "can be read; some blocks can't be checked",
     "bad": "a block or a payload doesn't have its digest",
+    "altered": "not the records or the bytes of before",
     "rotten": "other bytes than before, with the same size and time",
     "refused": "damaged: no archive as a whole",
     "gunzip": "the compressed file is damaged",
@@ -16,9 +18,9 @@ STATES = {
     "gone": "isn't there any more",
 }
 # The rows of such a reading replace those of the one before. So do those of the good records of a refused file.
-READ = ("good", "findings", "unchecked", "bad")
+READ = ("good", "grown", "findings", "unchecked", "bad")
 # States that say something of the bytes of a file, and not of the machine that read it.
-ABOUT_BYTES = (*READ, "refused", "gunzip", "no-room", "rotten")
+ABOUT_BYTES = (*READ, "refused", "gunzip", "no-room", "rotten", "altered")
 TRIED_AGAIN = ("no-room", "failed", "changing", "unread", "gone")
 
 

@@ -10,8 +10,9 @@ import sqlite3
 from typing import Any, List, Optional, Sequence, Tuple
 
 from .catalogue import OF_A_FILE, Catalogue
+from .compared import UNACCEPTED, compare, drop_beside
 from .disk import Stamp
-from .job import COMMANDS, Outcome, read_outcome, summary_of
+from .job import COMMANDS, Outcome, has_lines, read_outcome, summary_of
 from .jobs import listed_jobs
 from .lines import Sums, capture_rows, digest_rows, finding_rows, payload_rows, payloads_of, record_rows
 from .moves import settle_moves
@@ -19,6 +20,11 @@ from .states import ABOUT_BYTES, as_list
 from .texts import decoded, now, say, shown, stored_path
 
 MOST_ROWS = 200_000
+# The columns of a reading that count something, in the order in which they are counted.
+COUNTS = (
+    *("records", "good", "unchecked", "bad", "no_bytes", "bytes", "damaged"),
+    *("payloads_good", "payloads_unchecked", "payloads_bad"),
+)
 # What a job's folder that isn't whole, as after a power cut, makes of reading it.
 NOT_WHOLE = (
     *(OSError, ValueError, KeyError, TypeError, IndexError, AttributeError, OverflowError),
@@ -36,6 +42,7 @@ class Before:
     modified: Optional[int]
     sha256: Optional[str]
     has_reading: bool
+    read_sha256: Optional[str]
     rotten: Optional[Tuple[int, int]]
 
     def is_still_rotten(self, stamp: Stamp) -> bool:
@@ -44,23 +51,30 @@ class Before:
     def has_same_time(self, stamp: Optional[Stamp]) -> bool:
         return stamp is not None and (stamp.size, stamp.modified) == (self.size, self.modified)
 
+    def sha256_of(self, stamp: Stamp, is_same: bool) -> Optional[str]:
+        """What is known of the SHA-256 of bytes that were read without it: that of the same size and time, or that of
+        the same records, so that a later reading compares with what was known, and not with nothing."""
+        known = self.sha256 if self.has_same_time(stamp) else None
+        return known or (self.read_sha256 if is_same else None)
+
 
 def before_job(catalogue: Catalogue, path: str) -> Before:
     query = (
-        "SELECT file, files.size, files.modified, sha256, readings.run IS NOT NULL"
+        "SELECT file, files.size, files.modified, sha256, readings.run IS NOT NULL, found_sha256"
         " FROM files LEFT JOIN readings USING (file) WHERE path = ?"
     )
     row = catalogue.one(query, (stored_path(path),))
     if row is None:
         raise KeyError(path)
-    file, size, modified, sha256, has_reading = row
+    file, size, modified, sha256, has_reading, read_sha256 = row
     last = catalogue.one(
-        "SELECT state, size, modified FROM checks WHERE file = ? AND state IN (%s) ORDER BY run DESC LIMIT 1"
+        "SELECT state, size, modified FROM checks WHERE file = ? AND state IN (%s)"
+        " AND run > coalesce((SELECT max(run) FROM accepted WHERE file = checks.file), 0) ORDER BY run DESC LIMIT 1"
         % as_list(ABOUT_BYTES),
         (file,),
     )
     rotten = (last[1], last[2]) if last is not None and last[0] == "rotten" else None
-    return Before(file, size, modified, sha256, has_reading, rotten)
+    return Before(file, size, modified, sha256, bool(has_reading), read_sha256, rotten)
 
 
 def take_in_all(catalogue: Catalogue, is_last: bool = True) -> int:
@@ -180,14 +194,46 @@ def judged(before: Before, outcome: Outcome) -> None:
         outcome.detail = "its SHA-256 was %s%s" % (before.sha256, ", and is %s" % outcome.sha256 if differs else "")
 
 
+@dataclasses.dataclass(frozen=True)
+class Reading:
+    """A reading that is taken in: the number under which its rows are kept, its run, what the bytes were, the state
+    that it gave by itself, the SHA-256 of the bytes, and whether it has all rows."""
+
+    file: int
+    run: int
+    stamp: Stamp
+    state: str
+    detail: str
+    sha256: Optional[str]
+    is_whole: bool
+
+
 def load_job(catalogue: Catalogue, run: int, folder: str) -> int:
     """Loads what a job found. Returns the number of rows."""
     outcome = read_outcome(folder)
-    before = before_job(catalogue, outcome.path)
+    before, own = before_job(catalogue, outcome.path), (outcome.state, outcome.detail)
+    has_rows, stamp = outcome.has_rows(), outcome.stamp
     judged(before, outcome)
-    stamp, file = outcome.stamp, before.file
+    is_compared = before.has_reading and outcome.state != "rotten"
+    is_same = is_compared and compare(catalogue, before.file, before.read_sha256, folder, outcome)
+    put_check(catalogue, run, before.file, outcome)
+    is_partly_read = outcome.state == "no-room" and outcome.statuses.get("summary") == 0 and not before.has_reading
+    rows, is_new = 0, outcome.state in UNACCEPTED and before.has_reading
+    if has_rows or outcome.state == "altered":
+        drop_beside(catalogue, before.file)
+    if stamp is not None and (is_partly_read or (has_rows and (is_new or outcome.state != "rotten"))):
+        sha256 = outcome.sha256 or before.sha256_of(stamp, is_same)
+        reading = Reading(-before.file if is_new else before.file, run, stamp, *own, sha256, has_rows)
+        rows = load_rows(catalogue, folder, outcome, reading)
+    note_state(catalogue, run, before, outcome)
+    note_change(catalogue, run, before.file, outcome)
+    return rows + 20
+
+
+def put_check(catalogue: Catalogue, run: int, file: int, outcome: Outcome) -> None:
+    """Notes what a run found of a file."""
     statuses = [outcome.statuses.get(command) for command in COMMANDS]
-    size_and_time = (None, None) if stamp is None else (stamp.size, stamp.modified)
+    size_and_time = (None, None) if outcome.stamp is None else (outcome.stamp.size, outcome.stamp.modified)
     pieces = (None,) * 4 if outcome.pieces is None else dataclasses.astuple(outcome.pieces)
     catalogue.base.execute(
         "INSERT OR REPLACE INTO checks (run, file, size, modified, state, detail, host, seconds, list_status,"
@@ -197,13 +243,6 @@ def load_job(catalogue: Catalogue, run: int, folder: str) -> int:
         + (outcome.sha256, *pieces),
     )
     catalogue.base.execute("DELETE FROM counts WHERE run = ? AND file = ?", (run, file))
-    rows = 0
-    is_partly_read = outcome.state == "no-room" and outcome.statuses.get("summary") == 0
-    if stamp is not None and (outcome.has_rows() or (is_partly_read and not before.has_reading)):
-        rows = load_rows(catalogue, run, file, folder, outcome, stamp)
-    note_state(catalogue, run, before, outcome)
-    note_change(catalogue, run, file, outcome)
-    return rows + 20
 
 
 def note_state(catalogue: Catalogue, run: int, before: Before, outcome: Outcome) -> None:
@@ -249,15 +288,16 @@ def change_of(before: Any, outcome: Outcome, was_gone: bool) -> str:
     return "grown" if stamp.size > before[1] else "changed"
 
 
-def load_rows(catalogue: Catalogue, run: int, file: int, folder: str, outcome: Outcome, stamp: Stamp) -> int:
+def load_rows(catalogue: Catalogue, folder: str, outcome: Outcome, reading: Reading) -> int:
     """Loads what the commands wrote of a file, in the place of its rows. Returns the number of records. The numbers of
     lines must be those that `summary` has, so that nothing that was cut off is taken for the whole."""
+    file = reading.file
     for table in OF_A_FILE:
         catalogue.base.execute("DELETE FROM %s WHERE file = ?" % table, (file,))
     sums, put = Sums(), catalogue.base.executemany
     summary = summary_of(folder)
     good, bad, unchecked = (int(summary[name]) for name in ("good", "bad", "unchecked"))
-    records = put("INSERT INTO records VALUES (?, ?, ?, ?, ?, ?, ?, ?)", record_rows(file, folder, sums)).rowcount
+    records = put("INSERT INTO records VALUES (?, ?, ?, ?, ?, ?, ?, ?, ?)", record_rows(file, folder, sums)).rowcount
     captures = put(
         "INSERT INTO captures VALUES (?, ?, ?, ?, ?, ?, ?, ?, ?, ?, ?)", capture_rows(file, folder, sums)
     ).rowcount
@@ -266,16 +306,17 @@ def load_rows(catalogue: Catalogue, run: int, file: int, folder: str, outcome: O
     put("INSERT INTO findings VALUES (?, ?, ?, ?, ?)", finding_rows(file, folder))
     whole = [int(summary["records"]), int(summary["captures"]), bad + unchecked]
     seen = [max(count, 0) for count in (records, captures, digests)]
-    if outcome.state == "no-room":
+    if not reading.is_whole:
         seen[1] = whole[1]
     if seen != whole or good + bad + unchecked != whole[0]:
         raise ValueError("%s records, captures and digests are there, and summary has %s" % (seen, whole))
     load_sums(catalogue, file, sums)
-    put("INSERT INTO counts VALUES (?, ?, ?, ?)", ((run, file, name, value) for name, value in summary.items()))
+    counts = ((reading.run, abs(file), name, value) for name, value in summary.items())
+    put("INSERT INTO counts VALUES (?, ?, ?, ?)", counts)
     damaged = 0 if outcome.pieces is None else outcome.pieces.damaged
-    counts = good, unchecked, bad - outcome.no_bytes, outcome.no_bytes, int(summary["bytes"]), damaged
-    all_counts = (whole[0], *counts, *payloads_of(folder)) if outcome.has_rows() else None
-    put_reading(catalogue, run, file, stamp, all_counts)
+    about = good, unchecked, bad - outcome.no_bytes, outcome.no_bytes, int(summary["bytes"]), damaged
+    all_counts = (whole[0], *about, *payloads_of(folder)) if reading.is_whole else None
+    put_reading(catalogue, reading, all_counts, has_lines(folder, "hashes"))
     return whole[0]
 
 
@@ -290,14 +331,11 @@ def load_sums(catalogue: Catalogue, file: int, sums: Sums) -> None:
     catalogue.base.executemany("INSERT INTO hosts VALUES (?, ?, ?, ?)", hosts)
 
 
-def put_reading(catalogue: Catalogue, run: int, file: int, stamp: Stamp, counts: Optional[Tuple[int, ...]]) -> None:
+def put_reading(catalogue: Catalogue, it: Reading, counts: Optional[Tuple[int, ...]], is_hashed: bool) -> None:
     """Notes when the rows of a file were read, and from which bytes. Without counts they aren't the whole."""
-    catalogue.base.execute("DELETE FROM readings WHERE file = ?", (file,))
+    catalogue.base.execute("DELETE FROM readings WHERE file = ?", (it.file,))
     if counts is not None:
-        catalogue.base.execute("UPDATE files SET records = ? WHERE file = ?", (counts[0], file))
-        catalogue.base.execute(
-            "INSERT INTO readings (file, run, read_on, size, modified, changed, inode, records, good, unchecked, bad,"
-            " no_bytes, bytes, damaged, payloads_good, payloads_unchecked, payloads_bad)"
-            " VALUES (?, ?, ?, ?, ?, ?, ?, ?, ?, ?, ?, ?, ?, ?, ?, ?, ?)",
-            (file, run, now(), stamp.size, stamp.modified, stamp.changed, stamp.inode, *counts),
-        )
+        catalogue.base.execute("UPDATE files SET records = ? WHERE file = ?", (counts[0], it.file))
+        about = {"file": it.file, "run": it.run, "read_on": now(), **dataclasses.asdict(it.stamp)}
+        found = {"found_state": it.state, "found_detail": it.detail, "found_sha256": it.sha256}
+        catalogue.insert("readings", {**about, **dict(zip(COUNTS, counts)), **found, "is_hashed": int(is_hashed)})

@@ -72,3 +72,26 @@ def test_files_of_a_folder_that_was_replaced_before(collection: Collection) -> N
     assert "no folder" in collection.detail("a.warc")
     collection.night("disk")
     assert collection.states()["a.warc"] == "good"
+
+
+@pytest.mark.parametrize("version", VERSIONS)
+def test_what_an_earlier_version_read_is_compared(collection: Collection, version: str) -> None:
+    """By place, length, type, date, id and target alone: it kept nothing else."""
+    carry(collection, version)
+    put(collection.path("disk/cut.warc"), record(3))
+    put(collection.path("disk/a.warc"), record(1, b"ABC"), record(2, b"two"))
+    assert collection.night().returncode == 1
+    assert collection.states()["cut.warc"] == "altered"
+    assert "of 2 records, 1 is missing, the first at position 1" in collection.detail("cut.warc")
+    assert collection.states()["a.warc"] == "good", "which digest was stated wasn't known"
+
+
+def test_status_counts_what_is_compared_by_less(collection: Collection) -> None:
+    carry(collection, "catalogue-4.sql")
+    shutil.move(collection.path("disk"), collection.path("off"))
+    collection.night()
+    assert collection.status()["unhashed"] == 3
+    assert b"unhashed\t3\t" in collection.run("status").stdout
+    shutil.move(collection.path("off"), collection.path("disk"))
+    collection.night()
+    assert collection.status()["unhashed"] == 0
