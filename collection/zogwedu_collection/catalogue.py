@@ -34,7 +34,7 @@ TABLES = {
     " files_read BIGINT, seconds DOUBLE PRECISION, good BIGINT, unchecked BIGINT, bad BIGINT, no_bytes BIGINT,"
     " payloads_good BIGINT, payloads_unchecked BIGINT, payloads_bad BIGINT",
     "files": "file BIGINT PRIMARY KEY, path TEXT UNIQUE, size BIGINT, modified BIGINT, state TEXT, detail TEXT,"
-    " records BIGINT, run BIGINT, changed BIGINT, inode BIGINT, sha256 TEXT",
+    " records BIGINT, run BIGINT, changed BIGINT, inode BIGINT, sha256 TEXT, due BIGINT",
     "readings": "file BIGINT PRIMARY KEY, run BIGINT, read_on TEXT, size BIGINT, modified BIGINT, changed BIGINT,"
     " inode BIGINT, records BIGINT, good BIGINT, unchecked BIGINT, bad BIGINT, no_bytes BIGINT, bytes BIGINT,"
     " damaged BIGINT, payloads_good BIGINT, payloads_unchecked BIGINT, payloads_bad BIGINT, found_state TEXT,"
@@ -49,6 +49,8 @@ TABLES = {
     "accepted": "file BIGINT, accepted_on TEXT, who TEXT, run BIGINT, state TEXT, detail TEXT, read_on_before TEXT,"
     " size_before BIGINT, modified_before BIGINT, records_before BIGINT, sha256_before TEXT, read_on_now TEXT,"
     " size_now BIGINT, modified_now BIGINT, records_now BIGINT, sha256_now TEXT",
+    "acknowledged": "file BIGINT PRIMARY KEY, state TEXT, detail TEXT, size BIGINT, modified BIGINT, who TEXT,"
+    " acknowledged_on TEXT, note TEXT",
     "records": "file BIGINT, position BIGINT, at_offset BIGINT, length BIGINT, kind TEXT, date TEXT, id TEXT,"
     " target TEXT, hash TEXT, PRIMARY KEY (file, position)",
     "captures": "file BIGINT, position BIGINT, date TEXT, instant TEXT, kind TEXT, given BIGINT, status BIGINT,"
@@ -105,6 +107,7 @@ TO_VERSION_4 = (
 # From one of version 4, which kept no hash of a record. What wasn't known then stays unknown.
 TO_VERSION_5 = (
     "ALTER TABLE records ADD COLUMN hash TEXT",
+    "ALTER TABLE files ADD COLUMN due BIGINT",
     *("ALTER TABLE readings ADD COLUMN found_%s TEXT" % name for name in ("state", "detail", "sha256")),
     "ALTER TABLE readings ADD COLUMN is_hashed BIGINT",
     "UPDATE readings SET found_sha256 = (SELECT sha256 FROM files WHERE files.file = readings.file"

@@ -12,6 +12,8 @@ import traceback
 from typing import Callable, NoReturn, Union
 
 from . import __doc__ as about_all
+from .ages import seconds_in
+from .alarm import states_in
 from .jobs import do_jobs
 from .limits import Limits, count_of
 from .texts import Trouble, say, shown
@@ -58,6 +60,10 @@ def add_run_options(parser: argparse.ArgumentParser) -> None:
     )
     digest = "keeps the SHA-256 of each whole file, and compares it with the one that an earlier run kept"
     add("--digest", action="store_true", help=digest)
+    within = "reads again the files that were read longest ago, so many that each is read once in a time, as 30d"
+    add("--within", type=seconds_in, metavar="TIME", help=within)
+    rate = "the most bytes that all jobs of a run read in a second; K, M, G and T are powers of 1024"
+    add("--rate", type=count_of, metavar="BYTES", help=rate)
     add_program_options(parser)
 
 
@@ -75,6 +81,15 @@ def add_forms(parser: argparse.ArgumentParser, what: str) -> None:
     names = "%s ended by zero bytes, with names as they are" % what
     forms.add_argument("-0", dest="form", action="store_const", const="names", help=names)
     forms.add_argument("--json", dest="form", action="store_const", const="json", help="%s as JSON" % what)
+
+
+def add_alarm(parser: argparse.ArgumentParser) -> None:
+    """The options that say what rings."""
+    states = parser.add_mutually_exclusive_group()
+    strict = "ends with 1 for each file that isn't good"
+    states.add_argument("--strict", action="store_true", help=strict)
+    fail_on = "the states that end it with 1, with commas between them, in the place of those of severe faults"
+    states.add_argument("--fail-on", type=states_in, metavar="STATE,..", help=fail_on)
 
 
 def add_machines(parser: argparse.ArgumentParser) -> None:
@@ -101,13 +116,18 @@ def command_line() -> argparse.ArgumentParser:
     made = command("run", "reads what is new or changed, over all cores or many machines, and reports")
     add_run_options(made)
     add_machines(made)
+    add_alarm(made)
     add_run_options(command("plan", "writes the list of jobs, and prints the folder that holds it"))
     made = command("job", "does jobs of a list, by their numbers from 1")
     made.add_argument("jobs_folder", metavar="JOBS")
     made.add_argument("numbers", nargs="*", type=int, metavar="NUMBER")
-    command("load", "takes in what jobs found")
+    add_alarm(command("load", "takes in what jobs found"))
     made = command("status", "prints how many files are in each state, and those that need a look")
     add_forms(made, "the files that need a look,")
+    age = "ends with 1 too if the last run ended longer ago, as 36h or 2d"
+    add_alarm(made)
+    made.add_argument("--new", action="store_true", help="prints what is otherwise than after the run before, alone")
+    made.add_argument("--max-age", type=seconds_in, metavar="TIME", help=age)
     add_questions(command)
     add_upkeep(command)
     return parser
@@ -168,6 +188,9 @@ def add_upkeep(command: Command) -> None:
     made.add_argument("folder", metavar="FOLDER")
     made = command("accept", "takes what is in altered files now for what has to be in them")
     made.add_argument("paths", nargs="+", metavar="FILE")
+    made = command("acknowledge", "silences the states of files, until they change")
+    made.add_argument("paths", nargs="+", metavar="FILE")
+    made.add_argument("--note", default="", metavar="TEXT", help="why, for the report")
     made = command("forget", "ends the watch of folders, and forgets files that were removed on purpose")
     made.add_argument("paths", nargs="+", metavar="PATH", help="a file, or a folder with all below it")
     made = command("prune", "drops what earlier runs found of single files")

@@ -6,18 +6,21 @@ import os
 import sys
 from typing import List, Sequence
 
+from .ages import is_late
+from .alarm import Alarm, acknowledge, rings
 from .captures import Request, chosen_captures, warn_of_unknown
 from .catalogue import Catalogue
 from .compared import accept
 from .decode import Decoder
 from .export import export
 from .limits import Limits
-from .listing import all_good, capture_line, is_partly_unread, put, status_pieces
+from .listing import capture_line, is_partly_unread, put, status_pieces
 from .moves import forget_files, prune
 from .program import usable_program
 from .replay import Answer, Replayer, settled, write_body
 from .report import write_report
 from .runs import Asked, Machines, do_run, load, make_plan
+from .states import ALARMING, STATES
 from .texts import Trouble, counted, say, shown
 
 Options = argparse.Namespace
@@ -25,16 +28,21 @@ Options = argparse.Namespace
 
 def asked(options: Options) -> Asked:
     words = options.paths, options.files, options.all, options.warc, options.temporary, options.timeout, options.digest
-    return Asked(*words)
+    return Asked(*words, options.within, options.rate)
 
 
-def print_status(catalogue: Catalogue, form: str = "text") -> int:
+def alarm_of(options: Options) -> Alarm:
+    states = options.fail_on or (tuple(state for state in STATES if state != "good") if options.strict else ALARMING)
+    return Alarm(states, getattr(options, "new", False), getattr(options, "max_age", None))
+
+
+def print_status(catalogue: Catalogue, alarm: Alarm, form: str = "text") -> int:
     """Prints how the collection is, and a line for each file that needs a look. Returns the status."""
-    for piece in status_pieces(catalogue, form):
+    for piece in status_pieces(catalogue, form, alarm):
         put(piece)
     if is_partly_unread(catalogue):
         return 3
-    return 0 if all_good(catalogue) else 1
+    return 1 if rings(catalogue, alarm) or is_late(catalogue, alarm.max_age) else 0
 
 
 def write_own_report(catalogue: Catalogue) -> None:
@@ -47,7 +55,7 @@ def run_command(options: Options) -> int:
     with catalogue.locked():
         plan = do_run(catalogue, asked(options), machines)
         write_own_report(catalogue)
-    status = print_status(catalogue)
+    status = print_status(catalogue, alarm_of(options))
     return 3 if plan.is_partly_unread else status
 
 
@@ -64,11 +72,11 @@ def load_command(options: Options) -> int:
     with catalogue.locked():
         load(catalogue)
         write_own_report(catalogue)
-    return print_status(catalogue)
+    return print_status(catalogue, alarm_of(options))
 
 
 def status_command(options: Options) -> int:
-    return print_status(Catalogue(options.catalogue), options.form)
+    return print_status(Catalogue(options.catalogue), alarm_of(options), options.form)
 
 
 def find_command(options: Options) -> int:
@@ -135,6 +143,17 @@ def accept_command(options: Options) -> int:
     return 1 if left else 0
 
 
+def acknowledge_command(options: Options) -> int:
+    catalogue = Catalogue(options.catalogue)
+    with catalogue.locked():
+        paths: List[str] = [os.path.abspath(path) for path in options.paths]
+        left = [path for path in paths if not acknowledge(catalogue, path, options.note)]
+        write_own_report(catalogue)
+    for path in left:
+        say("%s has no state to be acknowledged" % shown(path))
+    return 1 if left else 0
+
+
 def prune_command(options: Options) -> int:
     catalogue = Catalogue(options.catalogue)
     if options.keep < 1:
@@ -164,6 +183,7 @@ COMMANDS = {
     "report": report_command,
     "export": export_command,
     "accept": accept_command,
+    "acknowledge": acknowledge_command,
     "forget": forget_command,
     "prune": prune_command,
 }

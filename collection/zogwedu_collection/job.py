@@ -15,6 +15,7 @@ from typing import Dict, IO, Iterator, List, Optional, Sequence, Set, Tuple
 
 from .damaged import Pieces, TooSlow, counted_pieces, good_records, patience_for
 from .disk import Stamp, open_regular, open_stamp, reason_of, stamp_of, temporary_folder
+from .pace import Pace
 from .program import Settings, said
 from .states import READ
 from .survey import split_survey
@@ -92,22 +93,31 @@ class Source:
     """What the program reads: the file itself, what it holds unpacked, or a pipe where there is no room to unpack
     it."""
 
-    def __init__(self, file: IO[bytes], temporary: Optional[str]) -> None:
+    def __init__(self, file: IO[bytes], temporary: Optional[str], pace: Pace) -> None:
         self.file = file
+        self.pace = pace
         pieces = pieces_of(file)
-        self.seekable: Optional[IO[bytes]] = file if pieces is None else unpacked(pieces, temporary_folder(temporary))
+        self.seekable: Optional[IO[bytes]] = file
+        if pieces is not None:
+            pace.take(os.fstat(file.fileno()).st_size)
+            self.seekable = unpacked(pieces, temporary_folder(temporary))
 
     def run(self, words: List[str], out: IO[bytes]) -> Tuple[int, str]:
         """Runs the program over it. Returns its exit status and its message."""
         if self.seekable is not None:
             self.seekable.seek(0)
-            done = subprocess.run(words, stdin=self.seekable, stdout=out, stderr=subprocess.PIPE, check=False)
-            return done.returncode, said(done.stderr)
+            with subprocess.Popen(words, stdin=self.seekable, stdout=out, stderr=subprocess.PIPE) as child:
+                _, message = self.pace.finish(child, self.size())
+            return child.returncode, said(message)
         with subprocess.Popen(words, stdin=subprocess.PIPE, stdout=out, stderr=subprocess.PIPE) as child:
             assert child.stdin is not None and child.stderr is not None
             self.feed(child.stdin)
             message = child.stderr.read()
         return child.returncode, said(message)
+
+    def size(self) -> int:
+        """How many bytes of the disk the program reads: none where they were unpacked."""
+        return os.fstat(self.file.fileno()).st_size if self.seekable is self.file else 0
 
     def feed(self, pipe: IO[bytes]) -> None:
         """Writes what the file holds to a pipe, until its reader goes away."""
@@ -120,12 +130,13 @@ class Source:
             self.seekable.close()
 
 
-def sha256_of(file: IO[bytes]) -> str:
+def sha256_of(file: IO[bytes], pace: Pace) -> str:
     """The SHA-256 of a whole file."""
     digest = hashlib.sha256()
     file.seek(0)
     for piece in iter(lambda: file.read(PIECE), b""):
         digest.update(piece)
+        pace.take(len(piece))
     return digest.hexdigest()
 
 
@@ -195,6 +206,8 @@ class Job:
         self.settings = settings
         self.folder = folder
         self.outcome = Outcome(path)
+        # The folder of all jobs of the run, which they share.
+        self.pace = Pace(os.path.dirname(os.path.dirname(folder)), settings.rate)
 
     def do(self) -> Outcome:
         """Does the job. Returns what came of it."""
@@ -215,10 +228,10 @@ class Job:
     def verdict_on(self, file: IO[bytes]) -> Tuple[str, str]:
         """Reads the file. Returns its state and a few words about it."""
         if self.settings.digest:
-            self.outcome.sha256 = sha256_of(file)
+            self.outcome.sha256 = sha256_of(file, self.pace)
             file.seek(0)
         try:
-            source = Source(file, self.settings.temporary)
+            source = Source(file, self.settings.temporary, self.pace)
             with contextlib.closing(source):
                 return self.judge(source)
         except Damaged as damage:
@@ -242,17 +255,20 @@ class Job:
         where = temporary_folder(self.settings.temporary)
         if source.seekable is None:
             return "no-room", "%s; no room to unpack it in %s" % (fault, where)
+        self.pace.take(source.size())
         pieces = counted_pieces(self.settings.warc, source.seekable)
         detail = "%s; %s" % (fault, pieces.told())
         if not pieces.damages:
             return "failed", detail + ", so it changed, or its disk fails"
         if pieces.good_records:
+            self.pace.take(source.size())
             seconds = patience_for(source.seekable)
             copy = unpacked(good_records(self.settings.warc, source.seekable, seconds), where)
             if copy is None:
                 return "no-room", "%s; no room to copy its good records to %s" % (detail, where)
             with copy:
-                state, words = self.judge_copy(Source(copy, self.settings.temporary), pieces)
+                unpaced = Pace(self.folder, None)
+                state, words = self.judge_copy(Source(copy, self.settings.temporary, unpaced), pieces)
             if state != "refused":
                 return state, words
             detail += words

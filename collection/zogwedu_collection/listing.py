@@ -6,6 +6,8 @@ import json
 import sys
 from typing import Any, Dict, Iterator, List, Optional, Tuple, Union
 
+from .ages import age_lines, is_late, last_end, oldest
+from .alarm import Alarm, acknowledged, looks, recovered, shown_looks
 from .captures import Capture
 from .catalogue import Catalogue
 from .states import STATES
@@ -13,18 +15,8 @@ from .texts import Stored, counted, escaped, path_bytes, real_path, shown
 from .watched import FILE, Watched, values_of, watched
 
 NO_BYTES = "revisits with the digest of no bytes, as wget writes them; they aren't counted as bad"
+ACKNOWLEDGED = "files whose state was acknowledged; it rings again when it changes"
 UNHASHED = "files that an earlier version read: a record in another's place shows by its columns in `list` alone"
-LOOK = "SELECT state, path, detail, read_on FROM files LEFT JOIN readings USING (file) WHERE state <> 'good'"
-
-
-@dataclasses.dataclass(frozen=True)
-class Look:
-    """A file that needs a look: its state and why, and when it could be read last."""
-
-    state: str
-    path: Stored
-    detail: str
-    read_on: Optional[str]
 
 
 def put(value: Union[str, bytes]) -> None:
@@ -34,11 +26,6 @@ def put(value: Union[str, bytes]) -> None:
         return
     sys.stdout.flush()
     sys.stdout.buffer.write(value)
-
-
-def looks(catalogue: Catalogue) -> List[Look]:
-    """The files that need a look."""
-    return [Look(row[0], row[1], row[2] or "", row[3]) for row in catalogue.rows(LOOK + " ORDER BY state, path")]
 
 
 def no_bytes(catalogue: Catalogue) -> int:
@@ -80,9 +67,11 @@ def is_partly_unread(catalogue: Catalogue) -> bool:
     return any(it.trouble for it in watched(catalogue))
 
 
-def status_text(catalogue: Catalogue) -> Iterator[str]:
-    """The folders, how many files there are in each state, and a line for each that needs a look."""
+def status_text(catalogue: Catalogue, alarm: Alarm) -> Iterator[str]:
+    """The folders, when they were read, how many files there are in each state, and a line for each that needs a
+    look."""
     yield from folder_lines(catalogue)
+    yield from age_lines(catalogue, alarm.max_age)
     states, empty, (records, good, bad) = catalogue.states(), no_bytes(catalogue), damaged(catalogue)
     yield from ("%s\t%d\t%s\n" % (state, states[state], about) for state, about in STATES.items() if state in states)
     if empty:
@@ -92,36 +81,53 @@ def status_text(catalogue: Catalogue) -> Iterator[str]:
         yield "damaged\t%d\t%s; beside them %s, %s\n" % (bad, *about)
     if unhashed(catalogue):
         yield "unhashed\t%d\t%s\n" % (unhashed(catalogue), UNHASHED)
-    yield from ("%s\t%s\t%s\n" % (it.state, escaped(it.path), escaped(it.detail)) for it in looks(catalogue))
+    if acknowledged(catalogue):
+        yield "acknowledged\t%d\t%s\n" % (acknowledged(catalogue), ACKNOWLEDGED)
+    yield from look_lines(catalogue, alarm)
 
 
-def status_names(catalogue: Catalogue) -> Iterator[bytes]:
+def look_lines(catalogue: Catalogue, alarm: Alarm) -> Iterator[str]:
+    """A line for each file that needs a look."""
+    return ("%s\t%s\t%s\n" % (it.state, escaped(it.path), escaped(it.detail)) for it in shown_looks(catalogue, alarm))
+
+
+def new_text(catalogue: Catalogue, alarm: Alarm) -> Iterator[str]:
+    """What is otherwise than after the run before, and nothing where all is as it was."""
+    yield from (folder_line(it) for it in watched(catalogue) if it.trouble)
+    if is_late(catalogue, alarm.max_age):
+        yield from age_lines(catalogue, alarm.max_age)
+    yield from look_lines(catalogue, alarm)
+    yield from ("good\t%s\tbefore: %s\n" % (escaped(path), before) for path, before in recovered(catalogue))
+
+
+def status_names(catalogue: Catalogue, alarm: Alarm = Alarm()) -> Iterator[bytes]:
     """A line for each file that needs a look, with its name as it is, ended by a zero byte."""
-    for it in looks(catalogue):
+    for it in shown_looks(catalogue, alarm):
         yield b"%s\t%s\t%s\0" % (it.state.encode(), path_bytes(it.path), escaped(it.detail).encode("utf-8", "replace"))
 
 
-def status_json(catalogue: Catalogue) -> str:
-    """The states, and the files that need a look, as JSON. A byte of a name that isn't UTF-8 is a lone surrogate, as
-    Python has it."""
-    files = [dict(dataclasses.asdict(it), path=real_path(it.path)) for it in looks(catalogue)]
+def status_json(catalogue: Catalogue, alarm: Alarm = Alarm()) -> str:
+    """The states, and the files that need a look, also the acknowledged ones, as JSON. A byte of a name that isn't
+    UTF-8 is a lone surrogate, as Python has it."""
+    found = [it for it in looks(catalogue) if it.is_new or not alarm.is_of_new]
+    files = [dict(dataclasses.asdict(it), path=real_path(it.path)) for it in found]
     last = catalogue.last_run()
     about: Dict[str, Any] = {"run": last.number if last else None, "states": catalogue.states()}
     about["no_bytes"], about["unhashed"] = no_bytes(catalogue), unhashed(catalogue)
     about["folders"] = [values_of(it) for it in watched(catalogue)]
+    first = oldest(catalogue)
+    about["last_run"], about["oldest"] = last_end(catalogue), first and dict(first, path=real_path(first["path"]))
     of_damaged = dict(zip(("good_records", "good_bytes", "damaged"), damaged(catalogue)))
     return json.dumps(dict(about, **of_damaged, files=files), indent=1) + "\n"
 
 
-def all_good(catalogue: Catalogue) -> bool:
-    return set(catalogue.states()) <= {"good", "grown"}
-
-
-def status_pieces(catalogue: Catalogue, form: str) -> Iterator[Union[str, bytes]]:
+def status_pieces(catalogue: Catalogue, form: str, alarm: Alarm) -> Iterator[Union[str, bytes]]:
     """What `status` prints in a form: text, names or json."""
     if form == "names":
-        return status_names(catalogue)
-    return iter([status_json(catalogue)]) if form == "json" else status_text(catalogue)
+        return status_names(catalogue, alarm)
+    if form == "json":
+        return iter([status_json(catalogue, alarm)])
+    return new_text(catalogue, alarm) if alarm.is_of_new else status_text(catalogue, alarm)
 
 
 def capture_cells(it: Capture) -> List[Any]:

@@ -10,7 +10,7 @@ from .states import ABOUT_BYTES, READ, as_list
 from .texts import real_path
 from .watched import end_watch, watched
 
-ABOUT_A_FILE = (*OF_A_FILE, "readings", "checks", "counts", "changes", "accepted", "files")
+ABOUT_A_FILE = (*OF_A_FILE, "readings", "checks", "counts", "changes", "accepted", "acknowledged", "files")
 COLUMNS = {"records": "position, at_offset, length, kind, date, id, target", "digests": "position, verdict, id, digest"}
 
 

@@ -17,14 +17,15 @@ MOST_SECONDS = 60
 
 @dataclasses.dataclass(frozen=True)
 class Settings:
-    """How the files are read: by which program, where they are unpacked, in which time (seconds), and whether the
-    SHA-256 of each whole file is kept."""
+    """How the files are read: by which program, where they are unpacked, in which time (seconds), whether the SHA-256
+    of each whole file is kept, and how many bytes all jobs together read in a second."""
 
     warc: str
     version: str
     temporary: Optional[str] = None
     timeout: Optional[float] = None
     digest: bool = False
+    rate: Optional[int] = None
 
 
 class BadDate(Trouble):

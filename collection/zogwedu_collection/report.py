@@ -7,9 +7,10 @@ import pkgutil
 import string
 from typing import Counter, Dict, List, Tuple
 
+from .alarm import looks
 from .catalogue import Catalogue
 from .disk import written
-from .listing import LOOK, no_bytes, status_json, status_names
+from .listing import no_bytes, status_json, status_names
 from .markup import Columns, bar, chip, folded, grouped, legend, path_cell, plain_time, quoted, section, sized, table
 from .states import READ, STATES
 from .texts import escaped, now, stored_path
@@ -188,15 +189,15 @@ def change_section(catalogue: Catalogue, run: int) -> str:
 
 
 def look_section(catalogue: Catalogue) -> str:
-    query = LOOK + " ORDER BY state = 'gone', state = 'findings', state, path LIMIT %d" % MOST_SHOWN
-    rows = [
-        (
-            chip(state),
-            path_cell(path),
-            quoted(detail) + (", read on " + read_on if read_on and state not in READ else ""),
-        )
-        for state, path, detail, read_on in catalogue.rows(query)
-    ]
+    order = "files.state = 'gone', files.state = 'findings', files.state, path LIMIT %d" % MOST_SHOWN
+    rows = []
+    for it in looks(catalogue, order=order):
+        read = ", read on " + it.read_on if it.read_on and it.state not in READ else ""
+        words = [quoted(it.detail) + read] if it.detail or read else []
+        if it.acknowledged_on is not None:
+            by = "acknowledged by %s on %s" % (it.acknowledged_by, it.acknowledged_on)
+            words.append("<i>%s</i>" % quoted(by + (": " + it.note if it.note else "")))
+        rows.append((chip(it.state), path_cell(it.path), "; ".join(words)))
     total = catalogue.one("SELECT count(*) FROM files WHERE state <> 'good'")[0]
     inside = folded(("State", "File", "Why"), rows, total, "None.")
     return section("Files that need a look", "What was found of each.", inside)

@@ -13,6 +13,7 @@ import subprocess
 import sys
 from typing import Iterator, List, Optional, Sequence
 
+from .ages import note_due, told_due
 from .catalogue import Catalogue, Run
 from .discover import files_to_do, found_files, note_changes
 from .jobs import write_jobs
@@ -47,11 +48,13 @@ class Asked:
     temporary: Optional[str] = None
     timeout: Optional[float] = None
     digest: bool = False
+    within: Optional[int] = None
+    rate: Optional[int] = None
 
     def settings(self) -> Settings:
         warc = program_path(self.warc)
         temporary = None if self.temporary is None else os.path.abspath(self.temporary)
-        return Settings(warc, version_of(warc), temporary, self.timeout, self.digest)
+        return Settings(warc, version_of(warc), temporary, self.timeout, self.digest, self.rate)
 
 
 @dataclasses.dataclass(frozen=True)
@@ -93,6 +96,9 @@ def make_plan(catalogue: Catalogue, asked: Asked) -> Plan:
         found = found_files(whole)
         note_changes(catalogue, run.number, found, whole)
         note_reading(catalogue, found.troubles())
+        if asked.within is not None:
+            note_due(catalogue, run, found.files, asked.within)
+            say(told_due(catalogue, run, found.files))
         chosen = files_to_do(catalogue, run, found, asked.digest)
         catalogue.base.execute("UPDATE runs SET attempts = attempts + 1 WHERE run = ?", (run.number,))
         attempt = catalogue.one("SELECT attempts FROM runs WHERE run = ?", (run.number,))[0]

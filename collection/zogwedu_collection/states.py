@@ -17,6 +17,11 @@ STATES = {
     "unread": "not read yet",
     "gone": "isn't there any more",
 }
+# What the alarm rings for, if nothing else is asked. The others are said, and are no reason to get up.
+ALARMING = (
+    *("altered", "bad", "rotten", "refused", "gunzip"),
+    *("gone", "failed", "no-room", "unread"),
+)
 # The rows of such a reading replace those of the one before. So do those of the good records of a refused file.
 READ = ("good", "grown", "findings", "unchecked", "bad")
 # States that say something of the bytes of a file, and not of the machine that read it.
