@@ -15,7 +15,6 @@ from .states import READ, as_list
 from .texts import Stored, Trouble, say, shown, stored_path
 
 VERSION = 5
-MANY_FILES = 100
 CACHE_KIB = 1_000_000
 # How long a question waits for the end of a transaction, and a run for a reader before it says that it waits.
 BUSY_SECONDS = 600.0
@@ -34,11 +33,12 @@ TABLES = {
     " files_read BIGINT, seconds DOUBLE PRECISION, good BIGINT, unchecked BIGINT, bad BIGINT, no_bytes BIGINT,"
     " payloads_good BIGINT, payloads_unchecked BIGINT, payloads_bad BIGINT",
     "files": "file BIGINT PRIMARY KEY, path TEXT UNIQUE, size BIGINT, modified BIGINT, state TEXT, detail TEXT,"
-    " records BIGINT, run BIGINT, changed BIGINT, inode BIGINT, sha256 TEXT, due BIGINT",
+    " records BIGINT, run BIGINT, changed BIGINT, inode BIGINT, sha256 TEXT, due BIGINT,"
+    " seen BIGINT",
     "readings": "file BIGINT PRIMARY KEY, run BIGINT, read_on TEXT, size BIGINT, modified BIGINT, changed BIGINT,"
     " inode BIGINT, records BIGINT, good BIGINT, unchecked BIGINT, bad BIGINT, no_bytes BIGINT, bytes BIGINT,"
     " damaged BIGINT, payloads_good BIGINT, payloads_unchecked BIGINT, payloads_bad BIGINT, found_state TEXT,"
-    " found_detail TEXT, found_sha256 TEXT, is_hashed BIGINT",
+    " found_detail TEXT, found_sha256 TEXT, is_hashed BIGINT, seen BIGINT",
     "checks": "run BIGINT, file BIGINT, size BIGINT, modified BIGINT, state TEXT, detail TEXT, host TEXT,"
     " seconds DOUBLE PRECISION, list_status BIGINT, fixity_status BIGINT, check_status BIGINT,"
     " summary_status BIGINT, captures_status BIGINT, sha256 TEXT, good_records BIGINT, good_bytes BIGINT,"
@@ -108,6 +108,7 @@ TO_VERSION_4 = (
 TO_VERSION_5 = (
     "ALTER TABLE records ADD COLUMN hash TEXT",
     "ALTER TABLE files ADD COLUMN due BIGINT",
+    *("ALTER TABLE %s ADD COLUMN seen BIGINT" % table for table in ("files", "readings")),
     *("ALTER TABLE readings ADD COLUMN found_%s TEXT" % name for name in ("state", "detail", "sha256")),
     "ALTER TABLE readings ADD COLUMN is_hashed BIGINT",
     "UPDATE readings SET found_sha256 = (SELECT sha256 FROM files WHERE files.file = readings.file"
@@ -151,7 +152,8 @@ class Known:
 ABOUT_ROWS = "coalesce(damaged, 0), state IN (%s) OR (state = 'refused' AND readings.run IS files.run)" % as_list(READ)
 KNOWN = (
     "SELECT files.file, path, state, detail, readings.run, read_on, readings.size, readings.modified, readings.changed,"
-    " readings.inode, readings.records, bytes, %s FROM files LEFT JOIN readings USING (file) WHERE " % ABOUT_ROWS
+    " readings.inode, readings.seen, readings.records, bytes, %s FROM files LEFT JOIN readings USING (file) WHERE "
+    % ABOUT_ROWS
 )
 
 
@@ -163,10 +165,9 @@ def mark_of(damaged: int, is_fresh: bool, read_on: Optional[str]) -> Optional[st
 
 def known_file(row: Sequence[Any]) -> Known:
     """A file as a row of KNOWN has it."""
-    stamp = None if None in row[6:10] else Stamp(*row[6:10])
-    return Known(
-        row[0], row[1], row[2], row[3] or "", row[4], row[5], stamp, row[10] or 0, row[11], row[12], bool(row[13])
-    )
+    stamp = None if None in row[6:10] else Stamp(*row[6:11])
+    about = row[4], row[5], stamp, row[11] or 0, row[12], row[13], bool(row[14])
+    return Known(row[0], row[1], row[2], row[3] or "", *about)
 
 
 def is_busy(error: sqlite3.OperationalError) -> bool:
@@ -229,11 +230,12 @@ class Catalogue:
             self.base.execute("PRAGMA user_version = %d" % VERSION)
 
     def missing(self) -> Iterator[str]:
-        """What makes the tables and the small indexes, where they aren't there."""
+        """What makes the tables and the indexes, where they aren't there. The indexes always stay: without them a
+        question that somebody asks during a run reads all rows."""
         for name, columns in TABLES.items():
             ending = " WITHOUT ROWID" if name in OF_A_FILE else ""
             yield "CREATE TABLE IF NOT EXISTS %s (%s)%s" % (name, columns, ending)
-        yield from ("CREATE INDEX IF NOT EXISTS " + index for index in SMALL_INDEXES)
+        yield from ("CREATE INDEX IF NOT EXISTS " + index for index in (*SMALL_INDEXES, *INDEXES))
 
     def bring_up_to_date(self) -> bool:
         """Changes the tables of an older catalogue. Returns whether it is one."""
@@ -243,19 +245,6 @@ class Catalogue:
             for statement in steps if version < later else ():
                 self.base.execute(statement)
         return bool(version < VERSION)
-
-    def make_indexes(self) -> None:
-        with self.transaction():
-            for index in INDEXES:
-                self.base.execute("CREATE INDEX IF NOT EXISTS " + index)
-
-    def expect(self, count: int) -> None:
-        """Drops the indexes where it is faster to make them again after this number of files is loaded."""
-        if count < MANY_FILES or 4 * count < self.one("SELECT count(*) FROM files")[0]:
-            return
-        with self.transaction():
-            for index in INDEXES:
-                self.base.execute("DROP INDEX IF EXISTS " + index.split()[0])
 
     def patiently(self, statement: str) -> None:
         """Does a statement that has to wait for readers, however long they take."""

@@ -171,12 +171,12 @@ def files_to_do(catalogue: Catalogue, run: Run, found: Found, is_digested: bool)
     """The files that are new, changed or not read yet, or in a run over all files those that it has not done; where the
     digests of whole files are kept, also those without one. Largest first."""
     chosen: List[Tuple[int, str]] = []
-    query = "SELECT file, path, size, modified, changed, inode, state, run, sha256, due FROM files"
-    for file, path, size, modified, changed, inode, state, last, sha256, due in catalogue.rows(query):
+    query = "SELECT size, modified, changed, inode, seen, file, path, state, run, sha256, due FROM files"
+    for *seen, file, path, state, last, sha256, due in catalogue.rows(query):
         stamp = found.files.get(real_path(path))
         if stamp is None:
             continue
-        is_same = (stamp.size, stamp.modified, stamp.changed, stamp.inode) == (size, modified, changed, inode)
+        is_same = None not in seen[:4] and Stamp(*seen).is_of(stamp)
         is_done = is_same and last == run.number and state not in ("unread", "gone")
         is_known = is_same and state not in TRIED_AGAIN and (not is_digested or sha256 is not None)
         is_known = is_known and due != run.number

@@ -9,23 +9,40 @@ import os
 import re
 import stat
 import tempfile
+import time
 from typing import IO, Iterator, Optional
 
 LOCAL_DISKS = ("bcachefs", "btrfs", "ext2", "ext3", "ext4", "f2fs", "jfs", "tmpfs", "xfs", "zfs")
 
 
+# A file that was modified so many nanoseconds before it was seen may be modified again in what its disk takes for the
+# same moment: FAT has two seconds.
+DOUBTFUL = 2 * 10**9
+
+
 @dataclasses.dataclass(frozen=True)
 class Stamp:
-    """What shows that a file is the same as before: its size, its last changes in nanoseconds, its inode."""
+    """What shows that a file is the same as before: its size, its last changes in nanoseconds, its inode; and when that
+    was seen, where that is known."""
 
     size: int
     modified: int
     changed: int
     inode: int
+    seen: Optional[int] = dataclasses.field(default=None, compare=False)
+
+    def is_of(self, now: Stamp) -> bool:
+        """Whether a file that had this stamp is still the same. Its size and the time of its modification decide: a
+        hard link, another owner or another mount change the rest. The rest decides where the file was modified just
+        before it was seen, or where it isn't known when that was."""
+        is_same = (self.size, self.modified) == (now.size, now.modified)
+        is_doubtful = self.seen is None or self.modified > self.seen - DOUBTFUL
+        return is_same and (not is_doubtful or (self.changed, self.inode) == (now.changed, now.inode))
 
 
 def stamp_of(status: os.stat_result) -> Stamp:
-    return Stamp(status.st_size, *map(signed, (status.st_mtime_ns, status.st_ctime_ns, status.st_ino)))
+    numbers = status.st_mtime_ns, status.st_ctime_ns, status.st_ino, time.time_ns()
+    return Stamp(status.st_size, *map(signed, numbers))
 
 
 def signed(number: int) -> int:

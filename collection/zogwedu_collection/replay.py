@@ -114,7 +114,7 @@ def check(known: Known, stamp: Stamp) -> None:
     """Refuses a file that isn't the one that was read."""
     if known.state == "rotten":
         raise Trouble("%s doesn't have the bytes that run %s read" % (escaped(known.path), known.read_run))
-    if stamp != known.stamp:
+    if known.stamp is None or not known.stamp.is_of(stamp):
         run = "" if known.read_run is None else " since run %d read it" % known.read_run
         raise Trouble("%s changed%s: run again" % (escaped(known.path), run))
 

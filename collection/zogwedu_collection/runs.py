@@ -171,14 +171,12 @@ def do_in_parallel(catalogue: Catalogue, machines: Machines, plan: Plan) -> None
     """Has GNU parallel do the jobs, and takes in what is done meanwhile."""
     try:
         with in_parallel(machines, plan) as child:
-            catalogue.expect(plan.count)
             while child.poll() is None:
                 take_in(catalogue, plan.run, plan.folder)
                 with contextlib.suppress(subprocess.TimeoutExpired):
                     child.wait(1)
     except KeyboardInterrupt:
         take_in(catalogue, plan.run, plan.folder)
-        catalogue.make_indexes()
         raise Trouble("stopped; run it again to go on") from None
 
 

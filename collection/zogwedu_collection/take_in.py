@@ -101,9 +101,7 @@ def names_in(folder: str) -> List[str]:
 
 def end_run(catalogue: Catalogue, run: int, folder: str) -> int:
     """Ends a run whose jobs are all done. Returns how many aren't."""
-    catalogue.expect(len(names_in(os.path.join(folder, "done"))))
     take_in(catalogue, run, folder)
-    catalogue.make_indexes()
     try:
         paths = listed_jobs(folder)
     except (OSError, ValueError) as error:
@@ -255,8 +253,8 @@ def note_state(catalogue: Catalogue, run: int, before: Before, outcome: Outcome)
     if outcome.state == "rotten" or (sha256 is None and before.has_same_time(stamp)):
         sha256 = before.sha256
     put(
-        "UPDATE files SET size = ?, modified = ?, changed = ?, inode = ?, sha256 = ? WHERE file = ?",
-        (stamp.size, stamp.modified, stamp.changed, stamp.inode, sha256, file),
+        "UPDATE files SET size = ?, modified = ?, changed = ?, inode = ?, seen = ?, sha256 = ? WHERE file = ?",
+        (*dataclasses.astuple(stamp), sha256, file),
     )
 
 
