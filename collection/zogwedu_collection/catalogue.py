@@ -34,7 +34,7 @@ TABLES = {
     " payloads_good BIGINT, payloads_unchecked BIGINT, payloads_bad BIGINT",
     "files": "file BIGINT PRIMARY KEY, path TEXT UNIQUE, size BIGINT, modified BIGINT, state TEXT, detail TEXT,"
     " records BIGINT, run BIGINT, changed BIGINT, inode BIGINT, sha256 TEXT, due BIGINT,"
-    " seen BIGINT",
+    " seen BIGINT, state_there TEXT, detail_there TEXT",
     "readings": "file BIGINT PRIMARY KEY, run BIGINT, read_on TEXT, size BIGINT, modified BIGINT, changed BIGINT,"
     " inode BIGINT, records BIGINT, good BIGINT, unchecked BIGINT, bad BIGINT, no_bytes BIGINT, bytes BIGINT,"
     " damaged BIGINT, payloads_good BIGINT, payloads_unchecked BIGINT, payloads_bad BIGINT, found_state TEXT,"
@@ -108,6 +108,7 @@ TO_VERSION_4 = (
 TO_VERSION_5 = (
     "ALTER TABLE records ADD COLUMN hash TEXT",
     "ALTER TABLE files ADD COLUMN due BIGINT",
+    *("ALTER TABLE files ADD COLUMN %s_there TEXT" % name for name in ("state", "detail")),
     *("ALTER TABLE %s ADD COLUMN seen BIGINT" % table for table in ("files", "readings")),
     *("ALTER TABLE readings ADD COLUMN found_%s TEXT" % name for name in ("state", "detail", "sha256")),
     "ALTER TABLE readings ADD COLUMN is_hashed BIGINT",

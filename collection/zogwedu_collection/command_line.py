@@ -60,6 +60,8 @@ def add_run_options(parser: argparse.ArgumentParser) -> None:
     )
     digest = "keeps the SHA-256 of each whole file, and compares it with the one that an earlier run kept"
     add("--digest", action="store_true", help=digest)
+    missing = "takes files for gone that aren't there, however many of a folder"
+    add("--allow-missing", action="store_true", help=missing)
     within = "reads again the files that were read longest ago, so many that each is read once in a time, as 30d"
     add("--within", type=seconds_in, metavar="TIME", help=within)
     rate = "the most bytes that all jobs of a run read in a second; K, M, G and T are powers of 1024"

@@ -28,7 +28,7 @@ Options = argparse.Namespace
 
 def asked(options: Options) -> Asked:
     words = options.paths, options.files, options.all, options.warc, options.temporary, options.timeout, options.digest
-    return Asked(*words, options.within, options.rate)
+    return Asked(*words, options.within, options.rate, options.allow_missing)
 
 
 def alarm_of(options: Options) -> Alarm:

@@ -6,7 +6,7 @@ import dataclasses
 import errno
 import itertools
 import os
-from typing import Dict, Iterable, Iterator, List, Optional, Sequence, Tuple
+from typing import Dict, Iterable, Iterator, List, Optional, Sequence, Set, Tuple
 
 from .catalogue import Catalogue, Run
 from .disk import Stamp, is_regular, stamp_of
@@ -16,6 +16,9 @@ from .watched import LIST, NOT_THERE, Watched
 
 SUFFIXES = (b".warc", b".warc.gz", b".warc.zst")
 # What the system says of a file that isn't there. Of any other error nothing follows.
+# A run asks before it takes more files of a folder for gone than this, and than one of so many of them.
+MOST_GONE = 10
+MOST_PART = 10
 NO_FILE = (errno.ENOENT, errno.ENOTDIR)
 UNWATCHED = "no folder and no list of the collection has it: forget it, or run its folder"
 
@@ -111,21 +114,33 @@ def is_below(path: str, folders: Iterable[str]) -> bool:
 
 @dataclasses.dataclass(frozen=True)
 class Listed:
-    """A file as the catalogue has it."""
+    """A file as the catalogue has it: also what it was when it was there last, if it is gone."""
 
     file: int
     path: str
     state: str
+    detail: str
+    stamp: Optional[Stamp]
+    state_there: Optional[str]
+    detail_there: Optional[str]
 
 
 def listed(catalogue: Catalogue) -> Dict[str, Listed]:
     """The files of the catalogue by their paths."""
-    rows = catalogue.rows("SELECT file, path, state FROM files")
-    return {real_path(path): Listed(file, real_path(path), state) for file, path, state in rows}
+    query = (
+        "SELECT file, path, state, detail, size, modified, changed, inode, seen, state_there, detail_there FROM files"
+    )
+    found = {}
+    for file, path, state, detail, *seen, state_there, detail_there in catalogue.rows(query):
+        stamp = None if None in seen[:4] else Stamp(*seen)
+        it = Listed(file, real_path(path), state, detail or "", stamp, state_there, detail_there)
+        found[it.path] = it
+    return found
 
 
-def note_changes(catalogue: Catalogue, run: int, found: Found, whole: Sequence[Watched]) -> None:
-    """Adds new files to the catalogue, and marks those that aren't there any more, or that nothing has any more."""
+def note_changes(catalogue: Catalogue, run: int, found: Found, whole: Sequence[Watched], may_be_missing: bool) -> None:
+    """Adds new files to the catalogue, and marks those that aren't there any more, that nothing has any more, or that
+    are back."""
     known, paths = listed(catalogue), plain_paths(whole)
     found.missing = {name: listed_in for name, listed_in in found.missing.items() if name not in known}
     number = catalogue.one("SELECT coalesce(max(file), 0) FROM files")[0]
@@ -134,22 +149,71 @@ def note_changes(catalogue: Catalogue, run: int, found: Found, whole: Sequence[W
         "INSERT INTO files (file, path, state, detail) VALUES (?, ?, 'unread', '')",
         ((number + place, stored_path(path)) for place, path in enumerate(new, 1)),
     )
+    lost = [it for it in known.values() if it.state != "gone" and is_lost(it.path, found, paths)]
+    kept: Set[str] = set() if may_be_missing else too_many(lost, known, found, paths, new)
+    gone = {it.path for it in lost} - kept
     for it in known.values():
-        if is_lost(it.path, found, paths):
+        if it.path in gone:
             mark(catalogue, run, it, "gone")
-        elif it.state != "gone" and is_unwatched(it.path, found, whole):
+        elif it.state == "gone":
+            bring_back(catalogue, run, it, found)
+        elif is_unwatched(it.path, found, whole):
             mark(catalogue, run, it, "unread", UNWATCHED)
 
 
+def too_many(
+    lost: Sequence[Listed], known: Dict[str, Listed], found: Found, paths: Sequence[str], new: Sequence[str]
+) -> Set[str]:
+    """The files whose states stay, since more than a tenth of a folder's files aren't there: that is a mount which is
+    missing rather than files which were removed. A file that seems to have been moved isn't one of them."""
+    moved = {(os.path.basename(path), size_of(found, path)) for path in new}
+    away = [it for it in lost if (os.path.basename(it.path), it.stamp and it.stamp.size) not in moved]
+    kept: Set[str] = set()
+    for folder in paths:
+        here = [it.path for it in away if is_below(it.path, [folder])]
+        count = sum(it.state != "gone" and is_below(it.path, [folder]) for it in known.values())
+        if len(here) > MOST_GONE and MOST_PART * len(here) > count:
+            found.unread[folder] = "%d of its %s aren't there: see --allow-missing" % (
+                len(here),
+                counted(count, "file"),
+            )
+            say("%s: %s" % (shown(folder), found.unread[folder]))
+            kept.update(here)
+    return kept
+
+
+def size_of(found: Found, path: str) -> Optional[int]:
+    """The size of a file that was found."""
+    stamp = found.files.get(path)
+    return None if stamp is None else stamp.size
+
+
 def mark(catalogue: Catalogue, run: int, it: Listed, state: str, detail: str = "") -> None:
-    """Gives a file a state that no reading gave it, and notes the change."""
+    """Gives a file a state that no reading gave it, and notes the change, and what it was before."""
     if it.state == state:
         return
-    catalogue.base.execute("UPDATE files SET state = ?, detail = ? WHERE file = ?", (state, detail, it.file))
+    values = (state, detail, it.state, it.detail, it.file)
+    change = "UPDATE files SET state = ?, detail = ?, state_there = ?, detail_there = ? WHERE file = ?"
+    catalogue.base.execute(change, values)
+    put_change(catalogue, run, it, "gone" if state == "gone" else "same", state)
+
+
+def put_change(catalogue: Catalogue, run: int, it: Listed, change: str, state: str) -> None:
+    """Notes how a file changed."""
     catalogue.base.execute(
         "INSERT OR REPLACE INTO changes (run, file, change, state_before, state_after) VALUES (?, ?, ?, ?, ?)",
-        (run, it.file, "gone" if state == "gone" else "same", it.state, state),
+        (run, it.file, change, it.state, state),
     )
+
+
+def bring_back(catalogue: Catalogue, run: int, it: Listed, found: Found) -> None:
+    """Gives a file that was gone the state that it had, if it is back and the same."""
+    there = found.files.get(it.path)
+    if there is None or it.stamp is None or it.state_there is None or not it.stamp.is_of(there):
+        return
+    values = (it.state_there, it.detail_there or "", it.file)
+    catalogue.base.execute("UPDATE files SET state = ?, detail = ? WHERE file = ?", values)
+    put_change(catalogue, run, it, "back", it.state_there)
 
 
 def is_lost(path: str, found: Found, paths: Sequence[str]) -> bool:

@@ -50,6 +50,7 @@ class Asked:
     digest: bool = False
     within: Optional[int] = None
     rate: Optional[int] = None
+    may_be_missing: bool = False
 
     def settings(self) -> Settings:
         warc = program_path(self.warc)
@@ -94,7 +95,7 @@ def make_plan(catalogue: Catalogue, asked: Asked) -> Plan:
             raise Trouble("name the folders of the collection")
         run = begin_run(catalogue, asked.is_over_all)
         found = found_files(whole)
-        note_changes(catalogue, run.number, found, whole)
+        note_changes(catalogue, run.number, found, whole, asked.may_be_missing)
         note_reading(catalogue, found.troubles())
         if asked.within is not None:
             note_due(catalogue, run, found.files, asked.within)
