@@ -91,7 +91,6 @@ TRIALS = (
     *("tests/stress/collection.py", "tests/stress/collection_faults.py", "tests/stress/collection_trial.py"),
     *("--follow-imports=skip", "--ignore-missing-imports"),
 )
-<<<<<<< HEAD
 AROUND = (
     *("tests/page/test_page.py", "tests/page/test_served.py", "tests/page/listener.py", "tests/page/pieces.py"),
     "tests/stress/zwarc.py",
@@ -101,10 +100,7 @@ UNIT = (
     *("tests/standin/warc.py", "tests/reference/warc_reference.py", "tests/stress/collection_trial.py"),
     *("tools/build_page.py", "tools/build.py", "tools/shared.py", *scripts("tests/unit")),
 )
-=======
-ROWS = "tests/stress/collection_rows.py"
 NIGHTS = (*scripts("tests/collection"), *scripts("tests/collection/standin"))
->>>>>>> 7919a673 (Add folders to a collection in place of replacing them)
 SERVER = tuple(f"tests/stress/{name}.py" for name in ("serve", "serve_trial", "memento_client"))
 
 # Debian's programs work with Debian's Python, so each is called by its own name, and finds Debian's modules.
@@ -143,17 +139,13 @@ CHECKS = [
     Check("types of collection/", (*TYPES, *COLLECTION)),
     Check("types of tests/stress/collection*.py", (*TYPES, *TRIALS)),
     Check("types of the trials of the server", (*TYPES, *SERVER, TRIALS[2])),
-<<<<<<< HEAD
     Check(
         "types of tests/around",
         ("mypy", "--strict", "--follow-imports=silent", *scripts("tests/around"), *AROUND),
         files=PYTEST,
     ),
     Check("types of tests/unit", (*TYPES, *COLLECTION, *UNIT), files=(*HYPOTHESIS, *PYTEST)),
-=======
-    Check("types of tests/stress/collection_rows.py", (*TYPES, *UNTYPED_CALLS, *COLLECTION, ROWS), ("hypothesis",)),
-    Check("types of tests/collection", (*TYPES, *NIGHTS), ("pytest",)),
->>>>>>> 7919a673 (Add folders to a collection in place of replacing them)
+    Check("types of tests/collection", (*TYPES, *COLLECTION, *NIGHTS), files=PYTEST),
     Check("layout of collection/", (*LAYOUT, "collection")),
     Check("types of the page", ("tsc", "-p", "page")),
     Check("types of the page's workers", ("tsc", "-p", "page/tsconfig.worker.json")),

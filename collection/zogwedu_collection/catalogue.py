@@ -280,15 +280,21 @@ class Catalogue:
 
     @contextlib.contextmanager
     def savepoint(self) -> Iterator[None]:
-        """A part of a transaction that is undone where it fails."""
+        """A part of a transaction that is undone where it fails. Where a disk is full SQLite undoes all itself."""
         self.base.execute("SAVEPOINT part")
         try:
             yield
         except BaseException:
-            self.base.execute("ROLLBACK TO part")
+            if self.base.in_transaction:
+                self.base.execute("ROLLBACK TO part")
+                self.base.execute("RELEASE part")
             raise
-        finally:
-            self.base.execute("RELEASE part")
+        self.base.execute("RELEASE part")
+
+    def keep_temporary(self, folder: str) -> None:
+        """Has SQLite keep its temporary files in a folder, as far as it can be told."""
+        with contextlib.suppress(sqlite3.Error):
+            self.base.execute("PRAGMA temp_store_directory = '%s'" % folder.replace("'", "''"))
 
     def rows(self, query: str, values: Sequence[Any] = ()) -> List[Tuple[Any, ...]]:
         return self.base.execute(query, values).fetchall()

@@ -16,6 +16,7 @@ from .ages import seconds_in
 from .alarm import states_in
 from .jobs import do_jobs
 from .limits import Limits, count_of
+from .space import full_folders
 from .texts import Trouble, say, shown
 
 Options = argparse.Namespace
@@ -66,13 +67,15 @@ def add_run_options(parser: argparse.ArgumentParser) -> None:
     add("--within", type=seconds_in, metavar="TIME", help=within)
     rate = "the most bytes that all jobs of a run read in a second; K, M, G and T are powers of 1024"
     add("--rate", type=count_of, metavar="BYTES", help=rate)
-    add_program_options(parser)
+    unpacked = "bytes that the jobs of a machine unpack at once, 16G without it; K, M, G and T are powers of 1024"
+    add("--unpacked", type=count_of, metavar="BYTES", default=Limits.unpacked, help=unpacked)
+    add_program_options(parser, "a folder of the catalogue")
 
 
-def add_program_options(parser: argparse.ArgumentParser) -> None:
+def add_program_options(parser: argparse.ArgumentParser, default: str = "TMPDIR or /tmp") -> None:
     program = "the program; without it the one beside this script or in PATH"
     parser.add_argument("--warc", metavar="PROGRAM", help=program)
-    folder = "where compressed files are unpacked; TMPDIR or /tmp without it"
+    folder = "where compressed files are unpacked; %s without it" % default
     parser.add_argument("--temporary", metavar="FOLDER", help=folder)
 
 
@@ -218,18 +221,21 @@ def done(options: Options) -> int:
     except BrokenPipeError:
         pass
     except (OSError, sqlite3.Error, MemoryError) as error:
-        say(sentence(error))
+        say(sentence(error, options.catalogue))
     except Exception as error:  # a fault of this program
         say("%s: %s" % (type(error).__name__, error))
         traceback.print_exc()
     return 3
 
 
-def sentence(error: Union[OSError, sqlite3.Error, MemoryError]) -> str:
+def sentence(error: Union[OSError, sqlite3.Error, MemoryError], folder: str) -> str:
     if isinstance(error, OSError):
         name = "" if error.filename is None else "%s: " % shown(os.fsdecode(error.filename))
         return name + (error.strerror or str(error))
-    return "the catalogue: %s" % error if isinstance(error, sqlite3.Error) else "out of memory"
+    if not isinstance(error, sqlite3.Error):
+        return "out of memory"
+    full = full_folders([folder, os.path.join(folder, "temporary")]) if "full" in str(error) else []
+    return "; ".join(["the catalogue: %s" % error, *("%s is nearly full" % shown(it) for it in full)])
 
 
 def close_output() -> None:

@@ -28,7 +28,8 @@ Options = argparse.Namespace
 
 def asked(options: Options) -> Asked:
     words = options.paths, options.files, options.all, options.warc, options.temporary, options.timeout, options.digest
-    return Asked(*words, options.within, options.rate, options.allow_missing)
+    how = options.within, options.rate, options.allow_missing, options.unpacked
+    return Asked(*words, *how, getattr(options, "jobs", None))
 
 
 def alarm_of(options: Options) -> Alarm:

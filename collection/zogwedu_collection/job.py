@@ -17,10 +17,11 @@ from .damaged import Pieces, TooSlow, counted_pieces, good_records, patience_for
 from .disk import Stamp, open_regular, open_stamp, reason_of, stamp_of, temporary_folder
 from .pace import Pace
 from .program import Settings, said
+from .space import Room
 from .states import READ
 from .survey import split_survey
 from .texts import counted
-from .unpack import PIECE, Damaged, pieces_of, unpacked
+from .unpack import PIECE, Damaged, Unsupported, pieces_of, unpacked
 
 # The words of each command, by the name of what it writes, and the statuses with which it is done.
 COMMANDS = {
@@ -93,14 +94,15 @@ class Source:
     """What the program reads: the file itself, what it holds unpacked, or a pipe where there is no room to unpack
     it."""
 
-    def __init__(self, file: IO[bytes], temporary: Optional[str], pace: Pace) -> None:
+    def __init__(self, file: IO[bytes], temporary: str, pace: Pace, room: Room) -> None:
         self.file = file
         self.pace = pace
+        self.room = room
         pieces = pieces_of(file)
         self.seekable: Optional[IO[bytes]] = file
         if pieces is not None:
             pace.take(os.fstat(file.fileno()).st_size)
-            self.seekable = unpacked(pieces, temporary_folder(temporary))
+            self.seekable = unpacked(pieces, temporary, room)
 
     def run(self, words: List[str], out: IO[bytes]) -> Tuple[int, str]:
         """Runs the program over it. Returns its exit status and its message."""
@@ -128,6 +130,7 @@ class Source:
     def close(self) -> None:
         if self.seekable is not None and self.seekable is not self.file:
             self.seekable.close()
+        self.room.release()
 
 
 def sha256_of(file: IO[bytes], pace: Pace) -> str:
@@ -206,8 +209,10 @@ class Job:
         self.settings = settings
         self.folder = folder
         self.outcome = Outcome(path)
-        # The folder of all jobs of the run, which they share.
-        self.pace = Pace(os.path.dirname(os.path.dirname(folder)), settings.rate)
+        jobs = os.path.dirname(os.path.dirname(folder))  # the folder of all jobs of the run
+        self.pace = Pace(jobs, settings.rate)
+        self.room = Room(jobs, settings.unpacked, settings.jobs or os.cpu_count() or 1)
+        self.where = temporary_folder(settings.temporary)
 
     def do(self) -> Outcome:
         """Does the job. Returns what came of it."""
@@ -231,11 +236,15 @@ class Job:
             self.outcome.sha256 = sha256_of(file, self.pace)
             file.seek(0)
         try:
-            source = Source(file, self.settings.temporary, self.pace)
+            source = Source(file, self.where, self.pace, self.room)
             with contextlib.closing(source):
                 return self.judge(source)
         except Damaged as damage:
             return "gunzip", str(damage)
+        except Unsupported as reason:
+            return "unsupported", str(reason)
+        finally:
+            self.room.release()
 
     def judge(self, source: Source) -> Tuple[str, str]:
         """Runs the commands, and over the good records where the file is damaged."""
@@ -252,9 +261,8 @@ class Job:
 
     def judge_damaged(self, source: Source, fault: str) -> Tuple[str, str]:
         """Counts the pieces of a damaged file, and runs the commands over a copy of its good records."""
-        where = temporary_folder(self.settings.temporary)
         if source.seekable is None:
-            return "no-room", "%s; no room to unpack it in %s" % (fault, where)
+            return "no-room", "%s; %s" % (fault, self.no_room("unpack it in"))
         self.pace.take(source.size())
         pieces = counted_pieces(self.settings.warc, source.seekable)
         detail = "%s; %s" % (fault, pieces.told())
@@ -263,12 +271,12 @@ class Job:
         if pieces.good_records:
             self.pace.take(source.size())
             seconds = patience_for(source.seekable)
-            copy = unpacked(good_records(self.settings.warc, source.seekable, seconds), where)
+            copy = unpacked(good_records(self.settings.warc, source.seekable, seconds), self.where, self.room)
             if copy is None:
-                return "no-room", "%s; no room to copy its good records to %s" % (detail, where)
+                return "no-room", "%s; %s" % (detail, self.no_room("copy its good records to"))
             with copy:
                 unpaced = Pace(self.folder, None)
-                state, words = self.judge_copy(Source(copy, self.settings.temporary, unpaced), pieces)
+                state, words = self.judge_copy(Source(copy, self.where, unpaced, self.room), pieces)
             if state != "refused":
                 return state, words
             detail += words
@@ -338,18 +346,21 @@ class Job:
         ignored = {b"%d N4" % position for position in empty}
         findings = sum(line not in ignored for line in lines_of(self.folder, "check"))
         # Revisits with such a digest are counted apart: they are no damage.
-        where = temporary_folder(self.settings.temporary)
         about = (
             ("bad", bad and counted(bad, "block doesn't have its digest", "blocks don't have their digests")),
             ("bad", payloads and counted(payloads, "payload doesn't have its digest", "payloads don't have theirs")),
             ("unchecked", unchecked and counted(unchecked, "block") + " can't be checked"),
             ("findings", findings and counted(findings, "finding")),
-            ("no-room", source.seekable is None and "no room to unpack it in " + where),
+            ("no-room", source.seekable is None and self.no_room("unpack it in")),
             ("good", empty and counted(len(empty), "revisit") + " with the digest of no bytes"),
         )
         found = {state for state, words in about if words}
         state = next((state for state in ("no-room", "bad", "unchecked", "findings") if state in found), "good")
         return state, "; ".join(str(words) for _, words in about if words)
+
+    def no_room(self, what: str) -> str:
+        """Why a file couldn't be unpacked."""
+        return self.room.why or "no room to %s %s" % (what, self.where)
 
     def blocks(self) -> Tuple[int, int, Set[int]]:
         """How many blocks are bad and can't be checked, and the positions of revisits with the digest of no bytes."""

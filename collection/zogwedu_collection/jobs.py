@@ -7,13 +7,15 @@ import json
 import os
 import shutil
 import signal
+import tempfile
 import traceback
 from typing import List, NoReturn, Optional, Sequence
 
-from .disk import made_folder, put_folder
+from .disk import made_folder, put_folder, temporary_folder
 from .job import Job, Outcome
 from .program import Settings, check_program
 from .texts import Trouble, shown
+from .unpack import NO_ROOM
 
 GRACE_SECONDS = 5.0
 
@@ -52,10 +54,21 @@ def do_jobs(folder: str, numbers: Sequence[int]) -> int:
     if wrong:
         raise Trouble("no job %d: the list has 1 to %d" % (wrong[0], len(paths)))
     check_program(settings)
+    check_room(settings)
     for number in numbers:
         if not os.path.exists(os.path.join(folder, "done", str(number))):
             do_job(settings, paths[number - 1], folder, number)
     return 0
+
+
+def check_room(settings: Settings) -> None:
+    """Does nothing on a machine without the folder for temporary files, rather than fail each file for it."""
+    folder = temporary_folder(settings.temporary)
+    try:
+        tempfile.TemporaryFile(dir=folder).close()
+    except OSError as error:
+        if error.errno not in NO_ROOM:
+            raise Trouble("--temporary: %s: %s" % (shown(folder), error.strerror)) from None
 
 
 def do_job(settings: Settings, path: str, folder: str, number: int) -> None:

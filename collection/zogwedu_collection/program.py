@@ -9,6 +9,7 @@ import subprocess
 import sys
 from typing import List, Optional
 
+from .limits import Limits
 from .texts import Trouble, counted, shown
 
 ANY_UUID = "00000000-0000-4000-8000-000000000000"
@@ -18,7 +19,8 @@ MOST_SECONDS = 60
 @dataclasses.dataclass(frozen=True)
 class Settings:
     """How the files are read: by which program, where they are unpacked, in which time (seconds), whether the SHA-256
-    of each whole file is kept, and how many bytes all jobs together read in a second."""
+    of each whole file is kept, how many bytes all jobs together read in a second, how many the jobs of a machine
+    unpack at once, and how many jobs a machine does at once, where that is known."""
 
     warc: str
     version: str
@@ -26,6 +28,8 @@ class Settings:
     timeout: Optional[float] = None
     digest: bool = False
     rate: Optional[int] = None
+    unpacked: int = Limits.unpacked
+    jobs: Optional[int] = None
 
 
 class BadDate(Trouble):

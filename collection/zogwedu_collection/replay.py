@@ -20,7 +20,7 @@ from .damaged import good_records
 from .disk import Stamp, open_regular, open_stamp, reason_of, stamp_of, temporary_folder
 from .program import instant_of, said
 from .texts import Stored, Trouble, decoded, escaped, real_path, say
-from .unpack import PIECE, Damaged, pieces_of, write_all
+from .unpack import PIECE, Damaged, Unsupported, pieces_of, write_all
 
 MOST_CANDIDATES = 64
 # The most captures that are asked what they lack, for one that is replayed.
@@ -147,7 +147,7 @@ class Files:
                 check(known, open_stamp(file))
                 yield file
                 check(known, open_stamp(file))
-        except Damaged as damage:
+        except (Damaged, Unsupported) as damage:
             raise Trouble("%s: %s" % (escaped(known.path), damage)) from None
         except OSError as error:
             raise Trouble("%s: %s" % (escaped(known.path), reason_of(error, path))) from None

@@ -6,20 +6,25 @@ import ctypes
 import dataclasses
 import functools
 import os
+import re
 import shlex
 import shutil
 import signal
 import subprocess
 import sys
+import tempfile
 from typing import Iterator, List, Optional, Sequence
 
 from .ages import note_due, told_due
 from .catalogue import Catalogue, Run
 from .discover import files_to_do, found_files, note_changes
 from .jobs import write_jobs
+from .limits import Limits
 from .program import Settings, not_done, own_words, program_path, version_of
+from .space import full_folders
 from .take_in import end_run, take_in, take_in_all
 from .texts import Trouble, now, say, shown
+from .unpack import NO_ROOM
 from .watched import note_reading, watch, watched
 
 SSH = "ssh -o BatchMode=yes -o ConnectTimeout=10 -o ServerAliveInterval=10 -o ServerAliveCountMax=3"
@@ -29,10 +34,12 @@ BRACE = "'\"$(printf '\\173')\"'"
 
 @dataclasses.dataclass(frozen=True)
 class Plan:
-    """A list of jobs: its run, its folder, how many there are, and whether a part of the collection can't be read."""
+    """A list of jobs: its run, its folder, where temporary files go, how many jobs there are, and whether a part of the
+    collection can't be read."""
 
     run: int
     folder: str
+    temporary: str
     count: int
     is_partly_unread: bool
 
@@ -51,11 +58,17 @@ class Asked:
     within: Optional[int] = None
     rate: Optional[int] = None
     may_be_missing: bool = False
+    unpacked: int = Limits.unpacked
+    jobs: Optional[str] = None
 
-    def settings(self) -> Settings:
+    def settings(self, own: str) -> Settings:
+        """How files are read. What is unpacked goes to a folder of the catalogue, where nothing else is asked."""
         warc = program_path(self.warc)
-        temporary = None if self.temporary is None else os.path.abspath(self.temporary)
-        return Settings(warc, version_of(warc), temporary, self.timeout, self.digest, self.rate)
+        temporary = own if self.temporary is None else os.path.abspath(self.temporary)
+        check_temporary(temporary, self.temporary is None)
+        jobs = int(self.jobs) if self.jobs is not None and re.fullmatch("[1-9][0-9]{0,4}", self.jobs) else None
+        how = temporary, self.timeout, self.digest, self.rate, self.unpacked, jobs
+        return Settings(warc, version_of(warc), *how)
 
 
 @dataclasses.dataclass(frozen=True)
@@ -67,6 +80,21 @@ class Machines:
     jobs: Optional[str]
     batch: Optional[int]
     is_quiet: bool
+
+
+def check_temporary(folder: str, is_own: bool) -> None:
+    """Refuses a folder for temporary files that isn't there or can't be written to: each file would fail for it. What a
+    killed run left in the catalogue's own is removed."""
+    try:
+        if is_own:
+            os.makedirs(folder, exist_ok=True)
+            for entry in os.scandir(folder):
+                if not entry.is_dir(follow_symlinks=False):
+                    os.unlink(entry.path)
+        tempfile.TemporaryFile(dir=folder).close()
+    except OSError as error:
+        if error.errno not in NO_ROOM:
+            raise Trouble("--temporary: %s: %s" % (shown(folder), error.strerror), 2) from None
 
 
 def begin_run(catalogue: Catalogue, is_over_all: bool) -> Run:
@@ -86,7 +114,8 @@ def begin_run(catalogue: Catalogue, is_over_all: bool) -> Run:
 
 def make_plan(catalogue: Catalogue, asked: Asked) -> Plan:
     """Takes in what earlier jobs left, looks for files, and writes the list of jobs."""
-    settings = asked.settings()
+    settings = asked.settings(os.path.join(catalogue.folder, "temporary"))
+    catalogue.keep_temporary(settings.temporary or catalogue.folder)
     take_in_all(catalogue)
     with catalogue.transaction():
         watch(catalogue, asked.paths, asked.lists)
@@ -107,7 +136,8 @@ def make_plan(catalogue: Catalogue, asked: Asked) -> Plan:
     write_jobs(folder, settings, chosen)
     there = sum(stamp is not None for stamp in found.files.values())
     say("run %d: %d files, %d to read" % (run.number, there, len(chosen)))
-    return Plan(run.number, folder, len(chosen), bool(found.unread or found.missing))
+    is_partly_unread = bool(found.unread or found.missing)
+    return Plan(run.number, folder, settings.temporary or "/tmp", len(chosen), is_partly_unread)
 
 
 def for_parallel(words: Sequence[str]) -> str:
@@ -122,7 +152,8 @@ def braceless(word: str) -> str:
 def parallel_words(machines: Machines, folder: str, count: int) -> List[str]:
     """The words that have GNU parallel do the jobs of a list."""
     is_far = bool(machines.logins or machines.login_files)
-    words = ["parallel", "--will-cite", "--joblog", os.path.join(folder, "joblog"), "--retries", "3"]
+    # Ungrouped: what jobs say isn't kept in files, which a full disk would end.
+    words = ["parallel", "--will-cite", "--ungroup", "--joblog", os.path.join(folder, "joblog"), "--retries", "3"]
     words += ["-n", str(machines.batch or (4 if is_far else 1))]
     words += ["--jobs", machines.jobs] if machines.jobs else []
     words += ["--bar"] if sys.stderr.isatty() and not machines.is_quiet and count else []
@@ -161,7 +192,9 @@ def in_parallel(machines: Machines, plan: Plan) -> Iterator[subprocess.Popen[byt
         numbers.writelines("%d\n" % number for number in range(1, plan.count + 1))
         numbers.seek(0)
         words = parallel_words(machines, plan.folder, plan.count)
-        child = subprocess.Popen(words, stdin=numbers, preexec_fn=functools.partial(end_with, os.getpid()))
+        ending = functools.partial(end_with, os.getpid())
+        where = dict(os.environ, TMPDIR=plan.temporary, PARALLEL_TMPDIR=plan.temporary)
+        child = subprocess.Popen(words, stdin=numbers, env=where, preexec_fn=ending)
     try:
         yield child
     finally:
@@ -189,7 +222,8 @@ def do_run(catalogue: Catalogue, asked: Asked, machines: Machines) -> Plan:
     left = end_run(catalogue, plan.run, plan.folder)
     shutil.rmtree(plan.folder, ignore_errors=True)
     if left:
-        raise Trouble(not_done(left, plan.run) + "; run it again to go on")
+        full = ["%s is nearly full" % shown(it) for it in full_folders([catalogue.folder, plan.temporary])]
+        raise Trouble("; ".join([not_done(left, plan.run), *full, "run it again to go on"]))
     return plan
 
 

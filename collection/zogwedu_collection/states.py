@@ -11,6 +11,7 @@ STATES = {
     "rotten": "other bytes than before, with the same size and time",
     "refused": "damaged: no archive as a whole",
     "gunzip": "the compressed file is damaged",
+    "unsupported": "compressed in a way that isn't read here",
     "no-room": "no room to unpack it: its captures aren't known",
     "failed": "couldn't be read",
     "changing": "changed while it was read",
@@ -26,7 +27,7 @@ ALARMING = (
 READ = ("good", "grown", "findings", "unchecked", "bad")
 # States that say something of the bytes of a file, and not of the machine that read it.
 ABOUT_BYTES = (*READ, "refused", "gunzip", "no-room", "rotten", "altered")
-TRIED_AGAIN = ("no-room", "failed", "changing", "unread", "gone")
+TRIED_AGAIN = ("no-room", "failed", "changing", "unsupported", "unread", "gone")
 
 
 def as_list(states: tuple[str, ...]) -> str:
