@@ -6,13 +6,10 @@ use Rattle.warc_frame.specs.declared.fault.Fault.{Fault}
 use Rattle.warc_reading.specs.Archive.{IsArchiveOf}
 use Rattle.warc_reading.specs.Row.{Row}
 use Rattle.warc_lent.specs.Fronts.{IsGoodFront}
-use Rattle.warc_lent.specs.Heads.{PutsFields, PutsHttp}
+use Rattle.warc_lent.specs.Heads.{FieldBuffers, HttpBuffers, PutsFields, PutsHttp}
 use Rattle.warc_lent.specs.Pieces.{PutsPieceNumbers}
 use Rattle.warc_lent.specs.Problems.{fault_numbers, problem_numbers}
 use Rattle.warc_lent.specs.Texts.{IsRefusedFor, PutsFixity}
-use Rattle.warc_lent.specs.declared.heads.FieldNumbers.{FieldNumbers}
-use Rattle.warc_lent.specs.declared.heads.HttpFieldNumbers.{HttpFieldNumbers}
-use Rattle.warc_lent.specs.declared.heads.HttpNumbers.{HttpNumbers}
 use Rattle.warc_lent.specs.declared.pieces.PieceNumbers.{PieceNumbers}
 use Rattle.warc_lent.specs.declared.problem.Numbers.{Numbers}
 use Rattle.warc_lent.specs.declared.problem.Problem.{Problem}
@@ -83,15 +80,15 @@ pub record AnswersPieces (bytes : List ℕ) (answer : ℕ) (old new : List Piece
   pub answered : IsAnswered result answer before after
 
 -- the fields of a head of a record are put, and their number is answered, or a problem is reported
-pub record AnswersFields (head : List ℕ) (answer : ℕ) (lengths : List FieldNumbers) (texts : List ℕ)
-    (before after : Numbers) : Type 0 where
+pub record AnswersFields (head : List ℕ) (answer : ℕ) (old new : FieldBuffers) (before after : Numbers)
+    : Type 0 where
   pub result : Result ℕ Problem
-  pub puts : PutsFields head result lengths texts
+  pub puts : PutsFields head result old new
   pub answered : IsAnswered result answer before after
 
 -- what the HTTP head at the front of a block says is put, or a problem is reported
-pub record AnswersHttp (block : List ℕ) (answer : ℕ) (http : HttpNumbers) (fields : List HttpFieldNumbers)
-    (before after : Numbers) : Type 0 where
+pub record AnswersHttp (block : List ℕ) (answer : ℕ) (old new : HttpBuffers) (before after : Numbers)
+    : Type 0 where
   pub result : Result ℕ Problem
-  pub puts : PutsHttp (front_of block) result http fields
+  pub puts : PutsHttp (front_of block) result old new
   pub answered : IsAnswered result answer before after

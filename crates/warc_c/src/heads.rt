@@ -1,5 +1,6 @@
 //! What the heads of a record and of its HTTP response say, of bytes that C lends.
 ghost use Rattle.warc_c.specs.Answered.{AnswersFields, AnswersHttp};
+ghost use Rattle.warc_lent.specs.Heads.{field_buffers, http_buffers};
 
 use crate::problems::number_or_report;
 use std::alloc::Global;
@@ -15,7 +16,8 @@ pub extern "C" fn warc_rt_fields(
     texts: &mut [u8],
     problem: &mut Numbers,
 ) -> usize
-    ensures { AnswersFields head.now result lengths.new texts.new problem.old problem.new }
+    ensures { AnswersFields head.now result (field_buffers lengths.old texts.old)
+        (field_buffers lengths.new texts.new) problem.old problem.new }
 {
     let answer = put_fields(alloc, head, lengths, texts);
     number_or_report(answer, problem)
@@ -30,7 +32,8 @@ pub extern "C" fn warc_rt_http(
     fields: &mut [HttpFieldNumbers],
     problem: &mut Numbers,
 ) -> usize
-    ensures { AnswersHttp block.now result http.new fields.new problem.old problem.new }
+    ensures { AnswersHttp block.now result (http_buffers http.old fields.old) (http_buffers http.new fields.new)
+        problem.old problem.new }
 {
     let answer = put_http(block, http, fields);
     number_or_report(answer, problem)

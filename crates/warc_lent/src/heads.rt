@@ -1,11 +1,10 @@
 //! What heads say, as numbers and texts: the fields of a record's head, and those of an HTTP response's.
-ghost use Rattle.std.specs.Prelude.{◌≡◌, ◌++◌, ◌≤◌, ℕ, List, length, map, set, IfOk, OnErr, Ok};
+ghost use Rattle.std.specs.Prelude.{◌≡◌, ◌++◌, ◌≤◌, ℕ, List, length, map, set};
 ghost use Rattle.std.specs.List.{flat_map};
 ghost use Rattle.warc_frame.specs.Count.{capped};
-ghost use Rattle.warc_frame.specs.Reading.{Head, any_fields, head_of};
-ghost use Rattle.warc_payload.specs.Head.{HasNoHead, front_of};
+ghost use Rattle.warc_payload.specs.Head.{front_of};
 ghost use Rattle.warc_lent.specs.Buffers.{HoldsFront, KeepsAfter};
-ghost use Rattle.warc_lent.specs.Heads.{PutsFields, PutsHttp, field_numbers, pair_text, http_field_numbers, http_numbers, problem_of_head};
+ghost use Rattle.warc_lent.specs.Heads.{PutsFields, PutsHttp, field_buffers, field_numbers, http_buffers, pair_text, http_field_numbers, http_numbers, problem_of_head};
 
 use crate::buffers::put_text_at;
 use crate::problem::Problem;
@@ -142,11 +141,8 @@ pub fn put_fields<A: Allocator + Copy>(
     lengths: &mut [FieldNumbers],
     texts: &mut [u8],
 ) -> Result<usize, Problem>
-    ensures puts { PutsFields head.now result lengths.new texts.new }
-    ensures rest { IfOk result (λ number. KeepsAfter number lengths.old lengths.new) }
-    ensures texts_rest { (h : Head) → head_of any_fields head.now ≡ Ok h →
-        KeepsAfter (length (flat_map pair_text h.fields)) texts.old texts.new }
-    ensures same { OnErr result ((lengths.new ≡ lengths.old) × (texts.new ≡ texts.old)) }
+    ensures puts { PutsFields head.now result (field_buffers lengths.old texts.old)
+        (field_buffers lengths.new texts.new) }
     ensures room { (length lengths.new ≡ length lengths.old) × (length texts.new ≡ length texts.old) }
 {
     match read_head(alloc, head) {
@@ -214,11 +210,9 @@ pub fn put_http(
     http: &mut HttpNumbers,
     fields: &mut [HttpFieldNumbers],
 ) -> Result<usize, Problem>
-    ensures puts { PutsHttp (front_of block.now) result http.new fields.new }
-    ensures rest { IfOk result (λ number. KeepsAfter number fields.old fields.new) }
-    ensures same { OnErr result ((http.new ≡ http.old) × (fields.new ≡ fields.old)) }
+    ensures puts { PutsHttp (front_of block.now) result (http_buffers http.old fields.old)
+        (http_buffers http.new fields.new) }
     ensures room { length fields.new ≡ length fields.old }
-    ensures none { OnErr result (HasNoHead (front_of block.now)) }
 {
     let text = front(block);
     let mut spans = [EMPTY_HEADER_SPAN; MOST_FIELD_LINES];
