@@ -66,16 +66,18 @@ impl Sink for Window<'_> {
     }
 }
 
-/// Reports how a part of an output ended, and how many bytes of it are in the buffer.
+/// Reports how a part of an output ended, and how many bytes of it are in the buffer, which has this much room.
 fn end_part(
     written: Result<(), Problem>,
     part: &Window<'_>,
+    room: usize,
     filled: &mut u64,
     problem: &mut Numbers,
 ) -> bool
-    ensures { IsFlagged written result problem.old problem.new }
+    ensures flagged { IsFlagged written result problem.old problem.new }
+    ensures filled { filled.new ≤ room }
 {
-    *filled = part.filled as u64;
+    *filled = part.filled.min(room) as u64;
     done_or_report(written, problem)
 }
 
@@ -89,11 +91,13 @@ pub extern "C" fn warc_rt_rewrite(
     filled: &mut u64,
     problem: &mut Numbers,
 ) -> bool
-    ensures { AnswersWritten (WritesLent (text_as Form.Canonical) bytes.now) result problem.old problem.new }
+    ensures written { AnswersWritten (WritesLent (text_as Form.Canonical) bytes.now) result problem.old problem.new }
+    ensures filled { filled.new ≤ length buffer.old }
 {
+    let room = buffer.len();
     let mut part = Window::new(start, buffer);
     let written = write_lent(alloc, bytes, Form::Canonical, &mut part, &mut 0);
-    end_part(written, &part, filled, problem)
+    end_part(written, &part, room, filled, problem)
 }
 
 /// Puts the part that begins at an offset of the records of these bytes as those of WARC 1.1.
@@ -106,11 +110,13 @@ pub extern "C" fn warc_rt_convert(
     filled: &mut u64,
     problem: &mut Numbers,
 ) -> bool
-    ensures { AnswersWritten (WritesLent (text_as Form.Converted) bytes.now) result problem.old problem.new }
+    ensures written { AnswersWritten (WritesLent (text_as Form.Converted) bytes.now) result problem.old problem.new }
+    ensures filled { filled.new ≤ length buffer.old }
 {
+    let room = buffer.len();
     let mut part = Window::new(start, buffer);
     let written = write_lent(alloc, bytes, Form::Converted, &mut part, &mut 0);
-    end_part(written, &part, filled, problem)
+    end_part(written, &part, room, filled, problem)
 }
 
 /// Puts the part that begins at an offset of the records of these bytes, split into segments of `size` bytes.
@@ -124,11 +130,13 @@ pub extern "C" fn warc_rt_split(
     filled: &mut u64,
     problem: &mut Numbers,
 ) -> bool
-    ensures { AnswersWritten (WritesLent (split_text size) bytes.now) result problem.old problem.new }
+    ensures written { AnswersWritten (WritesLent (split_text size) bytes.now) result problem.old problem.new }
+    ensures filled { filled.new ≤ length buffer.old }
 {
+    let room = buffer.len();
     let mut part = Window::new(start, buffer);
     let written = split_lent(alloc, bytes, size, &mut part, &mut 0);
-    end_part(written, &part, filled, problem)
+    end_part(written, &part, room, filled, problem)
 }
 
 /// Writes the records at positions of these bytes, or all others, closed if that is asked for.
@@ -165,11 +173,13 @@ pub extern "C" fn warc_rt_select(
     filled: &mut u64,
     problem: &mut Numbers,
 ) -> bool
-    ensures { AnswersWritten (SelectsAs closed except positions.now bytes.now) result problem.old problem.new }
+    ensures written { AnswersWritten (SelectsAs closed except positions.now bytes.now) result problem.old problem.new }
+    ensures filled { filled.new ≤ length buffer.old }
 {
+    let room = buffer.len();
     let mut part = Window::new(start, buffer);
     let written = select_as(alloc, bytes, positions, except, closed, &mut part, &mut 0);
-    end_part(written, &part, filled, problem)
+    end_part(written, &part, room, filled, problem)
 }
 
 /// Puts the part that begins at an offset of a record that is made of these.
@@ -187,9 +197,11 @@ pub extern "C" fn warc_rt_make(
     filled: &mut u64,
     problem: &mut Numbers,
 ) -> bool
-    ensures { AnswersWritten (MakesLent kind.now uri.now date.now uuid.now content_type.now block.now)
+    ensures written { AnswersWritten (MakesLent kind.now uri.now date.now uuid.now content_type.now block.now)
         result problem.old problem.new }
+    ensures filled { filled.new ≤ length buffer.old }
 {
+    let room = buffer.len();
     let mut part = Window::new(start, buffer);
     let written = make_lent(
         alloc,
@@ -202,5 +214,5 @@ pub extern "C" fn warc_rt_make(
         &mut part,
         &mut 0,
     );
-    end_part(written, &part, filled, problem)
+    end_part(written, &part, room, filled, problem)
 }
