@@ -6,7 +6,7 @@ use Rattle.std.proofs.lemmas.List.Sums.{sum_by-cons}
 use Rattle.warc_frame.specs.Count.{raised}
 use Rattle.warc_frame.specs.Ranges.{IsReadAt}
 use Rattle.warc_frame.specs.Record.{Record, max_archive, max_block}
-use Rattle.warc_frame.specs.Seen.{AsksOnly, IfHeld, IsInRange, Seen, SeenSource}
+use Rattle.warc_frame.specs.Seen.{AsksOnly, IfHeld, InOrder, IsInRange, Seen, SeenSource}
 use Rattle.warc_frame.specs.declared.fault.Fault.{Fault}
 use Rattle.warc_frame.specs.declared.fault.OutFault.{OutFault}
 use Rattle.warc_index.specs.declared.unfound.Unfound.{Unfound}
@@ -37,7 +37,7 @@ use Rattle.warc_reading.proofs.RemainLemmas.{written}
 use Rattle.warc_reading.specs.Rereading.{IsInHead, heads_len}
 use Rattle.warc_commands.specs.Closed.{ReadsClosed}
 use Rattle.warc_commands.specs.Asking.{AsksFar, HasAsked, HasReadFront, ReadsFront}
-use Rattle.warc_commands.specs.Reads.{AsksNear, ReadsForRecord, ReadsTimes}
+use Rattle.warc_commands.specs.Reads.{AsksNear, ReadsForRecord, ReadsInOrder, ReadsTimes}
 use Rattle.warc_commands.specs.Selected.{ReadsSome}
 
 -- one more read, of these bytes alone
@@ -140,6 +140,11 @@ opened {X} {Is} {old} {mid} {new} {answer} opens same =
     let once : ReadsTimes 1 old mid = record { near = opens.reads.near; cost = λ bytes held. omega (arith, opens.cost bytes held) } in
     let P : SeenSource → Type 0 = λ t. ReadsTimes 1 old t in
     subst P (sym same) once
+
+pub opened_in_order : {X : Type 0} {Is : List ℕ → X → Type 0} {old mid new : SeenSource} {answer : Result X Fault} → Opens Is old mid answer → new ≡ mid → ReadsInOrder old new
+opened_in_order {X} {Is} {old} {mid} {new} {answer} opens same =
+    let P : SeenSource → Type 0 = λ t. InOrder 0 old t in
+    record { times = opened opens same; order = subst P (sym same) opens.order }
 
 pub unread : (s : SeenSource) → ReadsTimes 1 s s
 unread s = record { near = λ off. refl; cost = λ bytes held. omega arith }

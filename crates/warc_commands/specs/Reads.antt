@@ -1,7 +1,7 @@
 -- Which bytes of its source a command asks for, and in how many reads at most.
 use Rattle.std.specs.Prelude.{◌≡◌, ℕ, ◌+◌, ◌*◌, ◌≤◌, false, true, length}
 use Rattle.warc_frame.specs.Record.{max_archive, max_block}
-use Rattle.warc_frame.specs.Seen.{AsksOnly, IfHeld, SeenSource}
+use Rattle.warc_frame.specs.Seen.{AsksOnly, IfHeld, InOrder, SeenSource}
 use Rattle.warc_arguments.specs.declared.command.Command.{Command}
 use Rattle.warc_arguments.specs.declared.command.Command.TheVariants as command
 
@@ -14,6 +14,11 @@ pub record ReadsTimes (times : ℕ) (old new : SeenSource) : Type 0 where
   pub near : AsksNear old new
   pub cost : IfHeld old.holds (λ bytes. new.reads ≤ old.reads + times * length bytes + 1)
 
+-- and there is at most one read for each byte, and one, each where the one before ended
+pub record ReadsInOrder (old new : SeenSource) : Type 0 where
+  pub times : ReadsTimes 1 old new
+  pub order : InOrder 0 old new
+
 -- how many bytes of the file of which a record is made one read asks for
 abbrev pub file_piece : ℕ
 file_piece = 65536
@@ -25,16 +30,16 @@ pub record ReadsForRecord (old new : SeenSource) : Type 0 where
   pub close : IfHeld old.holds (λ bytes. AsksOnly (λ at. at ≤ 2 * length bytes + file_piece) old new)
   pub cost : IfHeld old.holds (λ bytes. new.reads ≤ old.reads + 2 * length bytes + 2)
 
--- what a run of the command reads: an archive is opened in one read for each byte, and one; what is written of it is
--- read again, once, and twice the joined blocks of a body, of which the first time to judge them. A block that is split
--- is read three times: to judge it, for the digests of its segments, and to be copied. For a closed selection heads are
--- read again before what is written
+-- what a run of the command reads: an archive is opened in one read for each byte, and one, in order; what is written
+-- of it is read again, once, and twice the joined blocks of a body, of which the first time to judge them. A block that
+-- is split is read three times: to judge it, for the digests of its segments, and to be copied. For a closed selection
+-- heads are read again before what is written
 abbrev pub CommandReads : Command → SeenSource → SeenSource → Type 0
-CommandReads (command.List archive) old new = ReadsTimes 1 old new
-CommandReads (command.Check archive) old new = ReadsTimes 1 old new
-CommandReads (command.Fixity archive false) old new = ReadsTimes 1 old new
+CommandReads (command.List archive) old new = ReadsInOrder old new
+CommandReads (command.Check archive) old new = ReadsInOrder old new
+CommandReads (command.Fixity archive false) old new = ReadsInOrder old new
 CommandReads (command.Fixity archive true) old new = AsksNear old new
-CommandReads (command.Summary archive) old new = ReadsTimes 1 old new
+CommandReads (command.Summary archive) old new = ReadsInOrder old new
 CommandReads (command.Extract archive id) old new = ReadsTimes 2 old new
 CommandReads (command.Head archive position) old new = ReadsTimes 2 old new
 CommandReads (command.Block archive position) old new = ReadsTimes 2 old new

@@ -2,7 +2,7 @@
 ghost use Rattle.std.specs.Prelude.{◌≡◌, ◌⊎◌, min};
 ghost use Rattle.warc_commands.specs.Devices.{devices};
 ghost use Rattle.warc_commands.specs.Program.{CheckEnds};
-ghost use Rattle.warc_commands.specs.Reads.{ReadsTimes};
+ghost use Rattle.warc_commands.specs.Reads.{ReadsInOrder};
 
 use crate::program::{DONE, FOUND, report_cut, report_refusal};
 use std::alloc::Allocator;
@@ -21,7 +21,7 @@ where
 
     // The source still holds what it held.
     ensures kept { (S.seen result.1).holds ≡ (S.seen source).holds }
-    ensures reads { ReadsTimes 1 (S.seen source) (S.seen result.1) }
+    ensures reads { ReadsInOrder (S.seen source) (S.seen result.1) }
 {
     let checked = match Checked::open(alloc, source) {
         Ok(checked) => checked,

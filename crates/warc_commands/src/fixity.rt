@@ -2,7 +2,7 @@
 ghost use Rattle.std.specs.Prelude.{◌≡◌, ◌⊎◌};
 ghost use Rattle.warc_commands.specs.Devices.{devices};
 ghost use Rattle.warc_commands.specs.Fixity.{FixityEnds, fixity_status};
-ghost use Rattle.warc_commands.specs.Reads.{ReadsTimes};
+ghost use Rattle.warc_commands.specs.Reads.{ReadsInOrder};
 
 use crate::program::{DONE, FOUND, report_cut, report_refusal};
 use std::alloc::Allocator;
@@ -39,7 +39,7 @@ where
 
     // The source still holds what it held.
     ensures kept { (S.seen result.1).holds ≡ (S.seen source).holds }
-    ensures reads { ReadsTimes 1 (S.seen source) (S.seen result.1) }
+    ensures reads { ReadsInOrder (S.seen source) (S.seen result.1) }
 {
     let fixity = match Fixity::open(alloc, source) {
         Ok(fixity) => fixity,

@@ -5,7 +5,7 @@ ghost use Rattle.warc_frame.specs.Send.{sent_of};
 ghost use Rattle.warc_commands.specs.Ends.{Ends, IsStatusOf, writes_front};
 ghost use Rattle.warc_commands.specs.Program.{FaultEnds, IsShown, ListEnds, Reports, WriteEnds, fault_line, status_of_kind, reported_line};
 ghost use Rattle.warc_commands.specs.Devices.{devices};
-ghost use Rattle.warc_commands.specs.Reads.{CommandReads, ReadsTimes};
+ghost use Rattle.warc_commands.specs.Reads.{CommandReads, ReadsInOrder, ReadsTimes};
 ghost use Rattle.warc.specs.Forms.{texts_as};
 
 use crate::bodies::body;
@@ -188,7 +188,7 @@ where
 
     // The source still holds what it held.
     ensures kept { (S.seen result.1).holds ≡ (S.seen source).holds }
-    ensures reads { ReadsTimes 1 (S.seen source) (S.seen result.1) }
+    ensures reads { ReadsInOrder (S.seen source) (S.seen result.1) }
 {
     let listing = match Listing::open(alloc, source) {
         Ok(listing) => listing,

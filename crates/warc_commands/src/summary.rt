@@ -1,7 +1,7 @@
 //! The command that says what an archive holds.
 ghost use Rattle.std.specs.Prelude.{◌≡◌};
 ghost use Rattle.warc_commands.specs.Devices.{devices};
-ghost use Rattle.warc_commands.specs.Reads.{ReadsTimes};
+ghost use Rattle.warc_commands.specs.Reads.{ReadsInOrder};
 ghost use Rattle.warc_commands.specs.Summaries.{SummaryEnds};
 
 use crate::program::{DONE, report_cut, report_refusal};
@@ -21,7 +21,7 @@ where
 
     // The source still holds what it held.
     ensures kept { (S.seen result.1).holds ≡ (S.seen source).holds }
-    ensures reads { ReadsTimes 1 (S.seen source) (S.seen result.1) }
+    ensures reads { ReadsInOrder (S.seen source) (S.seen result.1) }
 {
     let summarized = match Summarized::open(alloc, source) {
         Ok(summarized) => summarized,

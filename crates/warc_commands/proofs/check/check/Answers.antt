@@ -3,7 +3,7 @@ use Rattle.warc_reading.specs.Archive.{contents}
 use Rattle.warc_checking.specs.Checking.{findings_of_archive}
 use Rattle.warc_commands.proofs.ProgramLemmas.{good_records_of, not_opened, status_by}
 use Rattle.warc_checking.proofs.RecordsLemmas.{unread}
-use Rattle.warc_commands.proofs.ReadLemmas.{opened}
+use Rattle.warc_commands.proofs.ReadLemmas.{opened_in_order}
 use Rattle.warc_commands.proofs.check.check.Goals as goal
 
 pub returns-in-Err-clause-ends : goal.returns-in-Err-clause-ends
@@ -51,10 +51,10 @@ returns-in-Err-check-clause-ends g c =
     }))
 
 pub returns-in-Err-clause-reads : goal.returns-in-Err-clause-reads
-returns-in-Err-clause-reads g c = opened c.in-Err.ensures refl
+returns-in-Err-clause-reads g c = opened_in_order c.in-Err.ensures refl
 
 pub returns-in-Ok-check-clause-reads : goal.returns-in-Ok-check-clause-reads
-returns-in-Ok-check-clause-reads g c = opened c.in-Ok.ensures (ap (λ s. g.S.Source.seen s) c.into_source.ensures)
+returns-in-Ok-check-clause-reads g c = opened_in_order c.in-Ok.ensures (ap (λ s. g.S.Source.seen s) c.into_source.ensures)
 
 pub returns-in-Err-check-clause-reads : goal.returns-in-Err-check-clause-reads
-returns-in-Err-check-clause-reads g c = opened c.in-Ok.ensures (ap (λ s. g.S.Source.seen s) c.into_source-in-Err-check.ensures)
+returns-in-Err-check-clause-reads g c = opened_in_order c.in-Ok.ensures (ap (λ s. g.S.Source.seen s) c.into_source-in-Err-check.ensures)

@@ -3,7 +3,7 @@ use Rattle.warc_frame.specs.FaultText.{out_fault_text}
 use Rattle.warc_frame.specs.Send.{sent_of}
 use Rattle.warc_commands.specs.Program.{reported_line}
 use Rattle.warc_commands.proofs.ProgramLemmas.{not_opened, reported_as}
-use Rattle.warc_commands.proofs.ReadLemmas.{opened}
+use Rattle.warc_commands.proofs.ReadLemmas.{opened_in_order}
 use Rattle.warc_commands.proofs.program.list.Goals as goal
 
 pub returns-in-Err-clause-ends : goal.returns-in-Err-clause-ends
@@ -33,10 +33,10 @@ returns-in-Err-list-clause-ends g c = inr (inr (record {
 }))
 
 pub returns-in-Err-clause-reads : goal.returns-in-Err-clause-reads
-returns-in-Err-clause-reads g c = opened c.in-Err.ensures refl
+returns-in-Err-clause-reads g c = opened_in_order c.in-Err.ensures refl
 
 pub returns-in-Ok-list-clause-reads : goal.returns-in-Ok-list-clause-reads
-returns-in-Ok-list-clause-reads g c = opened c.in-Ok.ensures (ap (λ s. g.S.Source.seen s) c.into_source.ensures)
+returns-in-Ok-list-clause-reads g c = opened_in_order c.in-Ok.ensures (ap (λ s. g.S.Source.seen s) c.into_source.ensures)
 
 pub returns-in-Err-list-clause-reads : goal.returns-in-Err-list-clause-reads
-returns-in-Err-list-clause-reads g c = opened c.in-Ok.ensures (ap (λ s. g.S.Source.seen s) c.into_source-in-Err-list.ensures)
+returns-in-Err-list-clause-reads g c = opened_in_order c.in-Ok.ensures (ap (λ s. g.S.Source.seen s) c.into_source-in-Err-list.ensures)
