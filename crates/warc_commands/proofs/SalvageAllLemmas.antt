@@ -4,7 +4,7 @@ use Rattle.std.proofs.lemmas.List.{append-nil}
 use Rattle.std.proofs.lemmas.Result.{IfErr-weaker, on_ok_weaker}
 use Rattle.warc_frame.specs.Count.{raised}
 use Rattle.warc_frame.specs.Device.{Staged}
-use Rattle.warc_frame.specs.Effects.{Emits, Flushes}
+use Rattle.warc_frame.specs.Effects.{Emits, Flushes, IsOfDevice}
 use Rattle.warc_frame.specs.Failing.{failed_by}
 use Rattle.warc_frame.specs.FaultText.{out_fault_text}
 use Rattle.warc_frame.specs.Record.{max_archive}
@@ -143,9 +143,9 @@ module _ (begun was mid now : SeenSource) (place after_ : ℕ) (failure stop : O
       }))
 
   -- a failed read or write of a run
-  pub copy_cut : {X : Type 0} (e : OutFault) → Emits {X = X} (IsGoodOf piece) mid now between after waited waiting (Err e) → is_damage piece ≡ false
+  pub copy_cut : {X : Type 0} (e : OutFault) → Emits {X = X} (IsGoodOf piece) mid now between after waited waiting (Err e) → IsOfDevice e → is_damage piece ≡ false
       → CopiesPieces begun now before after waits waiting err reported (Err e)
-  copy_cut {X} e emits run =
+  copy_cut {X} e emits device run =
       let copies = copies_more begun.holds has.pieces piece mid now before between after waits waited waiting tt (Err e) has.copies emits walked.kept.kept inside in
       record {
         pieces = has.pieces ++ piece ∷ [];
@@ -155,6 +155,7 @@ module _ (begun was mid now : SeenSource) (place after_ : ℕ) (failure stop : O
         mid = mid;
         walked = walked;
         copies = record { out = λ bytes held few start output is. tt; cut = copies.cut; cause = copies.cause };
+        device = device;
         fails = fails_as X Found (fails_more (λ bytes held few. (good_text bytes piece, good_of bytes piece (inside bytes (sym walked.kept.kept ∙ held)) few)) emits.fails);
         kept = emits.kept ∙ walked.kept.kept;
         near = asks_both begun mid now walked.kept.watched walked.near (reads_near piece mid now low reads);
@@ -174,6 +175,7 @@ copy_all begun was now place at failure stop old tally before after waits waitin
   mid = now;
   walked = ended.walked;
   copies = record { out = has.copies.out; cut = λ bytes held few start output is. tt; cause = has.copies.cause };
+  device = tt;
   fails = record { may = refl; failed = λ bytes held few. refl };
   kept = ended.walked.kept.kept;
   near = ended.walked.near;
@@ -194,6 +196,7 @@ module _ (begun now : SeenSource) (before between after : Seen) (waits waited wa
     walked = copies.walked;
     out = λ bytes held few. flush.reported before.reports (salvaged bytes copies.pieces) (copies.copies.out bytes held few before.reports [] begins);
     cut = λ bytes held few. tt;
+    device = tt;
     cause = flush.cause ∙ copies.copies.cause;
     fails = copies.fails;
     kept = copies.kept;
@@ -213,6 +216,7 @@ module _ (begun now : SeenSource) (before between after : Seen) (waits waited wa
     walked = copies.walked;
     out = λ bytes held few. tt;
     cut = λ bytes held few. flush.cut before.reports (salvaged bytes copies.pieces) (copies.copies.out bytes held few before.reports [] begins);
+    device = tt;
     cause = flush.cause ∙ ap raised copies.copies.cause;
     fails = record { may = copies.fails.may; failed = λ bytes held few. copies.fails.may };
     kept = copies.kept;
@@ -232,6 +236,7 @@ runs_cut begun now before between waits waited err reported begins e copies = re
   walked = copies.walked;
   out = λ bytes held few. tt;
   cut = λ bytes held few. copies.copies.cut bytes held few before.reports [] begins;
+  device = copies.device;
   cause = copies.copies.cause;
   fails = copies.fails;
   kept = copies.kept;
@@ -271,6 +276,7 @@ module _ (begun now : SeenSource) (before after err mid reported : Seen) (status
     at = sends.at;
     are = sends.walked.given;
     fault = e;
+    device = sends.device;
     front = sends.cut;
     source = λ bytes held few. has_failed e _ _ _ _ sends.walked.cause refl ((fails_as Found ℕ sends.fails).failed bytes (sends.walked.kept.kept ∙ held) few);
     may = may_have_failed e _ _ _ _ sends.walked.cause refl ((fails_as Found ℕ sends.fails).may);

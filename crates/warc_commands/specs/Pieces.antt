@@ -3,6 +3,7 @@ use Rattle.std.specs.Prelude.{◌≡◌, ℕ, ◌+◌, ◌^◌, ◌<◌, ◌≤�
 use Rattle.std.specs.Io.KnownBytes.{append_known}
 use Rattle.std.specs.Option.{option_to_list}
 use Rattle.warc_frame.specs.Count.{raised}
+use Rattle.warc_frame.specs.Effects.{IsOfDevice}
 use Rattle.warc_frame.specs.Failing.{HasFailedBy, MayHaveFailedBy, failed_with}
 use Rattle.warc_frame.specs.FaultText.{fault_text, out_fault_text}
 use Rattle.warc_frame.specs.Record.{max_archive}
@@ -139,6 +140,7 @@ pub record AreSalvagedInPart (old new : Devices) (status : ℕ) : Type 0 where
   pub at : ℕ
   pub are : IfHeld old.source.holds (λ bytes. AreGiven bytes at stop pieces)
   pub fault : OutFault
+  pub device : IsOfDevice fault
   pub front : IfHeld old.source.holds (λ bytes. length bytes < 2 ^ 64
       → WentOut old.out.reports (salvaged bytes pieces) new.out.reports (sent_of fault))
   pub source : IfHeld old.source.holds (λ bytes. length bytes < 2 ^ 64

@@ -3,7 +3,7 @@ use Rattle.std.specs.Prelude.{◌≡◌, ℕ, ◌+◌, ◌^◌, ◌<◌, ◌≤�
 use Rattle.std.specs.Io.KnownBytes.{append_known}
 use Rattle.warc_frame.specs.Count.{raised}
 use Rattle.warc_frame.specs.Device.{Staged}
-use Rattle.warc_frame.specs.Effects.{FailsBy, IsRange, Preserves, Puts, ReadsRange}
+use Rattle.warc_frame.specs.Effects.{FailsBy, IsOfDevice, IsRange, Preserves, Puts, ReadsRange}
 use Rattle.warc_frame.specs.Failing.{failed_by}
 use Rattle.warc_frame.specs.Record.{max_archive}
 use Rattle.warc_frame.specs.Seen.{IfHeld, Seen, SeenSource}
@@ -133,6 +133,7 @@ pub record CopiesPieces (begun now : SeenSource) (before after : Seen) (waits wa
   pub mid : SeenSource
   pub walked : HasWalked begun mid at stop tally pieces
   pub copies : CopiesRuns begun.holds pieces before after waits waiting answer
+  pub device : IfErr answer IsOfDevice
   pub fails : FailsBy (λ bytes. length bytes < 2 ^ 64) answer mid now
   pub kept : now.holds ≡ begun.holds
   pub near : AsksNear begun now
@@ -152,6 +153,7 @@ pub record SendsRuns (begun now : SeenSource) (before after err err_now : Seen) 
       → OnOk answer (after.reports ≡ append_known before.reports (salvaged bytes pieces)))
   pub cut : IfHeld begun.holds (λ bytes. length bytes < 2 ^ 64
       → IfErr answer (λ e. WentOut before.reports (salvaged bytes pieces) after.reports (sent_of e)))
+  pub device : IfErr answer IsOfDevice
   pub cause : after.faults ≡ failed_by answer before.faults
   pub fails : FailsBy (λ bytes. length bytes < 2 ^ 64) answer mid now
   pub kept : now.holds ≡ begun.holds

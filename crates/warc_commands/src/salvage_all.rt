@@ -1,6 +1,6 @@
 //! The command that writes all good records of a damaged archive.
 ghost use Rattle.std.specs.Prelude.{◌≡◌, ◌<◌, ◌++◌, List, [], ◌∷◌, IfErr, None, false, length};
-ghost use Rattle.warc_frame.specs.Effects.{Emits};
+ghost use Rattle.warc_frame.specs.Effects.{Emits, IsOfDevice};
 ghost use Rattle.warc_pieces.specs.Laws.{is_damage};
 ghost use Rattle.warc_pieces.specs.declared.piece.Piece.{Piece as Given};
 ghost use Rattle.warc_commands.specs.Devices.{devices};
@@ -58,6 +58,7 @@ fn copy_run<S: Source, A: Allocator + Copy, W: Sink>(
     requires { 0 < length scratch.old }
     ensures emits { Emits (IsGoodOf piece) (S.seen pieces.old.source) (S.seen pieces.new.source) (W.seen out.old)
         (W.seen out.new) buffer.old buffer.new result }
+    ensures device { IfErr result IsOfDevice }
     ensures run { IfErr result (λ _. is_damage piece ≡ false) }
     ensures reads { ReadsGood piece (S.seen pieces.old.source) (S.seen pieces.new.source) }
     ensures same { (pieces.new.at ≡ pieces.old.at) × (pieces.new.failure ≡ pieces.old.failure) }

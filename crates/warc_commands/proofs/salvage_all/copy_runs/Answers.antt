@@ -24,7 +24,7 @@ returns-in_err-copy_run-in-More g c =
     let more = rw c.in-More.is at walks in
     let p = err_from_is_err_and c.from_residual.result c.from_residual.ensures.1 in
     rw (p.1, p.2)
-    (copy_cut _ _ _ _ _ _ _ _ _ _ _ _ _ _ _ _ _ _ has c.in-More.piece more.0 more.2 c.in_err-copy_run-in-More.ensures.reads c.in_err-copy_run-in-More.field-0.0 c.in_err-copy_run-in-More.ensures.emits c.in_err-copy_run-in-More.ensures.run)
+    (copy_cut _ _ _ _ _ _ _ _ _ _ _ _ _ _ _ _ _ _ has c.in-More.piece more.0 more.2 c.in_err-copy_run-in-More.ensures.reads c.in_err-copy_run-in-More.field-0.0 c.in_err-copy_run-in-More.ensures.emits c.in_err-copy_run-in-More.ensures.device c.in_err-copy_run-in-More.ensures.run)
 
 pub returns-in-End : goal.returns-in-End
 returns-in-End g c =
