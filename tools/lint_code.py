@@ -176,7 +176,9 @@ def is_below(path: str, word: str) -> bool:
 def main() -> int:
     """Runs all checks."""
     is_ci = os.environ.get("CI") == "true"
-    failed = subprocess.run(["bash", f"{TOP}/tools/need.sh", "lint"], check=False).returncode if is_ci else 0
+    # What later steps need is installed now, too, so that a mirror that fails is noticed before all else.
+    need = ["bash", f"{TOP}/tools/need.sh", "lint", "around"]
+    failed = subprocess.run(need, check=False).returncode if is_ci else 0
     for program in ("mypy", "black"):
         for path in unchecked(program):
             print(f"{path}: no check by {program} names it", flush=True)

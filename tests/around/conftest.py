@@ -14,9 +14,11 @@ import pytest
 TOP = os.path.dirname(os.path.dirname(os.path.dirname(os.path.abspath(__file__))))
 # tests/page is first: it has a module with the name of one of tests/stress.
 sys.path[:0] = [os.path.join(TOP, "tests", name) for name in ("page", "stress", "callers", "compatibility")]
+PACKAGE = os.path.join(TOP, "out", "python")
+sys.path.insert(0, PACKAGE)
 sys.dont_write_bytecode = True
 os.environ.setdefault("PAGE_SLOWNESS", "6")  # several browsers at once on a busy machine
-os.environ["PYTHONPATH"] = os.path.join(TOP, "out", "python")
+os.environ["PYTHONPATH"] = PACKAGE
 os.environ["PYTHONDONTWRITEBYTECODE"] = "1"
 os.environ.pop("ZOGWEDU_LIBRARY", None)
 MOST_SECONDS = 900

@@ -1,4 +1,4 @@
-"""Programs around `warc`: zwarc, and files that other programs write."""
+"""Programs around `warc`: zwarc, files that other programs write, and the second reading of the format."""
 from __future__ import annotations
 
 import sys
@@ -28,6 +28,12 @@ def test_zwarc(
     trials.kind = kind.__name__
     kind(trials)
     assert trials.tried.total() > 0 and trials.surprises.total() == 0
+
+
+@pytest.mark.parametrize("name, count", [("differential", 40), ("selections", 10), ("pieces", 10)])
+def test_second_reading(name: str, count: int, warc: str) -> None:
+    """The program gives what the second reading does of archives made from seeds."""
+    passes([sys.executable, f"tests/stress/{name}.py", warc, str(count), "1"])
 
 
 @pytest.mark.parametrize("name", ["compare", "payloads"])

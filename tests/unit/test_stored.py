@@ -82,6 +82,7 @@ def test_charsets() -> None:
         (word.encode(), "text/plain", word),
         (word.encode("latin-1"), "text/plain", word),
         (word.encode("utf-16"), "text/plain", word),
+        (b"\xfe\xff" + word.encode("utf-16-be"), "text/plain; charset=utf-8", word),
         (word.encode("cp437"), "text/plain; charset=ibm866", "Gr\u0411\u0441e"),
         ((page % "iso-8859-2").encode("iso-8859-2"), "text/html", page % "iso-8859-2"),
         ((page % "windows-1252").encode(), "text/html; charset=utf-8", page % "windows-1252"),
