@@ -17,7 +17,7 @@ from .limits import Limits
 from .listing import capture_line, is_partly_unread, put, status_pieces
 from .moves import forget_files, prune
 from .program import usable_program
-from .replay import Answer, Replayer, settled, write_body
+from .replay import Answer, Replayer, settled, without_troubled, write_body
 from .report import write_report
 from .runs import Asked, Machines, do_run, load, make_plan
 from .states import ALARMING, STATES
@@ -85,7 +85,9 @@ def find_command(options: Options) -> int:
     warc = usable_program(options.warc) if options.date else None
     with catalogue.one_state():
         warn_of_unknown(catalogue, request.target())
-        chosen = chosen_captures(catalogue, request, warc)
+        chosen, passed = without_troubled(catalogue, chosen_captures(catalogue, request, warc))
+    for line in passed:
+        say("passed over: " + line)
     for capture in chosen:
         put(capture_line(capture, options.form))
     return 0
@@ -98,10 +100,12 @@ def replay_command(options: Options) -> int:
     with catalogue.one_state():
         warn_of_unknown(catalogue, request.target())
         chosen = chosen_captures(catalogue, request, warc)
-        answers = [answer for capture in chosen for answer in replayer.answers(capture)]
+        answers = replayer.all_answers(chosen)
         first = settled(answers)
         undone = "" if decoder is None else decoder.undo(replayer, first)
     write_body(first, sys.stdout.buffer)
+    for line in dict.fromkeys(replayer.passed):
+        say("passed over: " + line)
     print_answer(first, undone, answers[1:])
     return 0
 

@@ -113,7 +113,8 @@ class Reader(Replayer):
 
     def answer(self, captures: Sequence[Capture]) -> Lent:
         """What captures of one instant give, if they agree."""
-        answers = [answer for capture in captures for answer in self.answers(capture)]
+        answers = self.all_answers(captures)
+        self.shelf.note_passed(self.passed)
         if not do_agree(answers):
             raise Unfit("\n".join([DISAGREE, *(answer.described() for answer in answers)]))
         first = answers[0]

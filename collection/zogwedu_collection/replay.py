@@ -12,7 +12,21 @@ import re
 import shutil
 import subprocess
 import tempfile
-from typing import Callable, Deque, Dict, Generator, IO, Iterable, Iterator, List, Optional, Sequence, Set, Tuple
+from typing import (
+    Callable,
+    Deque,
+    Dict,
+    Generator,
+    IO,
+    Iterable,
+    Iterator,
+    List,
+    Optional,
+    Sequence,
+    Set,
+    Tuple,
+    TypeVar,
+)
 
 from .captures import GIVES, Capture, captures_where
 from .catalogue import Catalogue, Known
@@ -30,6 +44,7 @@ MOST_IN_ROW = 16
 UNRESOLVED = ("P4", "P5", "P7 Segment G2", "P7 Segment G4")
 NAMES = ("WARC-Refers-To", "WARC-Refers-To-Target-URI", "WARC-Refers-To-Date")
 Names = List[Optional[Stored]]
+Asked = TypeVar("Asked")
 END_OF_LINE = re.compile(rb"\r\n(?![ \t])")
 FOLD = re.compile(rb"\r\n[ \t]+")
 # The most bytes of a record whose body is decoded.
@@ -37,6 +52,8 @@ MOST_DECODED = 1 << 30
 # What the program says of a body: the record that it is of, its facts, and the fields that name its codings.
 GIVEN = re.compile(r"chosen \d+ given (\d+) (.*?)( coded .*)?", re.DOTALL)
 CODED = "P10 "
+# A file in such a state is asked where no other one has the capture.
+DOUBTED = ("bad", "rotten")
 DISAGREE = "files disagree on this capture"
 
 
@@ -126,6 +143,29 @@ def check_path(known: Known) -> None:
         check(known, stamp_of(os.stat(path)))
     except OSError as error:
         raise Trouble("%s: %s" % (escaped(known.path), reason_of(error, path))) from None
+
+
+def trouble_with(known: Known) -> Optional[str]:
+    """Why another copy is asked rather than this file, if there is one."""
+    if known.state in DOUBTED:
+        return "%s: it is %s" % (escaped(known.path), known.state)
+    try:
+        check_path(known)
+    except Trouble as trouble:
+        return str(trouble)
+    is_readable = os.access(real_path(known.path), os.R_OK)
+    return None if is_readable else "%s: it can't be read" % escaped(known.path)
+
+
+def without_troubled(catalogue: Catalogue, captures: Sequence[Capture]) -> Tuple[List[Capture], List[str]]:
+    """The captures but for those of files that are in trouble where another file has one of the same instant, and why
+    these were passed over."""
+    files = {file: catalogue.files_where("files.file = ?", (file,))[0] for file in {it.file for it in captures}}
+    why = {file: trouble_with(known) for file, known in files.items()}
+    fit = {it.instant for it in captures if why[it.file] is None}
+    is_passed = [it.instant in fit and why[it.file] is not None for it in captures]
+    lines = dict.fromkeys(str(why[it.file]) for it, passed in zip(captures, is_passed) if passed)
+    return [it for it, passed in zip(captures, is_passed) if not passed], list(lines)
 
 
 class Files:
@@ -225,6 +265,7 @@ class Replayer:
         self.temporary = temporary_folder(temporary)
         self.options = ["--stored"] if is_stored else []
         self.asked: Dict[Tuple[int, Optional[int]], List[Capture]] = {}
+        self.passed: List[str] = []
 
     def known(self, file: int) -> Known:
         return self.catalogue.files_where("files.file = ?", (file,))[0]
@@ -370,11 +411,41 @@ class Replayer:
             return [self.body(capture)]
         groups = [self.needed(it, capture.file) for it in self.candidates(capture)]
         groups = [group for place, group in enumerate(groups) if group not in groups[:place]]
-        answers = [self.body(capture, group) for group in groups]
+        answers = self.each(lambda group: [self.body(capture, group)], groups)
         settled = [it for it in answers if not is_unresolved(it.reason)]
         if not settled and len(groups) > 1:
-            settled = [self.body(capture, list(dict.fromkeys(file for group in groups for file in group)))]
+            with contextlib.suppress(Trouble):  # of a file that was passed over
+                settled = [self.body(capture, list(dict.fromkeys(file for group in groups for file in group)))]
         return settled or answers[:1] or [self.body(capture)]
+
+    def each(self, ask: Callable[[Asked], List[Answer]], items: Sequence[Asked]) -> List[Answer]:
+        """What all of these give. Those in trouble are passed over, unless all are."""
+        answers, troubles = [], []
+        for item in items:
+            try:
+                answers += ask(item)
+            except Trouble as trouble:
+                troubles.append(trouble)
+        if troubles and not answers:
+            raise troubles[0]
+        self.passed += [str(trouble) for trouble in troubles]
+        return answers
+
+    def all_answers(self, captures: Sequence[Capture]) -> List[Answer]:
+        """What captures of one instant give. A copy in a file that can't be read, is bad or is rotten is passed over
+        where another one gives an answer: only copies that can be read may disagree."""
+        fit = [it for it in captures if it.state not in DOUBTED]
+        doubted = [it for it in captures if it.state in DOUBTED]
+        try:
+            answers = self.each(self.answers, fit)
+        except Trouble:
+            if not doubted:
+                raise
+            answers = []
+        if not answers:
+            return self.each(self.answers, doubted)
+        self.passed += ["%s: it is %s" % (escaped(it.path), it.state) for it in doubted]
+        return answers
 
 
 def place_in(files: Sequence[Known], position: int) -> Tuple[Known, int]:

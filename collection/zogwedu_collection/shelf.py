@@ -9,15 +9,17 @@ import mmap
 import os
 import threading
 import time
-from typing import Any, Iterator, Optional, OrderedDict, Sequence, Tuple, Union
+from typing import Any, Iterator, Optional, OrderedDict, Sequence, Set, Tuple, Union
 
 from .catalogue import Known
 from .disk import Stamp
 from .replay import Files, check_path
-from .texts import Trouble, escaped
+from .texts import Trouble, escaped, say
 
 # How long a request waits for another one to give an archive back, or to open it.
 PATIENCE_SECONDS = 20.0
+# The most lines about files that were passed over.
+MOST_PASSED = 1000
 Key = Tuple[Tuple[int, Optional[Stamp]], ...]
 
 
@@ -53,6 +55,7 @@ class Shelf:
         self.most_archives = most_archives
         self.most_unpacked = most_unpacked
         self.unpacked = 0
+        self.passed: Set[str] = set()
         self.held: OrderedDict[Key, Held] = collections.OrderedDict()
         self.changed = threading.Condition()
 
@@ -71,6 +74,14 @@ class Shelf:
             with self.changed:
                 held.users -= 1
                 self.changed.notify_all()
+
+    def note_passed(self, lines: Sequence[str]) -> None:
+        """Says which files were passed over, each once: who asks again and again fills no log."""
+        with self.changed:
+            new = [line for line in dict.fromkeys(lines) if line not in self.passed]
+            self.passed.update(new if len(self.passed) < MOST_PASSED else ())
+        for line in new if len(self.passed) < MOST_PASSED else ():
+            say("passed over: " + line)
 
     def take(self, key: Key) -> Tuple[Held, bool]:
         """The archive of a key, and whether the caller has to open it. One that another request opens is waited for."""

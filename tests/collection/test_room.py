@@ -6,6 +6,7 @@ import os
 import shutil
 import sqlite3
 import sys
+from typing import Any, List
 
 import pytest
 from conftest import PROJECT, URI, Collection, record
@@ -60,18 +61,19 @@ def test_a_full_disk_is_named(collection: Collection) -> None:
     catalogue.base.close()
 
 
-def compressed(package: object, *blocks: bytes, **how: object) -> bytes:
+def compressed(package: Any, *blocks: bytes, **how: object) -> bytes:
     """Frames of zstd."""
-    frames = [package.ZstdCompressor(**how).compress(block) for block in blocks]  # type: ignore[attr-defined]
-    return bytes(b"".join(frames))
+    frames: List[bytes] = [package.ZstdCompressor(**how).compress(block) for block in blocks]
+    return b"".join(frames)
 
 
-def with_dictionary(package: object, is_compressed: bool) -> bytes:
+def with_dictionary(package: Any, is_compressed: bool) -> bytes:
     """Records, each compressed by a dictionary that is in a frame before them."""
-    train = package.train_dictionary  # type: ignore[attr-defined]
-    dictionary = train(4000, [record(place, b"page %d" % place, URI + str(place)) for place in range(300)])
-    data = dictionary.as_bytes()
-    data = compressed(package, data) if is_compressed else data
+    dictionary = package.train_dictionary(
+        4000, [record(place, b"page %d" % place, URI + str(place)) for place in range(300)]
+    )
+    plain: bytes = dictionary.as_bytes()
+    data = compressed(package, plain) if is_compressed else plain
     frame = b"\x5d\x2a\x4d\x18" + len(data).to_bytes(4, "little") + data
     return frame + compressed(package, record(1), record(2, target=URI + "2"), dict_data=dictionary)
 
