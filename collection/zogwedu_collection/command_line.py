@@ -63,6 +63,7 @@ def add_run_options(parser: argparse.ArgumentParser) -> None:
     add("--digest", action="store_true", help=digest)
     missing = "takes files for gone that aren't there, however many of a folder"
     add("--allow-missing", action="store_true", help=missing)
+    add("--batch", type=count_of, metavar="N", help="files for each job; as many as take some seconds without it")
     within = "reads again the files that were read longest ago, so many that each is read once in a time, as 30d"
     add("--within", type=seconds_in, metavar="TIME", help=within)
     rate = "the most bytes that all jobs of a run read in a second; K, M, G and T are powers of 1024"
@@ -103,7 +104,6 @@ def add_machines(parser: argparse.ArgumentParser) -> None:
     hosts = "machines that see the same files, as GNU parallel takes them: 4/host1,host2; : is this one"
     add("--sshlogin", action="append", default=[], metavar="HOSTS", help=hosts)
     add("--sshloginfile", action="append", default=[], metavar="FILE", help="a file with a machine a line")
-    add("--batch", type=int, metavar="N", help="files for each job; 1 here, 4 on other machines")
     add("--quiet", action="store_true", help="no progress bar")
 
 

@@ -19,7 +19,7 @@ from .moves import forget_files, prune
 from .program import usable_program
 from .replay import Answer, Replayer, settled, without_troubled, write_body
 from .report import write_report
-from .runs import Asked, Machines, do_run, load, make_plan
+from .runs import SECONDS_A_FAR_JOB, SECONDS_A_JOB, Asked, Machines, do_run, load, make_plan
 from .states import ALARMING, STATES
 from .texts import Trouble, counted, say, shown
 
@@ -29,7 +29,9 @@ Options = argparse.Namespace
 def asked(options: Options) -> Asked:
     words = options.paths, options.files, options.all, options.warc, options.temporary, options.timeout, options.digest
     how = options.within, options.rate, options.allow_missing, options.unpacked
-    return Asked(*words, *how, getattr(options, "jobs", None))
+    is_far = getattr(options, "sshlogin", None) or getattr(options, "sshloginfile", None)
+    seconds = SECONDS_A_FAR_JOB if is_far else SECONDS_A_JOB
+    return Asked(*words, *how, getattr(options, "jobs", None), options.batch, seconds)
 
 
 def alarm_of(options: Options) -> Alarm:
@@ -52,7 +54,7 @@ def write_own_report(catalogue: Catalogue) -> None:
 
 def run_command(options: Options) -> int:
     catalogue = Catalogue(options.catalogue, is_made=True)
-    machines = Machines(options.sshlogin, options.sshloginfile, options.jobs, options.batch, options.quiet)
+    machines = Machines(options.sshlogin, options.sshloginfile, options.jobs, options.quiet)
     with catalogue.locked():
         plan = do_run(catalogue, asked(options), machines)
         write_own_report(catalogue)

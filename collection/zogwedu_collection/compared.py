@@ -11,6 +11,7 @@ from typing import Any, Iterator, List, Optional, Sequence, Set, Tuple
 from .catalogue import OF_A_FILE, Catalogue
 from .job import Outcome
 from .lines import RecordRow, Sums, digest_rows, record_rows
+from .parts import Parts
 from .states import READ
 from .texts import counted, now, stored_path
 
@@ -74,19 +75,19 @@ class Now:
         return "unchecked" if position in self.unchecked else "bad" if position in self.bad else "good"
 
 
-def now_in(folder: str) -> Now:
+def now_in(parts: Parts) -> Now:
     """What a job found of the records of a file."""
-    rows = [(row.position, row.verdict) for row in digest_rows(0, folder)]
+    rows = [(row.position, row.verdict) for row in digest_rows(0, parts)]
     bad = {position for position, verdict in rows if verdict == "bad"}
-    return Now(record_rows(0, folder, Sums()), bad, {position for position, _ in rows} - bad)
+    return Now(record_rows(0, parts, Sums()), bad, {position for position, _ in rows} - bad)
 
 
-def difference(catalogue: Catalogue, file: int, folder: str) -> Difference:
+def difference(catalogue: Catalogue, file: int, parts: Parts) -> Difference:
     """How the records that a job found differ from those of the reading before. Of a file that was damaged then, the
     good records have to be there in their order, since their places aren't those of the file."""
     was_damaged = catalogue.one("SELECT coalesce(damaged, 0) > 0 FROM readings WHERE file = ?", (file,))[0]
     before = catalogue.base.execute(BEFORE, (file,))
-    return in_order(before, now_in(folder)) if was_damaged else one_by_one(before, now_in(folder))
+    return in_order(before, now_in(parts)) if was_damaged else one_by_one(before, now_in(parts))
 
 
 def one_by_one(before: Iterator[Tuple[Any, ...]], there: Now) -> Difference:
@@ -112,11 +113,11 @@ def in_order(before: Iterator[Tuple[Any, ...]], there: Now) -> Difference:
     return found
 
 
-def compare(catalogue: Catalogue, file: int, sha256: Optional[str], folder: str, outcome: Outcome) -> bool:
+def compare(catalogue: Catalogue, file: int, sha256: Optional[str], parts: Parts, outcome: Outcome) -> bool:
     """Corrects the state of a file by its reading before: altered, or grown where nothing else is to be said. Returns
     whether its records are those of before."""
     if outcome.has_rows():
-        found = difference(catalogue, file, folder)
+        found = difference(catalogue, file, parts)
     elif outcome.state == "refused" and outcome.pieces is not None:
         count = catalogue.one("SELECT count(*) FROM records WHERE file = ?", (file,))[0]
         found = Difference(count, count)

@@ -16,6 +16,9 @@ from .watched import LIST, NOT_THERE, Watched
 
 SUFFIXES = (b".warc", b".warc.gz", b".warc.zst")
 # What the system says of a file that isn't there. Of any other error nothing follows.
+# What a file takes at least, and how fast it is read: for how many files are a job.
+FILE_SECONDS = 0.1
+BYTES_A_SECOND = 100e6
 # A run asks before it takes more files of a folder for gone than this, and than one of so many of them.
 MOST_GONE = 10
 MOST_PART = 10
@@ -231,9 +234,9 @@ def is_unwatched(path: str, found: Found, whole: Sequence[Watched]) -> bool:
     return not any(it.kind == LIST and it.path in found.unread for it in whole)
 
 
-def files_to_do(catalogue: Catalogue, run: Run, found: Found, is_digested: bool) -> List[str]:
+def files_to_do(catalogue: Catalogue, run: Run, found: Found, is_digested: bool) -> List[Tuple[int, str]]:
     """The files that are new, changed or not read yet, or in a run over all files those that it has not done; where the
-    digests of whole files are kept, also those without one. Largest first."""
+    digests of whole files are kept, also those without one. Largest first, with their sizes."""
     chosen: List[Tuple[int, str]] = []
     query = "SELECT size, modified, changed, inode, seen, file, path, state, run, sha256, due FROM files"
     for *seen, file, path, state, last, sha256, due in catalogue.rows(query):
@@ -249,4 +252,18 @@ def files_to_do(catalogue: Catalogue, run: Run, found: Found, is_digested: bool)
             catalogue.base.execute("UPDATE files SET state = 'good', detail = '' WHERE file = ?", (file,))
         if not is_done and (run.scope == "all" or not is_known):
             chosen.append((-stamp.size, real_path(path)))
-    return [path for _, path in sorted(chosen)]
+    return [(-size, path) for size, path in sorted(chosen)]
+
+
+def batches(files: Sequence[Tuple[int, str]], batch: Optional[int], seconds: float) -> List[List[str]]:
+    """The files of each job: so many, or as many as take some seconds."""
+    jobs: List[List[str]] = []
+    left = 0.0
+    for size, path in files:
+        cost = FILE_SECONDS + size / BYTES_A_SECOND
+        if not jobs or (len(jobs[-1]) >= batch if batch else left < cost):
+            jobs.append([])
+            left = seconds
+        jobs[-1].append(path)
+        left -= cost
+    return jobs

@@ -1,27 +1,25 @@
-"""A job: the commands over one file, with what they wrote in a folder. It runs on any machine that sees the file and
-the folder of the jobs."""
+"""The commands over one file, with what they wrote in one stream. They run on any machine that sees the file and the
+folder of the jobs."""
 from __future__ import annotations
 
 import contextlib
 import dataclasses
 import hashlib
-import json
 import os
 import socket
 import subprocess
-import tempfile
 import time
-from typing import Dict, IO, Iterator, List, Optional, Sequence, Set, Tuple
+from typing import Any, Dict, IO, List, Optional, Sequence, Tuple
 
 from .damaged import Pieces, TooSlow, counted_pieces, good_records, patience_for
 from .disk import Stamp, open_regular, open_stamp, reason_of, stamp_of, temporary_folder
 from .pace import Pace
+from .parts import SURVEY, Parts, Tally
 from .program import Settings, said
 from .space import Room
 from .states import READ
-from .survey import split_survey
 from .texts import counted
-from .unpack import PIECE, Damaged, Unsupported, pieces_of, unpacked
+from .unpack import PIECE, Damaged, Unsupported, pieces_of, unpacked, write_all
 
 # The words of each command, by the name of what it writes, and the statuses with which it is done.
 COMMANDS = {
@@ -42,11 +40,6 @@ DONE = {
 }
 # These read in order, and so also a pipe.
 IN_ORDER = ("list", "fixity", "check", "summary")
-# The most bytes of a head that are hashed, and how much of the SHA-256 is kept.
-MOST_HASHED = 1 << 20
-HASH_DIGITS = 32
-# The digest of no bytes, which wget states in each revisit, though the revisit has a block.
-OF_NO_BYTES = b"sha1:3I42H3S6NNFQ2MSVX7XZKYAYSCX5QBYJ"
 
 
 @dataclasses.dataclass
@@ -63,6 +56,7 @@ class Outcome:
     sha256: Optional[str] = None
     no_bytes: int = 0
     pieces: Optional[Pieces] = None  # of a refused file, where they are known
+    places: Dict[str, List[int]] = dataclasses.field(default_factory=dict)  # of the parts of what was written
 
     def has_rows(self) -> bool:
         """Whether the commands wrote what is there of a file, or of the good records of a damaged one."""
@@ -70,15 +64,13 @@ class Outcome:
             self.state == "refused" and self.pieces is not None and self.pieces.good_records > 0
         )
 
-    def write(self, folder: str) -> None:
-        with open(os.path.join(folder, "outcome"), "w", encoding="ascii") as out:
-            json.dump(dataclasses.asdict(self), out)
+    def values(self) -> Dict[str, Any]:
+        """The outcome as JSON has it."""
+        return dataclasses.asdict(self)
 
 
-def read_outcome(folder: str) -> Outcome:
+def outcome_of(values: Dict[str, Any]) -> Outcome:
     """The outcome that a job wrote. What isn't one is a ValueError, a KeyError or a TypeError."""
-    with open(os.path.join(folder, "outcome"), encoding="ascii") as file:
-        values = json.load(file)
     stamp, pieces = values.pop("stamp"), values.pop("pieces", None)
     outcome = Outcome(**values)
     outcome.stamp = None if stamp is None else Stamp(**stamp)
@@ -108,6 +100,7 @@ class Source:
         """Runs the program over it. Returns its exit status and its message."""
         if self.seekable is not None:
             self.seekable.seek(0)
+            out.seek(0, os.SEEK_END)
             with subprocess.Popen(words, stdin=self.seekable, stdout=out, stderr=subprocess.PIPE) as child:
                 _, message = self.pace.finish(child, self.size())
             return child.returncode, said(message)
@@ -143,55 +136,6 @@ def sha256_of(file: IO[bytes], pace: Pace) -> str:
     return digest.hexdigest()
 
 
-def lines_of(folder: str, command: str) -> Iterator[bytes]:
-    """The lines that a command wrote, without their ends. No column holds a line feed."""
-    path = os.path.join(folder, command)
-    if os.path.exists(path):
-        with open(path, "rb") as file:
-            for line in file:
-                if not line.endswith(b"\n"):
-                    raise ValueError("a line without an end")
-                yield line[:-1]
-
-
-def has_lines(folder: str, command: str) -> bool:
-    """Whether a command was run."""
-    return os.path.exists(os.path.join(folder, command))
-
-
-def write_hashes(folder: str, source: IO[bytes]) -> None:
-    """Writes a hash of each record: of what `list` says of it, and of as many bytes of it as it has beside its block.
-    So another digest in its head shows, though nothing else differs."""
-    waiting: Optional[List[bytes]] = None
-    with open(os.path.join(folder, "hashes"), "wb") as out:
-        for line in lines_of(folder, "list"):
-            row = line.split(b"\t", 3)
-            if waiting is not None:
-                out.write(hash_of(source, waiting, int(row[1])))
-            waiting = row
-        if waiting is not None:
-            out.write(hash_of(source, waiting, os.fstat(source.fileno()).st_size))
-
-
-def hash_of(source: IO[bytes], row: List[bytes], end: int) -> bytes:
-    """A line with the hash of a record that ends at an offset."""
-    _, offset, length, words = row
-    beside = min(max(end - int(offset) - int(length), 0), MOST_HASHED)
-    head = os.pread(source.fileno(), beside, int(offset))
-    return hashlib.sha256(words + b"\n" + head).hexdigest()[:HASH_DIGITS].encode("ascii") + b"\n"
-
-
-def is_of_bad_payload(line: bytes) -> bool:
-    """Whether a line of `fixity --payload` is that of a payload with another digest."""
-    return line.split(b"\t", 2)[1:2] == [b"bad"]
-
-
-def summary_of(folder: str) -> Dict[str, str]:
-    """The lines of `summary`: values by their names."""
-    pairs = (line.decode("utf-8", "replace").split("\t", 1) for line in lines_of(folder, "summary"))
-    return {name: value for name, value in pairs}
-
-
 def failure_of(command: str, status: int, message: str) -> Optional[Tuple[str, str]]:
     """The state of a file of which a command failed, and why it did."""
     if status == 2:
@@ -203,13 +147,13 @@ def failure_of(command: str, status: int, message: str) -> Optional[Tuple[str, s
 
 
 class Job:
-    """The commands over one file, with what they wrote in a folder."""
+    """The commands over one file."""
 
-    def __init__(self, settings: Settings, path: str, folder: str) -> None:
+    def __init__(self, settings: Settings, path: str, folder: str, jobs: str) -> None:
+        """`folder` takes what the job writes, and `jobs` is the folder of all jobs of the run."""
         self.settings = settings
-        self.folder = folder
+        self.path = os.path.join(folder, "part")
         self.outcome = Outcome(path)
-        jobs = os.path.dirname(os.path.dirname(folder))  # the folder of all jobs of the run
         self.pace = Pace(jobs, settings.rate)
         self.room = Room(jobs, settings.unpacked, settings.jobs or os.cpu_count() or 1)
         self.where = temporary_folder(settings.temporary)
@@ -275,7 +219,7 @@ class Job:
             if copy is None:
                 return "no-room", "%s; %s" % (detail, self.no_room("copy its good records to"))
             with copy:
-                unpaced = Pace(self.folder, None)
+                unpaced = Pace("", None)
                 state, words = self.judge_copy(Source(copy, self.where, unpaced, self.room), pieces)
             if state != "refused":
                 return state, words
@@ -288,71 +232,80 @@ class Job:
         state, words = self.run_commands(copy)
         if state not in READ:
             return "failed", "its good records: " + words
-        found = summary_of(self.folder)
+        found = Parts(self.path, self.outcome.places).summary()
         if (int(found["records"]), int(found["bytes"])) != (pieces.good_records, pieces.good_bytes):
             return "failed", "its good records aren't those that were counted: it changed, or its disk fails"
         return "refused", words and "; of the good records: " + words
 
     def run_commands(self, source: Source) -> Tuple[str, str]:
         """Runs the survey and the command for payloads, or over a pipe the commands that read in order, up to one that
-        fails."""
-        if source.seekable is None:
-            stopped = self.run_each(source, IN_ORDER)
-        else:
-            stopped = self.run_survey(source) or self.run_each(source, ("payloads",))
-            if not stopped:
-                write_hashes(self.folder, source.seekable)
-        return stopped or self.verdict(source)
+        fails. All that they write is one stream."""
+        with open(self.path, "wb+", buffering=0) as out:
+            if source.seekable is None:
+                return self.run_each(source, out, IN_ORDER) or self.verdict(source, out, IN_ORDER)
+            return self.run_survey(source, out) or self.verdict(source, out, (*SURVEY, "payloads"))
 
-    def run_each(self, source: Source, commands: Sequence[str]) -> Optional[Tuple[str, str]]:
+    def run_each(self, source: Source, out: IO[bytes], commands: Sequence[str]) -> Optional[Tuple[str, str]]:
         """Runs commands, up to one that fails. Returns the state and the words of a failure."""
         for command in commands:
-            with open(os.path.join(self.folder, command), "wb") as out:
-                status, message = source.run([self.settings.warc, *COMMANDS[command], "-"], out)
+            out.write(b"# %s\n" % command.encode("ascii"))
+            status, message = source.run([self.settings.warc, *COMMANDS[command], "-"], out)
             self.outcome.statuses[command] = status
             stopped = failure_of(command, status, message)
             if stopped:
                 return stopped
         return None
 
-    def run_survey(self, source: Source) -> Optional[Tuple[str, str]]:
-        """Runs `survey`, and splits what it writes. If it fails, `list`, its first part, gets its status."""
-        with tempfile.TemporaryFile(dir=self.folder) as survey:
-            status, message = source.run([self.settings.warc, "survey", "-"], survey)
-            if status:
-                self.outcome.statuses["list"] = status
-                return failure_of("survey", status, message)
-            survey.seek(0)
-            try:
-                split_survey(survey, self.folder)
-            except ValueError as error:
-                return "failed", "survey: %s" % error
-        self.outcome.statuses.update(self.part_statuses())
-        return None
+    def run_survey(self, source: Source, out: IO[bytes]) -> Optional[Tuple[str, str]]:
+        """Runs `survey`, and then what it doesn't do. If it fails, `list`, its first part, gets its status."""
+        status, message = source.run([self.settings.warc, "survey", "-"], out)
+        if status:
+            self.outcome.statuses["list"] = status
+            return failure_of("survey", status, message)
+        if out.seek(0, os.SEEK_END) and os.pread(out.fileno(), 1, out.tell() - 1) != b"\n":
+            return "failed", "survey: a line without an end"
+        return self.run_each(source, out, ("payloads",))
 
-    def part_statuses(self) -> Dict[str, int]:
+    def part_statuses(self, tally: Tally) -> Dict[str, int]:
         """The status with which each command of the survey ends by itself."""
-        found = summary_of(self.folder)
-        lines = {name: os.path.getsize(os.path.join(self.folder, name)) > 0 for name in ("check", "captures")}
+        found = Parts(self.path, tally.places).summary()
+        lines = {name: tally.places[name][0] < tally.places[name][1] for name in ("check", "captures")}
         digests = 1 if int(found["bad"]) else 4 if int(found["unchecked"]) else 0
         captures = 0 if lines["captures"] else 1
         return {"list": 0, "fixity": digests, "check": int(lines["check"]), "summary": 0, "captures": captures}
 
-    def verdict(self, source: Source) -> Tuple[str, str]:
+    def verdict(self, source: Source, out: IO[bytes], parts: Sequence[str]) -> Tuple[str, str]:
         """The state of a file that could be read, and why it isn't better."""
-        bad, unchecked, empty = self.blocks()
-        payloads = sum(is_of_bad_payload(line) for line in lines_of(self.folder, "payloads"))
-        self.outcome.no_bytes = len(empty)
-        ignored = {b"%d N4" % position for position in empty}
-        findings = sum(line not in ignored for line in lines_of(self.folder, "check"))
-        # Revisits with such a digest are counted apart: they are no damage.
+        tally = Tally(source.seekable)
+        try:
+            with open(self.path, "rb") as written:
+                tally.read(written, parts)
+        except ValueError as error:
+            return "failed", "survey: %s" % error
+        self.outcome.places = tally.places
+        if source.seekable is not None:
+            self.outcome.statuses.update(self.part_statuses(tally))
+            self.put_hashes(out, tally)
+        self.outcome.no_bytes = len(tally.empty)
+        return self.state_of(tally, source)
+
+    def put_hashes(self, out: IO[bytes], tally: Tally) -> None:
+        """Writes the hashes of the records after what the program wrote."""
+        begin = out.seek(0, os.SEEK_END)
+        write_all(out, bytes(tally.hashes))
+        self.outcome.places["hashes"] = [begin, begin + len(tally.hashes)]
+
+    def state_of(self, it: Tally, source: Source) -> Tuple[str, str]:
         about = (
-            ("bad", bad and counted(bad, "block doesn't have its digest", "blocks don't have their digests")),
-            ("bad", payloads and counted(payloads, "payload doesn't have its digest", "payloads don't have theirs")),
-            ("unchecked", unchecked and counted(unchecked, "block") + " can't be checked"),
-            ("findings", findings and counted(findings, "finding")),
+            ("bad", it.bad and counted(it.bad, "block doesn't have its digest", "blocks don't have their digests")),
+            (
+                "bad",
+                it.payloads and counted(it.payloads, "payload doesn't have its digest", "payloads don't have theirs"),
+            ),
+            ("unchecked", it.unchecked and counted(it.unchecked, "block") + " can't be checked"),
+            ("findings", it.findings and counted(it.findings, "finding")),
             ("no-room", source.seekable is None and self.no_room("unpack it in")),
-            ("good", empty and counted(len(empty), "revisit") + " with the digest of no bytes"),
+            ("good", it.empty and counted(len(it.empty), "revisit") + " with the digest of no bytes"),
         )
         found = {state for state, words in about if words}
         state = next((state for state in ("no-room", "bad", "unchecked", "findings") if state in found), "good")
@@ -361,25 +314,3 @@ class Job:
     def no_room(self, what: str) -> str:
         """Why a file couldn't be unpacked."""
         return self.room.why or "no room to %s %s" % (what, self.where)
-
-    def blocks(self) -> Tuple[int, int, Set[int]]:
-        """How many blocks are bad and can't be checked, and the positions of revisits with the digest of no bytes."""
-        bad, unchecked, empty = 0, 0, set()
-        for line in lines_of(self.folder, "fixity"):
-            if b"\t" in line:
-                position, verdict, rest = line.split(b"\t", 2)
-                bad += verdict == b"bad"
-                unchecked += verdict == b"unchecked"
-                if verdict == b"bad" and rest.endswith(b"\t" + OF_NO_BYTES):
-                    empty.add(int(position))
-        empty &= self.revisits() if empty else set()
-        return bad - len(empty), unchecked, empty
-
-    def revisits(self) -> Set[int]:
-        """The positions of the revisits."""
-        found = set()
-        for line in lines_of(self.folder, "list"):
-            columns = line.split(b"\t", 4)
-            if columns[3].lower() == b"revisit":
-                found.add(int(columns[0]))
-        return found

@@ -1,4 +1,5 @@
-"""Lists of jobs: written, and done by their numbers. What a job found gets its place by one renaming."""
+"""Lists of jobs: written, and done by their numbers. A job is some files; what it found of them gets its place by one
+renaming."""
 from __future__ import annotations
 
 import contextlib
@@ -9,55 +10,76 @@ import shutil
 import signal
 import tempfile
 import traceback
-from typing import List, NoReturn, Optional, Sequence
+from typing import IO, Any, Dict, List, NoReturn, Optional, Sequence
 
 from .disk import made_folder, put_folder, temporary_folder
 from .job import Job, Outcome
 from .program import Settings, check_program
 from .texts import Trouble, shown
-from .unpack import NO_ROOM
+from .unpack import NO_ROOM, PIECE
 
 GRACE_SECONDS = 5.0
+# Where the files of a job begin, and how many they are. Each line is as long as any other.
+LINE = b"%016d %08d\n"
 
 
 class TookTooLong(Exception):
     """The time of a job is over."""
 
 
-def write_jobs(folder: str, settings: Settings, paths: Sequence[str]) -> None:
-    """Writes a list of jobs. It gets its name when all of it is on the disk."""
+def write_jobs(folder: str, settings: Settings, jobs: Sequence[Sequence[str]]) -> None:
+    """Writes a list of jobs, each of which is some files. It gets its name when all of it is on the disk. A line of
+    `jobs` says where the files of a job are in `files`, and is as long as any other, so that a job reads no more than
+    its own."""
     made = made_folder(os.path.basename(folder) + ".", os.path.dirname(folder))
     for name in ("work", "done"):
         os.mkdir(os.path.join(made, name))
     with open(os.path.join(made, "settings"), "w", encoding="ascii") as out:
         json.dump(dataclasses.asdict(settings), out)
-    with open(os.path.join(made, "jobs"), "w", encoding="ascii") as out:
-        out.writelines(json.dumps(path) + "\n" for path in paths)
+    with open(os.path.join(made, "jobs"), "wb") as lines, open(os.path.join(made, "files"), "wb") as files:
+        for paths in jobs:
+            lines.write(LINE % (files.tell(), len(paths)))
+            files.writelines(json.dumps(path).encode("ascii") + b"\n" for path in paths)
     put_folder(made, folder)
 
 
-def listed_jobs(folder: str) -> List[str]:
-    """The files of a list, by the numbers of their jobs less one."""
-    with open(os.path.join(folder, "jobs"), encoding="ascii") as file:
-        return [json.loads(line) for line in file]
+def count_of_jobs(folder: str) -> int:
+    """How many jobs a list has."""
+    return os.path.getsize(os.path.join(folder, "jobs")) // len(LINE % (0, 0))
+
+
+def files_of(folder: str, number: int) -> List[str]:
+    """The files of a job, by its number from 1."""
+    length = len(LINE % (0, 0))
+    with open(os.path.join(folder, "jobs"), "rb") as lines, open(os.path.join(folder, "files"), "rb") as files:
+        lines.seek((number - 1) * length)
+        at, count = map(int, lines.read(length).split())
+        files.seek(at)
+        return [json.loads(files.readline()) for _ in range(count)]
+
+
+def all_files(folder: str) -> List[str]:
+    """The files of all jobs."""
+    with open(os.path.join(folder, "files"), "rb") as files:
+        return [json.loads(line) for line in files]
 
 
 def do_jobs(folder: str, numbers: Sequence[int]) -> int:
     """Does jobs of a list."""
     try:
-        paths = listed_jobs(folder)
+        count = count_of_jobs(folder)
         with open(os.path.join(folder, "settings"), encoding="ascii") as file:
             settings = Settings(**json.load(file))
     except (OSError, ValueError, TypeError) as error:
         raise Trouble("no list of jobs in %s: %s" % (shown(folder), error)) from None
-    wrong = [number for number in numbers if not 1 <= number <= len(paths)]
+    wrong = [number for number in numbers if not 1 <= number <= count]
     if wrong:
-        raise Trouble("no job %d: the list has 1 to %d" % (wrong[0], len(paths)))
+        raise Trouble("no job %d: the list has 1 to %d" % (wrong[0], count))
     check_program(settings)
     check_room(settings)
     for number in numbers:
         if not os.path.exists(os.path.join(folder, "done", str(number))):
-            do_job(settings, paths[number - 1], folder, number)
+            do_job(settings, folder, number)
     return 0
 
 
@@ -71,16 +93,15 @@ def check_room(settings: Settings) -> None:
             raise Trouble("--temporary: %s: %s" % (shown(folder), error.strerror)) from None
 
 
-def do_job(settings: Settings, path: str, folder: str, number: int) -> None:
-    """Does a job in a process of its own, which is ended when the time of the job is over."""
-    work, done = os.path.join(folder, "work"), os.path.join(folder, "done", str(number))
-    own = made_folder("%d." % number, work)
-    why = ended(settings, path, own)
-    if why is not None:
-        # What the process wrote may not be whole, and it may still write.
-        own = made_folder("%d." % number, work)
-        Outcome(path, detail=why).write(own)
+def do_job(settings: Settings, folder: str, number: int) -> None:
+    """Does a job: what it found of its files is one stream, and a line for each of them."""
+    done = os.path.join(folder, "done", str(number))
+    own = made_folder("%d." % number, os.path.join(folder, "work"))
     try:
+        with open(os.path.join(own, "output"), "wb") as output, open(os.path.join(own, "outcomes"), "wb") as outcomes:
+            for path in files_of(folder, number):
+                values = do_file(settings, path, folder, output)
+                outcomes.write(json.dumps(values).encode("ascii") + b"\n")
         put_folder(own, done)
     except OSError:
         shutil.rmtree(own, ignore_errors=True)
@@ -88,11 +109,32 @@ def do_job(settings: Settings, path: str, folder: str, number: int) -> None:
             raise
 
 
-def ended(settings: Settings, path: str, folder: str) -> Optional[str]:
-    """Runs the process of a job to its end. Returns why there is no outcome, or None."""
+def do_file(settings: Settings, path: str, folder: str, output: IO[bytes]) -> Dict[str, Any]:
+    """Does what a job does over one file in a process of its own, which is ended when the time of the file is over.
+    Returns the outcome. What the process wrote is added to the stream once it is whole: a process that can't be ended
+    may still write."""
+    own = made_folder("file.", os.path.join(folder, "work"))
+    try:
+        why = ended(settings, path, own, folder)
+        if why is not None:
+            return Outcome(path, detail=why).values()
+        with open(os.path.join(own, "outcome"), "rb") as file:
+            values: Dict[str, Any] = json.load(file)
+        begin = output.tell()
+        if values["places"]:
+            with open(os.path.join(own, "part"), "rb") as part:
+                shutil.copyfileobj(part, output, PIECE)
+        values["places"] = {name: [begin + at for at in place] for name, place in values["places"].items()}
+        return values
+    finally:
+        shutil.rmtree(own, ignore_errors=True)
+
+
+def ended(settings: Settings, path: str, own: str, folder: str) -> Optional[str]:
+    """Runs the process over a file to its end. Returns why there is no outcome, or None."""
     child = os.fork()
     if child == 0:
-        do_and_exit(Job(settings, path, folder))
+        do_and_exit(Job(settings, path, own, folder), own)
     signal.signal(signal.SIGALRM, ring)
     try:
         signal.setitimer(signal.ITIMER_REAL, settings.timeout or 0)
@@ -111,13 +153,15 @@ def ended(settings: Settings, path: str, folder: str) -> Optional[str]:
     return None
 
 
-def do_and_exit(job: Job) -> NoReturn:
-    """What the process of a job does. It has a group of processes of its own, with the program that it runs."""
+def do_and_exit(job: Job, own: str) -> NoReturn:
+    """What the process over a file does. It has a group of processes of its own, with the program that it runs."""
     status = 1
     try:
         os.setpgid(0, 0)
         signal.signal(signal.SIGTERM, signal.SIG_DFL)
-        job.do().write(job.folder)
+        values = job.do().values()
+        with open(os.path.join(own, "outcome"), "wb") as out:
+            out.write(json.dumps(values).encode("ascii"))
         status = 0
     except BaseException:  # whatever it is, the process ends here
         traceback.print_exc()

@@ -7,7 +7,7 @@ import functools
 import urllib.parse
 from typing import Counter, Iterator, List, NamedTuple, Optional, Tuple
 
-from .job import has_lines, lines_of
+from .parts import Parts
 from .texts import Stored, decoded
 
 WEB_SCHEMES = ("http", "https", "ftp")
@@ -112,10 +112,10 @@ def list_columns(line: bytes) -> List[bytes]:
     return [*first, name, target]
 
 
-def record_rows(file: int, folder: str, sums: Sums) -> Iterator[RecordRow]:
+def record_rows(file: int, parts: Parts, sums: Sums) -> Iterator[RecordRow]:
     """The rows of `list`, each with the hash of its record, where the job wrote these."""
-    hashes, has_hashes = lines_of(folder, "hashes"), has_lines(folder, "hashes")
-    for line in lines_of(folder, "list"):
+    hashes, has_hashes = parts.lines("hashes"), parts.has("hashes")
+    for line in parts.lines("list"):
         position, offset, length, kind, date, name, target = list_columns(line)
         key = date[:4], kind.lower()
         sums.years[key] += 1
@@ -129,9 +129,9 @@ def record_rows(file: int, folder: str, sums: Sums) -> Iterator[RecordRow]:
         )
 
 
-def capture_rows(file: int, folder: str, sums: Sums) -> Iterator[CaptureRow]:
+def capture_rows(file: int, parts: Parts, sums: Sums) -> Iterator[CaptureRow]:
     """The rows of `captures`."""
-    for line in lines_of(folder, "captures"):
+    for line in parts.lines("captures"):
         position, date, instant, kind, given, status, media, length, reason, uri = line.split(b"\t", 9)
         target, size = blank(uri), number(length)
         host = host_of(target) if isinstance(target, str) else "-"
@@ -141,9 +141,9 @@ def capture_rows(file: int, folder: str, sums: Sums) -> Iterator[CaptureRow]:
         yield CaptureRow(file, int(position), *about, size, blank(reason), target)
 
 
-def digest_rows(file: int, folder: str) -> Iterator[DigestRow]:
+def digest_rows(file: int, parts: Parts) -> Iterator[DigestRow]:
     """The rows of `fixity`. Its last line counts all records, and has no tab."""
-    for line in lines_of(folder, "fixity"):
+    for line in parts.lines("fixity"):
         if b"\t" in line:
             position, verdict, name, digest = line.split(b"\t", 3)
             yield DigestRow(file, int(position), decoded(verdict), decoded(name), blank(digest))
@@ -154,19 +154,19 @@ def payload_columns(line: bytes) -> List[bytes]:
     return line.split(b"\t", 4)
 
 
-def payload_rows(file: int, folder: str) -> Iterator[PayloadRow]:
+def payload_rows(file: int, parts: Parts) -> Iterator[PayloadRow]:
     """The rows of `fixity --payload`, but for requests, whose payloads are never judged."""
-    for line in lines_of(folder, "payloads"):
+    for line in parts.lines("payloads"):
         if b"\t" in line:
             position, verdict, name, reason, digest = payload_columns(line)
             if reason != b"request":
                 yield PayloadRow(file, int(position), decoded(verdict), decoded(name), blank(reason), decoded(digest))
 
 
-def payloads_of(folder: str) -> Payloads:
+def payloads_of(parts: Parts) -> Payloads:
     """What the last line of `fixity --payload` counts. A ValueError where the lines before it aren't as many."""
     last, lines = b"", -1
-    for last in lines_of(folder, "payloads"):
+    for last in parts.lines("payloads"):
         lines += 1
     names = last.split(b" ")
     if names[::2] != [b"records", b"good", b"bad", b"unchecked"] or b"\t" in last:
@@ -177,9 +177,9 @@ def payloads_of(folder: str) -> Payloads:
     return Payloads(good, unchecked, bad)
 
 
-def finding_rows(file: int, folder: str) -> Iterator[FindingRow]:
+def finding_rows(file: int, parts: Parts) -> Iterator[FindingRow]:
     """The rows of `check`."""
-    for place, line in enumerate(lines_of(folder, "check")):
+    for place, line in enumerate(parts.lines("check")):
         position, finding, *field = line.split(b" ", 2)
         yield FindingRow(file, place, number(position), decoded(finding), decoded(field[0]) if field else None)
 

@@ -104,4 +104,4 @@ def said(message: bytes) -> str:
 
 
 def not_done(left: int, run: int) -> str:
-    return "%s of run %d not done" % (counted(left, "job"), run)
+    return "%s of run %d not read" % (counted(left, "file"), run)

@@ -17,7 +17,7 @@ from typing import Iterator, List, Optional, Sequence
 
 from .ages import note_due, told_due
 from .catalogue import Catalogue, Run
-from .discover import files_to_do, found_files, note_changes
+from .discover import batches, files_to_do, found_files, note_changes
 from .jobs import write_jobs
 from .limits import Limits
 from .program import Settings, not_done, own_words, program_path, version_of
@@ -27,6 +27,9 @@ from .texts import Trouble, now, say, shown
 from .unpack import NO_ROOM
 from .watched import note_reading, watch, watched
 
+# How long a job should take, here and on other machines, where each is a login of its own.
+SECONDS_A_JOB = 5.0
+SECONDS_A_FAR_JOB = 15.0
 SSH = "ssh -o BatchMode=yes -o ConnectTimeout=10 -o ServerAliveInterval=10 -o ServerAliveCountMax=3"
 PR_SET_PDEATHSIG = 1
 BRACE = "'\"$(printf '\\173')\"'"
@@ -60,6 +63,8 @@ class Asked:
     may_be_missing: bool = False
     unpacked: int = Limits.unpacked
     jobs: Optional[str] = None
+    batch: Optional[int] = None
+    seconds_a_job: float = SECONDS_A_JOB
 
     def settings(self, own: str) -> Settings:
         """How files are read. What is unpacked goes to a folder of the catalogue, where nothing else is asked."""
@@ -78,8 +83,11 @@ class Machines:
     logins: Sequence[str]
     login_files: Sequence[str]
     jobs: Optional[str]
-    batch: Optional[int]
     is_quiet: bool
+
+    def are_far(self) -> bool:
+        """Whether a job may be done on another machine."""
+        return bool(self.logins or self.login_files)
 
 
 def check_temporary(folder: str, is_own: bool) -> None:
@@ -129,13 +137,13 @@ def make_plan(catalogue: Catalogue, asked: Asked) -> Plan:
         if asked.within is not None:
             note_due(catalogue, run, found.files, asked.within)
             say(told_due(catalogue, run, found.files))
-        chosen = files_to_do(catalogue, run, found, asked.digest)
+        chosen = batches(files_to_do(catalogue, run, found, asked.digest), asked.batch, asked.seconds_a_job)
         catalogue.base.execute("UPDATE runs SET attempts = attempts + 1 WHERE run = ?", (run.number,))
         attempt = catalogue.one("SELECT attempts FROM runs WHERE run = ?", (run.number,))[0]
     folder = os.path.join(catalogue.jobs, "%d-%d" % (run.number, attempt))
     write_jobs(folder, settings, chosen)
     there = sum(stamp is not None for stamp in found.files.values())
-    say("run %d: %d files, %d to read" % (run.number, there, len(chosen)))
+    say("run %d: %d files, %d to read" % (run.number, there, sum(map(len, chosen))))
     is_partly_unread = bool(found.unread or found.missing)
     return Plan(run.number, folder, settings.temporary or "/tmp", len(chosen), is_partly_unread)
 
@@ -151,10 +159,10 @@ def braceless(word: str) -> str:
 
 def parallel_words(machines: Machines, folder: str, count: int) -> List[str]:
     """The words that have GNU parallel do the jobs of a list."""
-    is_far = bool(machines.logins or machines.login_files)
+    is_far = machines.are_far()
     # Ungrouped: what jobs say isn't kept in files, which a full disk would end.
     words = ["parallel", "--will-cite", "--ungroup", "--joblog", os.path.join(folder, "joblog"), "--retries", "3"]
-    words += ["-n", str(machines.batch or (4 if is_far else 1))]
+    words += ["-n", "1"]
     words += ["--jobs", machines.jobs] if machines.jobs else []
     words += ["--bar"] if sys.stderr.isatty() and not machines.is_quiet and count else []
     words += [word for host in machines.logins for word in ("--sshlogin", host)]
@@ -186,12 +194,14 @@ def stop(child: subprocess.Popen[bytes]) -> None:
 @contextlib.contextmanager
 def in_parallel(machines: Machines, plan: Plan) -> Iterator[subprocess.Popen[bytes]]:
     """GNU parallel, while it does the jobs. Whatever happens, it is at its end afterwards."""
-    if shutil.which("parallel") is None:
+    is_alone = plan.count == 1 and not machines.are_far()
+    if not is_alone and shutil.which("parallel") is None:
         raise Trouble("GNU parallel isn't installed")
     with open(os.path.join(plan.folder, "numbers"), "w+", encoding="ascii") as numbers:
         numbers.writelines("%d\n" % number for number in range(1, plan.count + 1))
         numbers.seek(0)
-        words = parallel_words(machines, plan.folder, plan.count)
+        alone = [*own_words(), "job", plan.folder, "1"]
+        words = alone if is_alone else parallel_words(machines, plan.folder, plan.count)
         ending = functools.partial(end_with, os.getpid())
         where = dict(os.environ, TMPDIR=plan.temporary, PARALLEL_TMPDIR=plan.temporary)
         child = subprocess.Popen(words, stdin=numbers, env=where, preexec_fn=ending)

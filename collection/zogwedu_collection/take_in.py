@@ -3,6 +3,7 @@ from __future__ import annotations
 
 import contextlib
 import dataclasses
+import json
 import os
 import re
 import shutil
@@ -12,10 +13,11 @@ from typing import Any, List, Optional, Sequence, Tuple
 from .catalogue import OF_A_FILE, Catalogue
 from .compared import UNACCEPTED, compare, drop_beside
 from .disk import Stamp
-from .job import COMMANDS, Outcome, has_lines, read_outcome, summary_of
-from .jobs import listed_jobs
+from .job import COMMANDS, Outcome, outcome_of
+from .jobs import all_files, files_of
 from .lines import Sums, capture_rows, digest_rows, finding_rows, payload_rows, payloads_of, record_rows
 from .moves import settle_moves
+from .parts import Parts
 from .states import ABOUT_BYTES, as_list
 from .texts import decoded, now, say, shown, stored_path
 
@@ -103,7 +105,7 @@ def end_run(catalogue: Catalogue, run: int, folder: str) -> int:
     """Ends a run whose jobs are all done. Returns how many aren't."""
     take_in(catalogue, run, folder)
     try:
-        paths = listed_jobs(folder)
+        paths = all_files(folder)
     except (OSError, ValueError) as error:
         say("the list of jobs in %s can't be read: %s" % (shown(folder), error))
         return 1
@@ -166,19 +168,37 @@ def drop(folder: str, name: str) -> None:
 
 
 def take_in_job(catalogue: Catalogue, run: int, folder: str, name: str) -> int:
-    """Takes in what a job found. Returns the number of rows. What isn't whole is left out, and its file is unread."""
-    own = os.path.join(folder, "done", name)
+    """Takes in what a job found. Returns the number of rows. What isn't whole is left out, and its files are unread."""
+    try:
+        paths = files_of(folder, int(name))
+    except (OSError, ValueError):
+        paths = []
     try:
         with catalogue.savepoint():
-            return load_job(catalogue, run, own)
+            found = outcomes_in(os.path.join(folder, "done", name))
+            if [outcome.path for outcome in found] != paths:
+                raise ValueError("the outcomes of its %d files aren't there" % len(paths))
+            return sum(load_file(catalogue, run, outcome, parts_of(folder, name, outcome)) for outcome in found)
     except NOT_WHOLE as error:
-        say(
-            "what job %s left isn't whole, and its file is to be read again: %s" % (name, error or type(error).__name__)
-        )
-    with contextlib.suppress(OSError, ValueError, IndexError, KeyError):
-        file = catalogue.file_at(listed_jobs(folder)[int(name) - 1]).file
-        catalogue.base.execute("UPDATE files SET state = 'unread', detail = '' WHERE file = ?", (file,))
+        why = error or type(error).__name__
+        say("what job %s left isn't whole, and its files are to be read again: %s" % (name, why))
+    for path in paths:
+        with contextlib.suppress(KeyError):
+            file = catalogue.file_at(path).file
+            catalogue.base.execute("UPDATE files SET state = 'unread', detail = '' WHERE file = ?", (file,))
     return 1
+
+
+def outcomes_in(own: str) -> List[Outcome]:
+    """What came of the files of a job."""
+    with open(os.path.join(own, "outcomes"), "rb") as file:
+        return [outcome_of(json.loads(line)) for line in file]
+
+
+def parts_of(folder: str, name: str, outcome: Outcome) -> Parts:
+    """What was written over a file of a job."""
+    places = {part: [int(at) for at in place] for part, place in outcome.places.items()}
+    return Parts(os.path.join(folder, "done", name, "output"), places)
 
 
 def judged(before: Before, outcome: Outcome) -> None:
@@ -206,14 +226,13 @@ class Reading:
     is_whole: bool
 
 
-def load_job(catalogue: Catalogue, run: int, folder: str) -> int:
-    """Loads what a job found. Returns the number of rows."""
-    outcome = read_outcome(folder)
+def load_file(catalogue: Catalogue, run: int, outcome: Outcome, parts: Parts) -> int:
+    """Loads what a job found of a file. Returns the number of rows."""
     before, own = before_job(catalogue, outcome.path), (outcome.state, outcome.detail)
     has_rows, stamp = outcome.has_rows(), outcome.stamp
     judged(before, outcome)
     is_compared = before.has_reading and outcome.state != "rotten"
-    is_same = is_compared and compare(catalogue, before.file, before.read_sha256, folder, outcome)
+    is_same = is_compared and compare(catalogue, before.file, before.read_sha256, parts, outcome)
     put_check(catalogue, run, before.file, outcome)
     is_partly_read = outcome.state == "no-room" and outcome.statuses.get("summary") == 0 and not before.has_reading
     rows, is_new = 0, outcome.state in UNACCEPTED and before.has_reading
@@ -222,7 +241,7 @@ def load_job(catalogue: Catalogue, run: int, folder: str) -> int:
     if stamp is not None and (is_partly_read or (has_rows and (is_new or outcome.state != "rotten"))):
         sha256 = outcome.sha256 or before.sha256_of(stamp, is_same)
         reading = Reading(-before.file if is_new else before.file, run, stamp, *own, sha256, has_rows)
-        rows = load_rows(catalogue, folder, outcome, reading)
+        rows = load_rows(catalogue, parts, outcome, reading)
     note_state(catalogue, run, before, outcome)
     note_change(catalogue, run, before.file, outcome)
     return rows + 20
@@ -286,22 +305,22 @@ def change_of(before: Any, outcome: Outcome, was_gone: bool) -> str:
     return "grown" if stamp.size > before[1] else "changed"
 
 
-def load_rows(catalogue: Catalogue, folder: str, outcome: Outcome, reading: Reading) -> int:
+def load_rows(catalogue: Catalogue, parts: Parts, outcome: Outcome, reading: Reading) -> int:
     """Loads what the commands wrote of a file, in the place of its rows. Returns the number of records. The numbers of
     lines must be those that `summary` has, so that nothing that was cut off is taken for the whole."""
     file = reading.file
     for table in OF_A_FILE:
         catalogue.base.execute("DELETE FROM %s WHERE file = ?" % table, (file,))
     sums, put = Sums(), catalogue.base.executemany
-    summary = summary_of(folder)
+    summary = parts.summary()
     good, bad, unchecked = (int(summary[name]) for name in ("good", "bad", "unchecked"))
-    records = put("INSERT INTO records VALUES (?, ?, ?, ?, ?, ?, ?, ?, ?)", record_rows(file, folder, sums)).rowcount
+    records = put("INSERT INTO records VALUES (?, ?, ?, ?, ?, ?, ?, ?, ?)", record_rows(file, parts, sums)).rowcount
     captures = put(
-        "INSERT INTO captures VALUES (?, ?, ?, ?, ?, ?, ?, ?, ?, ?, ?)", capture_rows(file, folder, sums)
+        "INSERT INTO captures VALUES (?, ?, ?, ?, ?, ?, ?, ?, ?, ?, ?)", capture_rows(file, parts, sums)
     ).rowcount
-    digests = put("INSERT INTO digests VALUES (?, ?, ?, ?, ?)", digest_rows(file, folder)).rowcount
-    put("INSERT INTO payloads VALUES (?, ?, ?, ?, ?, ?)", payload_rows(file, folder))
-    put("INSERT INTO findings VALUES (?, ?, ?, ?, ?)", finding_rows(file, folder))
+    digests = put("INSERT INTO digests VALUES (?, ?, ?, ?, ?)", digest_rows(file, parts)).rowcount
+    put("INSERT INTO payloads VALUES (?, ?, ?, ?, ?, ?)", payload_rows(file, parts))
+    put("INSERT INTO findings VALUES (?, ?, ?, ?, ?)", finding_rows(file, parts))
     whole = [int(summary["records"]), int(summary["captures"]), bad + unchecked]
     seen = [max(count, 0) for count in (records, captures, digests)]
     if not reading.is_whole:
@@ -313,8 +332,8 @@ def load_rows(catalogue: Catalogue, folder: str, outcome: Outcome, reading: Read
     put("INSERT INTO counts VALUES (?, ?, ?, ?)", counts)
     damaged = 0 if outcome.pieces is None else outcome.pieces.damaged
     about = good, unchecked, bad - outcome.no_bytes, outcome.no_bytes, int(summary["bytes"]), damaged
-    all_counts = (whole[0], *about, *payloads_of(folder)) if reading.is_whole else None
-    put_reading(catalogue, reading, all_counts, has_lines(folder, "hashes"))
+    all_counts = (whole[0], *about, *payloads_of(parts)) if reading.is_whole else None
+    put_reading(catalogue, reading, all_counts, parts.has("hashes"))
     return whole[0]
 
 

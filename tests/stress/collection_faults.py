@@ -563,17 +563,7 @@ def torn_jobs(trial: Trial) -> None:
 
 def tears() -> Dict[str, int]:
     """The files of a job, and how many bytes are left of each."""
-    return {
-        "outcome": 0,
-        "outcome half": 20,
-        "list": 0,
-        "list half": 100,
-        "captures": 0,
-        "summary": 0,
-        "summary half": 9,
-        "payloads": 0,
-        "payloads half": 9,
-    }
+    return {"outcomes": 0, "outcomes half": 20, "output": 0, "output half": 100, "output but the end": 1500}
 
 
 def synced_jobs(trial: Trial) -> None:
@@ -587,7 +577,7 @@ def synced_jobs(trial: Trial) -> None:
         calls = file.read()
     before, _, after = calls.partition("/done/1")
     work = "fsync(" in before and "/work/1." in before
-    for name in ("outcome", "list", "captures", "summary", "payloads"):
+    for name in ("outcomes", "output"):
         trial.judge(work and "/%s>" % name in before, name + " is synced before", calls)
     folders = [line for line in before.splitlines() if "fsync" in line and "/work/1." in line and ">)" in line]
     trial.judge(any("/" not in line.rpartition("/work/1.")[2].split(">")[0] for line in folders), "the folder", calls)

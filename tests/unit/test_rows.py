@@ -22,7 +22,7 @@ pytest.importorskip("hypothesis")
 
 from hypothesis import HealthCheck, given, settings  # noqa: E402
 from hypothesis import strategies as st  # noqa: E402
-from zogwedu_collection import export, job, lines, runs, texts, unpack  # noqa: E402
+from zogwedu_collection import export, lines, parts, runs, texts, unpack  # noqa: E402
 
 from .in_node import TOP  # noqa: E402
 
@@ -116,7 +116,7 @@ def test_lines_of_payloads_come_back(position: int, verdict: bytes, name: bytes,
     columns = [b"%d" % position, verdict, name, reason, digest]
     line = b"\t".join(columns)
     assert lines.payload_columns(line) == columns
-    assert job.is_of_bad_payload(line) == (verdict == b"bad")
+    assert parts.is_of_bad_payload(line) == (verdict == b"bad")
 
 
 @SLOW
@@ -133,10 +133,10 @@ def test_counts_of_payloads_come_back(good: int, bad: int, unchecked: int, cut: 
 def counts_in(text: bytes) -> Optional[Tuple[int, ...]]:
     """The counts in what the program wrote, or None where it isn't whole."""
     with tempfile.TemporaryDirectory() as folder:
-        with open(os.path.join(folder, "payloads"), "wb") as out:
+        with open(os.path.join(folder, "output"), "wb") as out:
             out.write(text)
         try:
-            return tuple(lines.payloads_of(folder))
+            return tuple(lines.payloads_of(parts.Parts(out.name, {"payloads": [0, len(text)]})))
         except ValueError:
             return None
 

@@ -1,0 +1,148 @@
+"""What the program wrote over a file: one stream, in which the part of each command follows a line with its name."""
+from __future__ import annotations
+
+import dataclasses
+import hashlib
+import os
+from typing import IO, Dict, Iterator, List, Optional, Sequence, Set
+
+# The commands of a survey, in the order of their parts.
+SURVEY = ("list", "fixity", "check", "summary", "captures")
+# The digest of no bytes, which wget states in each revisit, though the revisit has a block.
+OF_NO_BYTES = b"sha1:3I42H3S6NNFQ2MSVX7XZKYAYSCX5QBYJ"
+# The most bytes of a head that are hashed, and how much of the SHA-256 is kept.
+MOST_HASHED = 1 << 20
+HASH_DIGITS = 32
+
+
+@dataclasses.dataclass
+class Parts:
+    """Where the part of each command begins and ends in a file."""
+
+    path: str
+    places: Dict[str, List[int]] = dataclasses.field(default_factory=dict)
+
+    def has(self, name: str) -> bool:
+        """Whether a command was run."""
+        return name in self.places
+
+    def lines(self, name: str) -> Iterator[bytes]:
+        """The lines that a command wrote, without their ends. No column holds a line feed."""
+        begin, end = self.places.get(name, (0, 0))
+        if begin == end:
+            return
+        with open(self.path, "rb") as file:
+            file.seek(begin)
+            for line in file:
+                begin += len(line)
+                if begin > end or not line.endswith(b"\n"):
+                    raise ValueError("a line without an end")
+                yield line[:-1]
+                if begin == end:
+                    return
+        raise ValueError("the part %s isn't whole" % name)
+
+    def summary(self) -> Dict[str, str]:
+        """The lines of `summary`: values by their names."""
+        pairs = (line.decode("utf-8", "replace").split("\t", 1) for line in self.lines("summary"))
+        return {name: value for name, value in pairs}
+
+
+def is_of_bad_payload(line: bytes) -> bool:
+    """Whether a line of `fixity --payload` is that of a payload with another digest."""
+    return line.split(b"\t", 2)[1:2] == [b"bad"]
+
+
+class Tally:
+    """Reads what the program wrote, once: where each part is, the hashes of the records, and what the state of the file
+    follows from."""
+
+    def __init__(self, source: Optional[IO[bytes]]) -> None:
+        self.source = source
+        self.places: Dict[str, List[int]] = {}
+        self.hashes = bytearray()
+        self.waiting: Optional[List[bytes]] = None
+        self.revisits: Set[int] = set()
+        self.bad = self.unchecked = self.findings = self.payloads = 0
+        self.empty: Set[int] = set()
+        self.ignored: Set[bytes] = set()
+        self.part = ""
+
+    def read(self, file: IO[bytes], awaited: Sequence[str], begin: int = 0) -> None:
+        """Reads the parts with these names, in their order. Each follows the line with its name, and no other line
+        begins with a number sign. A ValueError names the line that is missing, doubled or misplaced."""
+        file.seek(begin)
+        left, at = list(awaited), begin
+        by_name = {"list": self.of_list, "fixity": self.of_fixity, "check": self.of_check, "payloads": self.of_payloads}
+        take = None
+        for line in file:
+            at += len(line)
+            if line.startswith(b"#"):
+                self.begin_part(line, left, awaited, at)
+                take = by_name.get(self.part)
+                continue
+            if not self.part:
+                raise ValueError("its first line isn't '# %s'" % awaited[0])
+            if not line.endswith(b"\n"):
+                raise ValueError("a line without an end")
+            self.places[self.part][1] = at
+            if take is not None:
+                take(line[:-1])
+        if left:
+            raise ValueError("there is no line '# %s'" % left[0])
+
+    def begin_part(self, line: bytes, left: List[str], awaited: Sequence[str], at: int) -> None:
+        """Begins a part, if it is the one that is awaited."""
+        name = line[2:-1].decode("ascii", "replace")
+        if line != b"# %s\n" % name.encode("ascii", "replace") or name not in awaited:
+            raise ValueError("a line that begins with '#' names no part")
+        if name not in left:
+            raise ValueError("there is a second line '# %s'" % name)
+        if name != left[0]:
+            raise ValueError("there is no line '# %s' before '# %s'" % (left[0], name))
+        left.pop(0)
+        if self.part == "list":
+            self.end_list()
+        self.part = name
+        self.places[name] = [at, at]
+
+    def of_list(self, line: bytes) -> None:
+        row = line.split(b"\t", 3)
+        if row[3][:8].lower() == b"revisit\t":
+            self.revisits.add(int(row[0]))
+        if self.source is not None:
+            if self.waiting is not None:
+                self.add_hash(self.source, self.waiting, int(row[1]))
+            self.waiting = row
+
+    def end_list(self) -> None:
+        """Takes the last record, which ends where the file does."""
+        if self.source is not None and self.waiting is not None:
+            self.add_hash(self.source, self.waiting, os.fstat(self.source.fileno()).st_size)
+        self.waiting = None
+
+    def add_hash(self, source: IO[bytes], row: List[bytes], end: int) -> None:
+        """Hashes what `list` says of a record, and as many bytes of it as it has beside its block. So another digest in
+        its head shows, though nothing else differs."""
+        _, offset, length, words = row
+        beside = min(max(end - int(offset) - int(length), 0), MOST_HASHED)
+        head = os.pread(source.fileno(), beside, int(offset))
+        self.hashes += hashlib.sha256(words + b"\n" + head).hexdigest()[:HASH_DIGITS].encode("ascii") + b"\n"
+
+    def of_fixity(self, line: bytes) -> None:
+        """Revisits with the digest of no bytes are counted apart: they are no damage."""
+        if b"\t" not in line:
+            return
+        position, verdict, rest = line.split(b"\t", 2)
+        self.unchecked += verdict == b"unchecked"
+        if verdict == b"bad" and rest.endswith(b"\t" + OF_NO_BYTES) and int(position) in self.revisits:
+            self.empty.add(int(position))
+            self.ignored.add(position + b" N4")
+        else:
+            self.bad += verdict == b"bad"
+
+    def of_check(self, line: bytes) -> None:
+        self.findings += line not in self.ignored
+
+    def of_payloads(self, line: bytes) -> None:
+        self.payloads += is_of_bad_payload(line)
