@@ -458,12 +458,15 @@ def no_regular_files(trial: Trial) -> None:
     folder = trial.path("archives")
     path = put(folder + "/a.warc", page())
     os.mkfifo(folder + "/pipe.warc")
-    os.mknod(folder + "/zero.warc", 0o600 | stat.S_IFCHR, os.makedev(1, 5))
+    names = [b"pipe.warc", b"socket.warc"]
+    with contextlib.suppress(PermissionError):  # root alone makes devices, and not everywhere
+        os.mknod(folder + "/zero.warc", 0o600 | stat.S_IFCHR, os.makedev(1, 5))
+        names.append(b"zero.warc")
     with socket.socket(socket.AF_UNIX) as server:
         server.bind(folder + "/socket.warc")
         done = trial.run("c", "run", "--timeout", "100", folder, seconds=200)
     trial.judge(done.returncode == 0 and to_read(done) == 1, "a run", done.stdout + done.stderr)
-    trial.judge(all(name in done.stderr for name in (b"pipe.warc", b"zero.warc", b"socket.warc")), "names", done.stderr)
+    trial.judge(all(name in done.stderr for name in names), "names", done.stderr)
     jobs = os.fsdecode(trial.run("d", "plan", path).stdout.strip())
     os.unlink(path)
     os.mkfifo(path)

@@ -4,11 +4,12 @@ from __future__ import annotations
 import gzip
 import os
 import shutil
+import sys
 from pathlib import Path
 from typing import Dict
 
 import pytest
-from collection_trial import Trial, put, record, to_read
+from collection_trial import Trial, put, put_script, record, to_read
 
 from .in_node import TOP, without
 
@@ -19,10 +20,13 @@ PAGES = [record("resource", number, WHEN, URI + b"%d" % number, b"page %d" % num
 
 
 @pytest.fixture(name="night")
-def night_fixture(tmp_path: Path) -> Trial:
-    """A catalogue that isn't there yet, and a folder for archives."""
+def night_fixture(tmp_path: Path, monkeypatch: pytest.MonkeyPatch) -> Trial:
+    """A catalogue that isn't there yet, and a folder for archives. The package runs as it is: the one file that is
+    installed has the room in it, and takes packages of Debian's."""
     if shutil.which("parallel") is None:
         without("GNU parallel")
+    program = put_script(str(tmp_path / "program"), f"exec '{sys.executable}' '{TOP}/collection' \"$@\"\n")
+    monkeypatch.setenv("COLLECTION_PROGRAM", program)
     return Trial(STAND_IN, str(tmp_path))
 
 
