@@ -367,7 +367,7 @@ class Zstandard(InFolder):
 
 
 BOMB = """
-import os, resource, sys, zogwedu
+import os, re, resource, sys, zogwedu
 limit, path = int(sys.argv[1]), sys.argv[2]
 resource.setrlimit(resource.RLIMIT_FSIZE, (limit, limit))
 try:
@@ -375,7 +375,9 @@ try:
     print(len(archive), archive.length)
 except OSError as error:
     print(error)
-print(resource.getrusage(resource.RUSAGE_SELF).ru_maxrss, os.listdir(os.environ["TMPDIR"]))
+# Not what getrusage says: a new process has that of the one that started it.
+most = re.search(r"VmHWM:\\s*(\\d+)", open("/proc/self/status").read())[1]
+print(most, os.listdir(os.environ["TMPDIR"]))
 """
 
 
