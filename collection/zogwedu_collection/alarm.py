@@ -16,8 +16,9 @@ HOLDS = (
 )
 LAST_RUN = "(SELECT max(run) FROM runs)"
 LOOK = (
-    "SELECT files.state, path, files.detail, read_on, changes.run IS NOT NULL,"
-    " CASE WHEN %s THEN acknowledged.who END, CASE WHEN %s THEN acknowledged_on END, CASE WHEN %s THEN note END"
+    "SELECT files.state AS state, path, files.detail, read_on, changes.run IS NOT NULL,"
+    " CASE WHEN %s THEN acknowledged.who END, CASE WHEN %s THEN acknowledged_on END AS silenced_on,"
+    " CASE WHEN %s THEN note END"
     " FROM files LEFT JOIN readings USING (file) LEFT JOIN acknowledged USING (file)"
     " LEFT JOIN changes ON changes.file = files.file AND changes.run = %s"
     " WHERE files.state <> 'good'" % (HOLDS, HOLDS, HOLDS, LAST_RUN)
@@ -73,9 +74,8 @@ def shown_looks(catalogue: Catalogue, alarm: Alarm) -> List[Look]:
 def rings(catalogue: Catalogue, alarm: Alarm) -> bool:
     """Whether a file is in a state that rings."""
     new = "AND changes.run IS NOT NULL" if alarm.is_of_new else ""
-    query = "SELECT 1 FROM (%s %s) WHERE state IN (%s) AND acknowledged_on IS NULL LIMIT 1"
-    named = LOOK.replace("THEN acknowledged_on END", "THEN acknowledged_on END AS acknowledged_on")
-    return catalogue.one(query % (named, new, as_list(alarm.states))) is not None
+    query = "SELECT 1 FROM (%s %s) WHERE state IN (%s) AND silenced_on IS NULL LIMIT 1"
+    return catalogue.one(query % (LOOK, new, as_list(alarm.states))) is not None
 
 
 def recovered(catalogue: Catalogue) -> List[Tuple[Stored, str]]:

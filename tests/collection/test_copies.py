@@ -9,7 +9,7 @@ from conftest import URI, Collection, later, put, record, unchanged
 
 def two(collection: Collection, *words: str) -> str:
     """A file with a copy on another disk. Returns the copy."""
-    path = collection.put("disk1/a.warc", record(1, b"the page", digest="-"))
+    path = collection.put("disk1/a.warc", record(1, b"the page"))
     os.makedirs(collection.path("disk2"))
     copy = collection.path("disk2/a.warc")
     shutil.copy2(path, copy)
@@ -49,7 +49,7 @@ def test_a_copy_that_changed(collection: Collection) -> None:
 
 def test_a_rotten_copy(collection: Collection) -> None:
     copy = two(collection, "--digest")
-    unchanged(copy, record(1, b"the PAGE", digest="-"))
+    unchanged(copy, record(1, b"the PAGE"))
     assert collection.night("--all", "--digest").returncode == 1
     judge(collection, b"rotten")
 
@@ -57,7 +57,7 @@ def test_a_rotten_copy(collection: Collection) -> None:
 def test_a_bad_copy(collection: Collection) -> None:
     copy = two(collection)
     bad = record(2, b"x", URI + "x", digest="sha1:" + "A" * 32)
-    put(copy, record(1, b"the page", digest="-"), bad)
+    put(copy, record(1, b"the page"), bad)
     later(copy)
     assert collection.night().returncode == 1
     judge(collection, b"bad")
@@ -68,7 +68,7 @@ def test_a_bad_copy(collection: Collection) -> None:
 
 def test_an_altered_copy(collection: Collection) -> None:
     copy = two(collection)
-    put(copy, record(1, b"THE page", digest="-"))
+    put(copy, record(1, b"THE page"))
     later(copy)
     assert collection.night().returncode == 1
     done = collection.run("replay", URI, "9999")

@@ -570,7 +570,7 @@ def torn_jobs(trial: Trial) -> None:
 
 def tears() -> Dict[str, int]:
     """The files of a job, and how many bytes are left of each."""
-    return {"outcomes": 0, "outcomes half": 20, "output": 0, "output half": 100, "output but the end": 1500}
+    return {"outcomes": 0, "outcomes half": 20, "output": 0, "output half": 100, "output but the end": 1000}
 
 
 def synced_jobs(trial: Trial) -> None:
