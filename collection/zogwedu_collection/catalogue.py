@@ -292,8 +292,8 @@ class Catalogue:
         self.base.execute("RELEASE part")
 
     def keep_temporary(self, folder: str) -> None:
-        """Has SQLite keep its temporary files in a folder, as far as it can be told."""
-        with contextlib.suppress(sqlite3.Error):
+        """Has SQLite keep its temporary files in a folder, as far as it can be told: it takes names in UTF-8 alone."""
+        with contextlib.suppress(sqlite3.Error, UnicodeEncodeError):
             self.base.execute("PRAGMA temp_store_directory = '%s'" % folder.replace("'", "''"))
 
     def rows(self, query: str, values: Sequence[Any] = ()) -> List[Tuple[Any, ...]]:

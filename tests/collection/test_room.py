@@ -49,6 +49,14 @@ def test_a_temporary_folder_that_is_not_there(collection: Collection) -> None:
     assert collection.states() == {"a.warc.gz": "good"}
 
 
+def test_a_temporary_folder_with_an_odd_name(collection: Collection) -> None:
+    folder = collection.path(os.fsdecode(b"it's \xff"))
+    os.makedirs(folder)
+    collection.put("disk/a.warc.gz", gzip.compress(record(1)))
+    assert collection.night("--temporary", folder, "disk").returncode == 0
+    assert collection.states() == {"a.warc.gz": "good"}
+
+
 def test_a_full_disk_is_named(collection: Collection) -> None:
     """SQLite undoes a whole transaction where its disk is full, and not the part that was begun last."""
     catalogue = Catalogue(collection.path("catalogue"), is_made=True)
