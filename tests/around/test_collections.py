@@ -19,8 +19,9 @@ LEFT_OUT = {
     *("hostile_tables", "synced_jobs", "slow_pieces", "run_beside_replay", "stopped_export"),
 }
 FAULTS = [part for part in collection_faults.PARTS if part.__name__ not in LEFT_OUT]
+# Comparing each capture of a crawl with a replay takes minutes: that is in `make stress`, too.
 SERVED = (
-    *(serve.crawl_is_served, serve.odd_captures, serve.bad_input, serve.browsers, serve.changed_files),
+    *(serve.odd_captures, serve.bad_input, serve.browsers, serve.changed_files),
     *(serve.many_archives, serve.unpacked_bytes, serve.one_that_dies, serve.passed_socket),
 )
 

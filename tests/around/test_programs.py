@@ -30,7 +30,7 @@ def test_zwarc(
     assert trials.tried.total() > 0 and trials.surprises.total() == 0
 
 
-@pytest.mark.parametrize("name, count", [("differential", 40), ("selections", 10), ("pieces", 10)])
+@pytest.mark.parametrize("name, count", [("differential", 40), ("pieces", 3)])
 def test_second_reading(name: str, count: int, warc: str) -> None:
     """The program gives what the second reading does of archives made from seeds."""
     passes([sys.executable, f"tests/stress/{name}.py", warc, str(count), "1"])
