@@ -52,7 +52,8 @@ def link_static(objects: Sequence[str], folder: str) -> None:
 
 
 def link_shared(objects: Sequence[str], folder: str) -> None:
-    """Makes libwarc.so.N, whose symbols have a version, and libwarc.so, a link to it."""
+    """Makes libwarc.so.N, whose symbols have a version, and libwarc.so, the same file: the gate stops at a symbolic
+    link anywhere in the checkout, so tools/install.py makes that."""
     name = f"libwarc.so.{abi()}"
     run(
         [
@@ -73,7 +74,7 @@ def link_shared(objects: Sequence[str], folder: str) -> None:
     )
     if os.path.lexists(f"{OUT}/libwarc.so"):
         os.remove(f"{OUT}/libwarc.so")
-    os.symlink(name, f"{OUT}/libwarc.so")
+    os.link(f"{OUT}/{name}", f"{OUT}/libwarc.so")
 
 
 def link(proved: str, memory: str) -> None:

@@ -137,12 +137,14 @@ def put_text(path: str, text: str) -> None:
 
 
 def put(source: str, to: str) -> None:
-    """Copies a file or a link in the place of an old one. A program and a shared library can be run."""
+    """Copies a file in the place of an old one. A program and a shared library can be run. A shared library without a
+    version in its name is a link to the one with its version beside it."""
     make_folder(os.path.dirname(to))
-    if os.path.islink(source):
+    versions = glob.glob(f"{source}.[0-9]*") if source.endswith(".so") else []
+    if versions:
         if os.path.lexists(to):
             os.remove(to)
-        os.symlink(os.readlink(source), to)
+        os.symlink(os.path.basename(versions[0]), to)
         return
     runs = os.path.basename(os.path.dirname(to)) == "bin" or ".so" in os.path.basename(to)
     put_copy(source, to, 0o755 if runs else 0o644)

@@ -14,8 +14,8 @@ It reports, a line each, and exits with 1 where there is any:
   that has no line `why:`; two of one crate with one name; more than the gate has time for;
 - a number of a paper or of a request in place of a plain name;
 - a file of src/ that doesn't begin with `//!`, which says what is in it;
-- a crates.txt, or a file of a crate's, that lies below the checkout and outside of crates/, also where git doesn't see
-  it: the gate stops there, so no target may leave one;
+- a crates.txt, a file of a crate's, or a symbolic link below the checkout and outside of crates/, also where git
+  doesn't see it: the gate stops there, so no target may leave one;
 - a name in src/ or specs/ with one of the words that docs/GLOSSARY.md gives up for another, such as `tells`, and a
   file of src/ that is called by a gerund.
 """
@@ -227,9 +227,10 @@ def strays(top: str, _: list[str]) -> Iterator[str]:
     for at, folders, names in os.walk(top):
         inside = os.path.relpath(at, top).split("/")
         folders[:] = [] if inside[0] == "crates" and "out" in inside else sorted(set(folders) - {".git"})
-        for name in names:
+        for name in (*names, *(it for it in folders if os.path.islink(f"{at}/{it}"))):
             is_list = name in ("crates.txt", "BUILD.bazel", "MODULE.bazel") and inside != ["."]
-            if is_list or name.endswith((".rt", ".antt")) and inside[0] != "crates":
+            is_link = os.path.islink(f"{at}/{name}")
+            if is_list or is_link or name.endswith((".rt", ".antt")) and inside[0] != "crates":
                 yield os.path.relpath(f"{at}/{name}", top)
 
 

@@ -69,6 +69,13 @@ def test_what_stops_the_gate_is_found(tmp_path: Path, path: str) -> None:
     assert list(lint.strays(str(tmp_path), [])) == [path]
 
 
+def test_a_link_is_found(tmp_path: Path) -> None:
+    (tmp_path / "out").mkdir()
+    (tmp_path / "out" / "libwarc.so").symlink_to("libwarc.so.3")
+    (tmp_path / "out" / "folder").symlink_to("..")
+    assert sorted(lint.strays(str(tmp_path), [])) == ["out/folder", "out/libwarc.so"]
+
+
 @pytest.mark.parametrize("path", ["crates.txt", "crates/warc/src/lib.rt", "crates/warc/out/x.rt", ".git/x.rt"])
 def test_what_the_gate_reads_is_left(tmp_path: Path, path: str) -> None:
     (tmp_path / path).parent.mkdir(parents=True, exist_ok=True)
