@@ -1,8 +1,8 @@
 # make try          runs the program in about a minute: compiled with checks, not proved. FILE=my.warc lists a file, and
 #                   RUN="check my.warc" runs a command
-# make quick        everything that can be known without a proof: some ten minutes; the last line is 'N passed, M failed'
+# make quick        everything that can be known without a proof: some ten minutes; it ends as `make test` does
 # make              proves the program's crates, several at a time, and builds bin/warc
-# make test         everything that must pass, from nothing: lint, then the gate; the last line is 'N passed, M failed'
+# make test         everything that must pass: lint, proofs, tests over them; the last line is 'N passed, M failed'
 # make lib          proves the crates that C calls, and puts libwarc.a, libwarc.so and warc.h under out/lib
 # make python       puts the Python package with the library under out/python, and tests it
 # make rust         builds and tests the Rust crate over the library

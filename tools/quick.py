@@ -21,6 +21,8 @@ PYTHON = "/usr/bin/python3" if os.path.exists("/usr/bin/python3") else sys.execu
 # `rt try` stops a program that runs longer. The suites take a minute or two.
 SECONDS = "900"
 SAID = 4000
+# The suite of failures runs its commands thousands of times: a quarter of an hour as `rt try` compiles it.
+OF_FAILURES = "suites_failures"
 
 
 class Outcome(NamedTuple):
@@ -58,9 +60,9 @@ def suite(name: str) -> Callable[[], Outcome]:
 
 
 def suites() -> dict[str, Callable[[], Outcome]]:
-    """The suites, which are programs."""
+    """The suites, which are programs, but for the one of failures."""
     names = [name for name in crates() if os.path.exists(f"{TOP}/crates/{name}/src/main.rt")]
-    return {name: suite(name) for name in names if name.startswith("suites_")}
+    return {name: suite(name) for name in names if name.startswith("suites_") and name != OF_FAILURES}
 
 
 def steps() -> dict[str, Callable[[], Outcome]]:
