@@ -105,7 +105,6 @@ SERVER = tuple(f"tests/stress/{name}.py" for name in ("serve", "serve_trial", "m
 
 # Debian's programs work with Debian's Python, so each is called by its own name, and finds Debian's modules.
 HYPOTHESIS = ("/usr/lib/python3/dist-packages/hypothesis",)
-PYTEST = ("/usr/lib/python3/dist-packages/pytest",)
 CHECKS = [
     Check("types of tools/", (*TYPES, *scripts("tools"))),
     Check("layout of tools/", (*LAYOUT, "tools")),

@@ -39,6 +39,7 @@ def test_indexes_stay(collection: Collection) -> None:
         assert "captures_by_target" in plan_of(collection)
     finally:
         os.killpg(child.pid, signal.SIGKILL)
-        child.communicate()
+        # A job of the run may outlive it, and holds the pipe until it goes on.
         collection.put("go")
+        child.communicate()
     assert "captures_by_target" in plan_of(collection)

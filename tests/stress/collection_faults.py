@@ -295,6 +295,7 @@ def changed_file(trial: Trial) -> None:
     put(path + ".new", page(1, b"pqr"))
     os.utime(path + ".new", ns=(before.st_atime_ns, before.st_mtime_ns))
     trial.run("c", "run")
+    trial.run("c", "accept", path)
     os.rename(path + ".new", path)
     done = trial.run("c", "replay", URI.decode(), "9999")
     trial.judge((done.returncode, done.stdout) == (3, b""), "another inode", done.stdout + done.stderr)
@@ -824,7 +825,8 @@ def odd_names(trial: Trial) -> None:
         put(os.fsdecode(path), page(1) + b"x")
     done = trial.run("c", "run", os.fsdecode(folder))
     lines = done.stdout.decode("utf-8", "replace").splitlines()
-    trial.judge(len(lines) == 2 + len(paths), "a line for each file", lines)
+    # Before the files: the folder, the last run, the oldest reading, and the states.
+    trial.judge(len(lines) == 5 + len(paths), "a line for each file", lines)
     text = (done.stdout + done.stderr).decode("utf-8", "replace")
     unsafe = [character for character in text if not character.isprintable() and character not in "\n\t"]
     trial.judge(not unsafe, "characters that can't be seen", unsafe)
@@ -1545,8 +1547,7 @@ def catalogue_without_pieces(trial: Trial) -> None:
     trial.run("c", "run", trial.path("archives"))
     with contextlib.closing(trial.base("c")) as base:
         base.executescript(
-            WITHOUT_HASHES
-            + "ALTER TABLE readings DROP COLUMN bytes; ALTER TABLE readings DROP COLUMN damaged;"
+            WITHOUT_HASHES + "ALTER TABLE readings DROP COLUMN bytes; ALTER TABLE readings DROP COLUMN damaged;"
             "PRAGMA user_version = 2;"
             "DELETE FROM readings WHERE file IN (SELECT file FROM files WHERE state = 'refused');" + WITHOUT_PIECES
         )

@@ -629,7 +629,11 @@ def changed_files(trial: Trial, script: Script) -> None:
             judge_changes(trial, server, file, uri)
         trial.run("d", "run", "--quiet", folder)
         for uri in uris.values():
-            trial.judge(server.client.ask(uri).body == b"behind", "after another run", server.client.ask(uri))
+            reply = server.client.ask(uri)
+            trial.judge(reply.status == 404 and b"altered" in reply.body, "after another run", reply)
+        trial.run("d", "accept", *uris)
+        for uri in uris.values():
+            trial.judge(server.client.ask(uri).body == b"behind", "accepted", server.client.ask(uri))
         os.unlink(path)
         gone = server.client.ask(uris[path])
         trial.judge(gone.status == 503 and b"a.warc" in gone.body, "a file that was removed", gone)

@@ -12,7 +12,7 @@ from zogwedu_collection.states import ABOUT_BYTES, READ, STATES, TRIED_AGAIN
 from zogwedu_collection.take_in import Before, change_of, judged
 
 STAMP = Stamp(100, 7, 8, 9)
-BEFORE = Before(1, 100, 7, "old", True, None)
+BEFORE = Before(1, 100, 7, "old", True, "old", None)
 
 
 def outcome(state: str = "good", sha256: Optional[str] = None, stamp: Optional[Stamp] = STAMP) -> Outcome:
@@ -81,7 +81,7 @@ def test_how_a_file_changed(
 
 
 def test_which_files_are_lost() -> None:
-    found = Found({"/a/there": STAMP, "/a/away": None}, unread=["/a/locked", "/b/file"])
+    found = Found({"/a/there": STAMP, "/a/away": None}, unread={"/a/locked": "", "/b/file": ""})
     names = ("/a/there", "/a/away", "/a/new", "/a/locked/x", "/a/locked2", "/b/file", "/b/other")
     assert [it for it in names if is_lost(it, found, ["/a"])] == ["/a/away", "/a/new", "/a/locked2"]
 
