@@ -14,6 +14,7 @@ import re
 import subprocess
 import sys
 import tempfile
+from concurrent.futures import ThreadPoolExecutor
 from typing import Dict, List, NamedTuple
 
 from cases_commands import COMMANDS
@@ -26,6 +27,8 @@ WANTED = re.compile(rb"(.*?)(?:! .*)?= (\d+)\n", re.DOTALL)
 AS_IT_IS = b"as it stands\n"
 # `rt try` runs each case twice: by an interpreter, which is to give up at once, and compiled with checks.
 SECONDS = "60"
+# Each part compiles the program for itself, in a minute or two, and then runs a case in about a second.
+PARTS = 2
 
 
 class Run(NamedTuple):
@@ -73,9 +76,8 @@ def wrong(tried: List[Run], said: str) -> List[str]:
     return [f"{name}: {why}" for name, why in lines if why]
 
 
-def main() -> int:
-    """Tries all of them."""
-    tried = runs()
+def said_of(tried: List[Run]) -> str:
+    """What `rt try` says of some cases."""
     with tempfile.TemporaryDirectory(prefix="zogwedu-cases-") as name:
         folder = pathlib.Path(name)
         folder.chmod(0o755)
@@ -83,11 +85,19 @@ def main() -> int:
             put(folder, number, run)
         words = ["rt", "try", "--steps", "1", "--seconds", SECONDS, "--cases", name]
         done = subprocess.run(words, cwd=TOP / "crates" / "warc_tool", capture_output=True, check=False)
-    said = (done.stdout + done.stderr).decode(errors="replace")
-    lines = wrong(tried, said)
+    return (done.stdout + done.stderr).decode(errors="replace")
+
+
+def main() -> int:
+    """Tries all of them, in parts side by side."""
+    tried = runs()
+    parts = [tried[first::PARTS] for first in range(PARTS)]
+    with ThreadPoolExecutor(PARTS) as pool:
+        texts = list(pool.map(said_of, parts))
+    lines = [line for part, said in zip(parts, texts) for line in wrong(part, said)]
     print("\n".join([*lines, f"{len(tried)} cases before any proof, {len(lines)} failed"]))
     if lines or not tried:
-        print(said[-2000:], file=sys.stderr)
+        print("\n".join(said[-1000:] for said in texts), file=sys.stderr)
     return 1 if lines or not tried else 0
 
 
