@@ -18,7 +18,7 @@ use Rattle.warc_pieces.specs.Reads.{IsNoFurther, goes_on_by, reads_beside}
 use Rattle.warc_pieces.specs.Window.{ReadsBy, Shown, Shows, faults_by, reached}
 use Rattle.warc_pieces.proofs.CutLemmas.{cut_again}
 use Rattle.warc_pieces.proofs.RunLemmas.{part_is}
-use Rattle.warc_pieces.proofs.RecordLemmas.{ahead, slack, closed_cut, closed_fault_kind, closed_from, cut_head, cut_off, has_fault, has_record, head_not_read, headless, misses_head, record_stays, shown_fault, shown_front, shown_up_to, shown_within, unclosed_from}
+use Rattle.warc_pieces.proofs.RecordLemmas.{ahead, slack, closed_cut, closed_fault_kind, closed_from, cut_head, cut_off, has_fault, has_record, head_not_read, headless, misses_head, record_stays, shown_fault, shown_front, shown_up_to, unclosed_from}
 
 -- a record that is shown whole
 pub good_close : (bytes shown : List ℕ) (at end : ℕ) (w : Shown) → shown ≡ drop (at - w.begin) w.bytes → HasBlockEnd (drop (at - w.begin) w.bytes) end → w.begin ≤ at → at ≤ length (near bytes) → Shows bytes w → closed_at end shown ≡ Ok tt

@@ -22,7 +22,7 @@ either true = inl refl
 either false = inr refl
 
 -- the first empty line after a place, where it is after that place
-empty_line_after : (k p : ℕ) (t : List ℕ) → empty_line t ≡ Some p → k ≤ p → empty_line (drop k t) ≡ Some (p - k)
+pub empty_line_after : (k p : ℕ) (t : List ℕ) → empty_line t ≡ Some p → k ≤ p → empty_line (drop k t) ≡ Some (p - k)
 unfolding empty_line
 empty_line_after zero p t is below = is ∙ ap Some (let e : p ≡ p - 0 = omega arith in e)
 empty_line_after (suc k) p [] is below = absurd cc
@@ -35,7 +35,7 @@ empty_line_after (suc k) p (b ∷ bs) is below = ⊎_elim
     (either (empty_at (b ∷ bs) 0))
 
 -- a place of a head's text
-head_empty : (t : List ℕ) (len : ℕ) → head_len t ≡ Some len → (p : ℕ) × (empty_line t ≡ Some p) × (p + 4 ≡ len)
+pub head_empty : (t : List ℕ) (len : ℕ) → head_len t ≡ Some len → (p : ℕ) × (empty_line t ≡ Some p) × (p + 4 ≡ len)
 unfolding head_front
 head_empty t len is =
     let place = head-place t len is in
@@ -65,7 +65,7 @@ line_byte t v k is long below =
     sym (begins-byte t (version_line v) k (version-begins t v is) (omega (arith, long, below)) (omega (arith, size, below))) ∙ ap (λ n. get_or t n 0) (let e : k ≡ k + 0 = omega arith in e)
 
 -- a version line that begins within a text after its version line begins after that line
-after_line : (t : List ℕ) (v w : Version) (k : ℕ) (more : List ℕ) → version_of t ≡ Some v → 10 ≤ length t → 0 < k → drop k t ≡ version_line w ++ more → 10 ≤ k
+pub after_line : (t : List ℕ) (v w : Version) (k : ℕ) (more : List ℕ) → version_of t ≡ Some v → 10 ≤ length t → 0 < k → drop k t ≡ version_line w ++ more → 10 ≤ k
 after_line t v w k more is long some begins = ⊎_elim
     (λ below. absurd (past_line v k some below (line_byte t v k is long below ∙ (sym (get_or-drop k t 0 0) ∙ ap (λ xs. get_or xs 0 0) begins ∙ starts w more))))
     (λ above. above)
@@ -79,7 +79,7 @@ pub record IsInside (t : List ℕ) (len k : ℕ) (area : List ℕ) : Type 0 wher
   pub size : len ≡ k + length area + 12
 
 -- the first bytes of a version line
-line_front : Version → List ℕ
+pub line_front : Version → List ℕ
 line_front v = take 8 (version_line v)
 
 line_parts : (v : Version) (more : List ℕ) → version_line v ++ more ≡ line_front v ++ 13 ∷ 10 ∷ more
@@ -97,7 +97,7 @@ text_parts : (r : Record) (text more : List ℕ) (spelled : Spells r text) → t
 text_parts r text more spelled = ap (λ x. x ++ more) spelled.text_is ∙ simp append_assoc
 
 -- the lines between the version line of a head and a place where a record begins
-inside_lines : (t : List ℕ) (k n : ℕ) (w : Version) (area more : List ℕ) → 10 ≤ k → k ≤ length t → drop k t ≡ version_line w ++ (area ++ more) → n ≡ k + length area
+pub inside_lines : (t : List ℕ) (k n : ℕ) (w : Version) (area more : List ℕ) → 10 ≤ k → k ≤ length t → drop k t ≡ version_line w ++ (area ++ more) → n ≡ k + length area
     → take n (drop 10 t) ≡ (take (k - 10) (drop 10 t) ++ line_front w) ++ 13 ∷ 10 ∷ area
 inside_lines t k n w area more far within begins size =
     let pre = take (k - 10) (drop 10 t) in

@@ -4,6 +4,7 @@ pub mod ExistLemmas
 pub mod HalvingLemmas
 pub mod InsideLemmas
 pub mod LawLemmas
+pub mod ManyLemmas
 pub mod MergeLemmas
 pub mod PieceLemmas
 pub mod ReaderLemmas

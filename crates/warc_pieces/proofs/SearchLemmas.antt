@@ -86,7 +86,7 @@ line_of_take t m k occurs =
     subst P same (line_of_part t 0 m k occurs)
 
 -- what is left of a text has the version lines of the text
-line_in_rest : (t : List ℕ) (from q : ℕ) → from ≤ q → OccursAt t line_start q → OccursAt (drop from t) line_start (q - from)
+pub line_in_rest : (t : List ℕ) (from q : ℕ) → from ≤ q → OccursAt t line_start q → OccursAt (drop from t) line_start (q - from)
 line_in_rest t from q low occurs =
     let whole : q + 7 ≤ length t = occurs.fits in
     let sum : from + (q - from) ≡ q = omega (arith, low) in
@@ -420,20 +420,23 @@ tries_both n found x y start w mid now s0 s1 s2 s3 first second third same =
     reads_as (all + 1 + own_reads) ((own_reads + 1) * (n + 1)) x y start now s0 s3 (omega arith) same
     (reads_then (all + 1) own_reads (Ok found) x start mid now s0 s2 s3 refl (reads_then all 1 (Ok tt) (Ok found) start w mid s0 s1 s2 refl first second) third)
 
--- what is skipped after a version line, by what is shown from there on
-pub skipped : (bytes : List ℕ) (line n : ℕ) (shown : List ℕ) (kind : FaultKind) (place : ℕ) (f : Fault) (now : Shown) → now.begin ≤ line → line ≤ length (near bytes) → Shows bytes now
-    → shown ≡ drop (line - now.begin) now.bytes → f.kind ≢ Read → f.kind ≢ Memory → MissesBy f.kind line bytes f → f.kind ≡ kind → place ≡ f.offset - line
-    → ((more : List ℕ) (g : Fault) → record_of head_fault (shown ++ more) ≡ Err g → g.kind ≡ kind → g.offset ≡ place → NoneWithin (shown ++ more) n)
+-- what is skipped after a version line, by what is shown from there on, which may be the last bytes of all
+pub skipped : (bytes : List ℕ) (line n : ℕ) (shown : List ℕ) (last : Bool) (kind : FaultKind) (place : ℕ) (f : Fault) (now : Shown) → now.begin ≤ line → line ≤ length (near bytes) → Shows bytes now
+    → shown ≡ drop (line - now.begin) now.bytes → last ≡ now.is_last → f.kind ≢ Read → f.kind ≢ Memory → MissesBy f.kind line bytes f → f.kind ≡ kind → place ≡ f.offset - line
+    → ((more : List ℕ) (g : Fault) → (last ≡ true → more ≡ []) → record_of head_fault (shown ++ more) ≡ Err g → g.kind ≡ kind → g.offset ≡ place → NoneWithin (shown ++ more) n)
     → NoneWithin (drop line (near bytes)) n
-skipped bytes line n shown kind place f now begin there shows is not_read not_memory miss kind_is place_is none =
+skipped bytes line n shown last kind place f now begin there shows is last_is not_read not_memory miss kind_is place_is none =
     let (g, bad, same) = fault_there f.kind line bytes f not_read not_memory miss in
     let seen = drop (line - now.begin) now.bytes in
     let more = drop (length seen) (drop line (near bytes)) in
     let whole : drop line (near bytes) ≡ shown ++ more = shown_front bytes line now begin there shows ∙ ap (λ x. x ++ more) (sym is) in
     let of_kind : g.kind ≡ kind = sym (ap (λ (x : Fault). x.kind) same) ∙ kind_is in
     let of_place : g.offset ≡ place = omega (arith, place_is, ap (λ (x : Fault). x.offset) same) in
+    let all : last ≡ true → more ≡ [] = λ e.
+    let end = shows.last (sym last_is ∙ e) in
+    drop_all (length seen) (drop line (near bytes)) (omega (arith, end, shown_len now line begin, length-drop line (near bytes))) in
     let P : List ℕ → Type 0 = λ t. NoneWithin t n in
-    subst P (sym whole) (none more g (ap (record_of head_fault) (sym whole) ∙ bad) of_kind of_place)
+    subst P (sym whole) (none more g all (ap (record_of head_fault) (sym whole) ∙ bad) of_kind of_place)
 
 pub skipped_within : (bytes : List ℕ) (line n : ℕ) (shown : List ℕ) (now : Shown) → now.begin ≤ line → line < length (near bytes) → Shows bytes now → shown ≡ drop (line - now.begin) now.bytes → n ≤ max 1 (length shown) → line + n ≤ length (near bytes)
 skipped_within bytes line n shown now begin there shows is few =

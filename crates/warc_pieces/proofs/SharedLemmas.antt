@@ -1,5 +1,5 @@
 -- What the fields of a head have in common with those of a head that begins within it.
-use Rattle.std.proofs.Common.{◌≡◌, ℕ, zero, suc, ◌+◌, ◌<◌, Bool, true, false, ◌==◌, nat_lt, nat_le, List, [], ◌∷◌, ◌++◌, Option, Some, None, Ok, Err, refl, sym, ap, ◌∙◌, arith, inl, inr, ◌⊎◌, ⊎_elim, if◌then◌else◌}
+use Rattle.std.proofs.Common.{◌≡◌, ℕ, zero, suc, ◌+◌, ◌<◌, ◌≤◌, Bool, true, false, ◌==◌, nat_lt, nat_le, List, [], ◌∷◌, ◌++◌, Option, Some, None, Ok, Err, refl, sym, ap, ◌∙◌, arith, inl, inr, ◌⊎◌, ⊎_elim, if◌then◌else◌}
 use Rattle.std.specs.Prelude.{is_none}
 use Rattle.std.specs.Option.{option_or}
 use Rattle.std.proofs.lemmas.Bool.{eqb-true, false_from_ne_true, le-leb, lt-ltb}
@@ -63,6 +63,13 @@ adds name (f ∷ front) gs = ⊎_elim
     (λ is. adds_one name f front gs is (adds name front gs))
     (λ other. adds_other name f front gs other (adds name front gs))
     (either (same f.0 name))
+
+-- there are no fewer of a name
+pub count_grows : (name : List ℕ) (front gs : List Pair) → count_of name gs ≤ count_of name (front ++ gs)
+count_grows name front gs = ⊎_elim
+    (λ none. omega (arith, none.0))
+    (λ some. omega (arith, some.0))
+    (adds name front gs)
 
 lengths_more : (few more : ℕ) (v w : Option (List ℕ)) (n : ℕ)
     → (if few == 0 then Err (Missing ContentLength) else if nat_le 2 few then Err (Repeated ContentLength) else or_length (block_number v)) ≡ Ok n → few < more

@@ -124,6 +124,11 @@ none_before_line t v len k at version ends bad some below before = λ r text mor
     let first = bad_before is.before spelled.area r.fields at spelled.fields (ap area_of (sym is.lines) ∙ bad) in
     omega (arith, first, is.place, before)
 
+-- the record of a head with a line that is no field
+pub bad_line : (t : List ℕ) (v : Version) (len at : ℕ) → version_of t ≡ Some v → head_len t ≡ Some len → area_of (slice_range t 10 (len - 2)) ≡ Err at
+    → record_of head_fault t ≡ Err (fault Field (10 + at))
+bad_line t v len at version ends is = record_by t v len (Err at) version ends is
+
 -- ---- a line that is no field
 
 -- a kind of fault that isn't that of a line

@@ -3,6 +3,7 @@
 #![tactic(auto)]
 
 pub mod laws;
+mod line;
 mod piece;
 mod pieces;
 mod record;

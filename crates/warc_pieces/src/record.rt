@@ -23,7 +23,7 @@ const CLOSING: u64 = 4;
 const HALVINGS: u64 = 48;
 
 /// Whether the text, as far as it goes, begins as wanted.
-fn begins_as(text: &[u8], wanted: &[u8]) -> bool
+pub(crate) fn begins_as(text: &[u8], wanted: &[u8]) -> bool
     ensures { result ≡ begins text.now wanted.now }
 {
     let len = text.len().min(wanted.len());

@@ -3,27 +3,16 @@ ghost use Rattle.std.specs.Prelude.{◌≡◌, ◌≢◌, ◌⊎◌, ℕ, ◌+�
 ghost use Rattle.warc_frame.specs.Record.{max_archive};
 ghost use Rattle.warc_frame.specs.Seen.{IfHeld};
 ghost use Rattle.warc_frame.specs.declared.fault.FaultKind.TheVariants.{Memory, Read};
-ghost use Rattle.memchr.specs.Find.{FindsNeedle};
 ghost use Rattle.warc_pieces.specs.Pieces.{near};
-ghost use Rattle.warc_pieces.specs.Search.{FindsLine, FindsNext, search_end, line_start, lines_in};
+ghost use Rattle.warc_pieces.specs.Search.{FindsLine, FindsNext, lines_in, search_end};
 ghost use Rattle.warc_pieces.specs.Window.{ReadsBy, Shows, own_reads, reached};
 
+use crate::line::{LINE_START, find_line};
 use crate::record::record_len;
 use crate::skip::skip;
 use crate::window::Window;
-use memchr::arch::all::twoway::Finder;
 use std::alloc::Allocator;
 use warc_frame::{Fault, FaultKind, Source};
-
-/// The bytes that each version line begins with.
-const LINE_START: &[u8] = b"WARC/1.";
-
-/// The place of the first version line in bytes.
-fn find_line(bytes: &[u8]) -> Option<usize>
-    ensures { FindsNeedle bytes.now line_start 0 result }
-{
-    Finder::new(LINE_START).find(bytes, LINE_START)
-}
 
 /// The offset of the next version line from an offset on, or none if the bytes end before one begins.
 fn next_line<S: Source, A: Allocator>(
@@ -98,7 +87,8 @@ pub(crate) fn next_record<S: Source, A: Allocator + Copy>(
                     return Err(fault);
                 }
                 let place = fault.offset.saturating_sub(line);
-                at = line + skip(window.shown(line), fault.kind, place);
+                let is_last = window.is_last();
+                at = line + skip(alloc, window.shown(line), is_last, fault.kind, place);
             }
         }
     }

@@ -1,6 +1,5 @@
 use Rattle.std.proofs.Common.{◌+◌, ◌-◌, ◌^◌, true, false, sym, ◌∙◌, arith}
 use Rattle.std.proofs.lemmas.Bool.{leb-true, leb-false}
-use Rattle.std.proofs.lemmas.Result.{err_from_is_err_and}
 use Rattle.warc_pieces.proofs.HalvingLemmas.{halved, near_none, near_then}
 use Rattle.warc_pieces.proofs.WindowLemmas.{near_len}
 use Rattle.warc_pieces.proofs.record.find_end.Goals as goal

@@ -1,9 +1,6 @@
-use Rattle.std.proofs.Common.{◌≡◌, ◌+◌, ◌-◌, ◌++◌, ◌≤◌, true, false, length, take, drop, refl, sym, ap, subst, ◌∙◌, arith, length-drop}
-use Rattle.warc_field.specs.Lines.{crlf}
-use Rattle.warc_frame.specs.Reading.{begins}
+use Rattle.std.proofs.Common.{◌≡◌, ◌+◌, true, false, length, take, drop, refl, sym, ap, ◌∙◌, arith, length-drop}
 use Rattle.warc_frame.specs.declared.fault.Fault.{Fault}
 use Rattle.warc_frame.proofs.RangeLemmas.{filled_more, filled_within}
-use Rattle.warc_pieces.specs.Ends.{IsFrontOpen}
 use Rattle.warc_pieces.specs.Pieces.{near}
 use Rattle.warc_pieces.proofs.HalvingLemmas.{front_last, front_open, front_read, near_none, near_then, read_end}
 use Rattle.warc_pieces.proofs.WindowLemmas.{near_len}

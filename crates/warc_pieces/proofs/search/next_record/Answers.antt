@@ -104,8 +104,8 @@ judging-preserved g c =
             let kept = c.in_ok-line.ensures.reads.kept ∙ t.reads.kept ∙ held in
             let one = c.in-Err.ensures.judges bytes kept line.0 (omega (arith, line.1.0.high)) in
             let at = c.in-Some.line in
-            let none = skipped bytes at c.skip.result c.shown.result.now c.in-Err.fault.kind c.saturating_sub-place.result c.in-Err.fault c.record_len.new.window c.in-Err.ensures.begin (omega (arith, line.1.0.high)) one.0
-            c.shown.ensures.shown found.0 found.1 one.1 refl c.saturating_sub-place.ensures c.skip.ensures.none in
+            let none = skipped bytes at c.skip.result c.shown.result.now c.is_last-is_last.result c.in-Err.fault.kind c.saturating_sub-place.result c.in-Err.fault c.record_len.new.window c.in-Err.ensures.begin (omega (arith, line.1.0.high)) one.0
+            c.shown.ensures.shown c.is_last-is_last.ensures found.0 found.1 one.1 refl c.saturating_sub-place.ensures c.skip.ensures.none in
             let far = skipped_within bytes at c.skip.result c.shown.result.now c.record_len.new.window c.in-Err.ensures.begin line.1.0.high one.0 c.shown.ensures.shown c.skip.ensures.within in
             let same : at + c.skip.result - at ≡ c.skip.result = omega arith in
             let P : ℕ → Type 0 = λ n. NoneWithin (drop at (near bytes)) n in
