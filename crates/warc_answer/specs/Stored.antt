@@ -3,7 +3,7 @@ use Rattle.std.specs.Prelude.{◌≡◌, ℕ, Bool, false, List, [], length, dro
 use Rattle.std.specs.Bool.{MatchBool}
 use Rattle.std.specs.List.{list_any}
 use Rattle.std.specs.Option.{option_map_or}
-use Rattle.httparse.specs.Grammar.{ResponseHead, status_code}
+use Rattle.httparse.specs.Grammar.{ResponseHead, print_response, status_code}
 use Rattle.warc_field.specs.Area.{Pair, value_or_empty}
 use Rattle.warc_frame.specs.Names.{content_type}
 use Rattle.warc_frame.specs.Record.{Record}
@@ -41,6 +41,7 @@ own_type fields = value_or_empty content_type fields
 pub record IsStoredAfter (block : List ℕ) (s : StoredBody) : Type 0 where
   pub head : ResponseHead
   pub front : BeginsWithHead block head (drop s.head_len block)
+  pub head_len_is : s.head_len ≡ length (print_response head)
   pub status_is : s.status ≡ Some (status_code head)
   pub coded_is : s.coded ≡ is_coded head
   pub texts : AreHeadTexts head s.media_type s.codings

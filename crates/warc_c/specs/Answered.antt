@@ -72,12 +72,17 @@ pub record AnswersFront (bytes : List ℕ) (end : ℕ) (before after : Numbers) 
   pub front : IsGoodFront bytes end fault
   pub reported : IsFaultReported fault before after
 
--- the pieces of bytes are put, and their number is answered, or a problem is reported
+-- a problem is reported, if there is one
+abbrev pub IsStopReported : Option Problem → Numbers → Numbers → Type 0
+IsStopReported None old new = new ≡ old
+IsStopReported (Some problem) old new = new ≡ problem_numbers problem
+
+-- the pieces of bytes are put, or those before a problem, which is reported, and their number is answered
 pub record AnswersPieces (bytes : List ℕ) (answer : ℕ) (old new : List PieceNumbers) (before after : Numbers)
     : Type 0 where
-  pub result : Result ℕ Problem
-  pub puts : PutsPieceNumbers bytes result old new
-  pub answered : IsAnswered result answer before after
+  pub stop : Option Problem
+  pub puts : PutsPieceNumbers bytes answer stop old new
+  pub reported : IsStopReported stop before after
 
 -- the fields of a head of a record are put, and their number is answered, or a problem is reported
 pub record AnswersFields (head : List ℕ) (answer : ℕ) (old new : FieldBuffers) (before after : Numbers)

@@ -37,6 +37,7 @@ pub extern "C" fn warc_rt_open(
     problem: &mut Numbers,
 ) -> bool
     ensures opened { OnTrue result (IsArchive bytes.now) }
+    ensures silent { OnTrue result (problem.new ≡ problem.old) }
     ensures refused { OnFalse result (IsRefusedBy bytes.now problem.new) }
     ensures open { handle.new.is_open ≡ result }
 {

@@ -3,7 +3,7 @@ ghost use Rattle.std.specs.Prelude.{◌≡◌};
 ghost use Rattle.warc_lent.specs.Buffers.{KeepsAfter};
 ghost use Rattle.warc_lent.specs.Problems.{problem_numbers};
 ghost use Rattle.warc_lent.specs.Texts.{IsProblemPut};
-ghost use Rattle.warc_c.specs.Answered.{IsAnswered, IsFlagged, IsFaultReported, IsVerdictReported};
+ghost use Rattle.warc_c.specs.Answered.{IsAnswered, IsFlagged, IsFaultReported, IsStopReported, IsVerdictReported};
 
 use std::alloc::Global;
 use warc_frame::Fault;
@@ -17,6 +17,15 @@ pub(crate) fn report(problem: Problem, out: &mut Numbers)
     ensures { out.new ≡ problem_numbers problem }
 {
     *out = problem.numbers();
+}
+
+/// Reports what stops a call, if something does.
+pub(crate) fn report_stop(stop: Option<Problem>, out: &mut Numbers)
+    ensures { IsStopReported stop out.old out.new }
+{
+    if let Some(problem) = stop {
+        report(problem, out);
+    }
 }
 
 /// Reports a fault, if there is one.

@@ -1,5 +1,6 @@
 -- What is put of the pieces that a reader gives, one after another.
 use Rattle.std.proofs.Common.{◌≡◌, ◌≢◌, inl, inr, ℕ, ◌+◌, ◌-◌, ◌<◌, ◌≤◌, List, [], ◌∷◌, ◌++◌, length, map, set, take, Option, None, Some, Result, Ok, Err, refl, sym, ap, subst, ◌∙◌, arith}
+use Rattle.std.specs.Prelude.{option_map}
 use Rattle.std.proofs.lemmas.List.{drop-set-lt, length-map, length_push, map-append}
 use Rattle.warc_frame.specs.Reading.{fault}
 use Rattle.warc_frame.specs.Record.{max_archive}
@@ -9,7 +10,7 @@ use Rattle.warc_frame.specs.declared.fault.FaultKind.{FaultKind}
 use Rattle.warc_frame.specs.declared.fault.FaultKind.TheVariants.{Memory, Read, TooLong}
 use Rattle.warc_pieces.specs.Reader.{Advances, AreGiven, GivesMore, GoesBy, faults_after_stop}
 use Rattle.warc_pieces.specs.declared.piece.Piece.{Piece}
-use Rattle.warc_lent.specs.Pieces.{HoldsPieces, IsWalkPut, NoneIsPut, SomeArePut, piece_numbers}
+use Rattle.warc_lent.specs.Pieces.{HoldsPieces, IsWalkPut, NoneIsPut, PutsPieceNumbers, SomeArePut, piece_numbers}
 use Rattle.warc_lent.specs.declared.pieces.PieceNumbers.{PieceNumbers}
 use Rattle.warc_lent.specs.declared.problem.Problem.TheVariants as problems
 use Rattle.warc_lent.proofs.BufferLemmas.{drop_further, front_nil, front_push}
@@ -117,7 +118,7 @@ module _ (begun old now : SeenSource) (at after : ℕ) (before failure : Option 
       omega (arith, end, some, (advances none).limit)
 
   -- to the end
-  pub walk_end : answer ≡ Ok None → IsWalkPut begun now (Ok count) out mid
+  pub walk_end : answer ≡ Ok None → IsWalkPut begun now count None out mid
   walk_end is = record {
     pieces = has.pieces;
     are = gives_now (Ok None) is;
@@ -135,11 +136,11 @@ module _ (begun old now : SeenSource) (at after : ℕ) (before failure : Option 
       ap (λ (s : SeenSource). s.faults) same ∙ has.cause ∙ ap (λ x. faults_after_stop x begun.faults) (was ∙ ap Some one)
 
   -- to a failure
-  pub walk_stop : (f : Fault) → answer ≡ Err f → IsWalkPut begun now (Err f) out mid
+  pub walk_stop : (f : Fault) → answer ≡ Err f → IsWalkPut begun now count (Some f) out mid
   walk_stop f is = record {
     pieces = has.pieces;
     are = gives_now (Err f) is;
-    number_is = tt;
+    number_is = has.count_is;
     cause = fails_once before refl f is;
     put = has.put;
   }
@@ -150,18 +151,31 @@ not_read : (kind : FaultKind) → 0 ≡ faults_after_stop (Some (record { kind =
 not_read Read sound = absurd (omega (arith, sound))
 not_read kind sound = λ read. cc read
 
-pub some_put : (bytes : List ℕ) (begun now : SeenSource) (f : Fault) (old new : List PieceNumbers) → begun.holds ≡ Some bytes → begun.faults ≡ 0 → now.faults ≡ 0
-    → IsWalkPut begun now (Err f) old new → SomeArePut bytes (problems.Fault f) old new
-some_put bytes begun now f old new held first last walk =
+some_put : (bytes : List ℕ) (begun now : SeenSource) (number : ℕ) (f : Fault) (old new : List PieceNumbers) → begun.holds ≡ Some bytes
+    → begun.faults ≡ 0 → now.faults ≡ 0 → IsWalkPut begun now number (Some f) old new → SomeArePut bytes number (problems.Fault f) old new
+some_put bytes begun now number f old new held first last walk =
     record {
       pieces = walk.pieces;
       fault = f;
       are = walk.are bytes held;
       sound = not_read f.kind (sym last ∙ walk.cause ∙ ap (faults_after_stop (Some f)) first);
+      number_is = walk.number_is;
       problem_is = refl;
       put = walk.put;
     }
 
+pub walk_put : (bytes : List ℕ) (begun now : SeenSource) (number : ℕ) (stop : Option Fault) (old new : List PieceNumbers) → begun.holds ≡ Some bytes
+    → begun.faults ≡ 0 → now.faults ≡ 0 → IsWalkPut begun now number stop old new → PutsPieceNumbers bytes number (option_map (λ f. problems.Fault f) stop) old new
+walk_put bytes begun now number None old new held first last walk =
+    let (are, whole) = walk.are bytes held in record {
+      pieces = walk.pieces;
+      are = are;
+      whole = whole;
+      number_is = walk.number_is;
+      put = walk.put;
+    }
+walk_put bytes begun now number (Some f) old new held first last walk = inl (some_put bytes begun now number f old new held first last walk)
+
 -- without memory nothing is put
-pub none_put : (f : Fault) (out : List PieceNumbers) → f ≡ fault Memory 0 → NoneIsPut (problems.Fault f) out out
-none_put f out is = record { problem_is = ap problems.Fault is; same = refl }
+pub none_put : (f : Fault) (out : List PieceNumbers) → f ≡ fault Memory 0 → NoneIsPut 0 (problems.Fault f) out out
+none_put f out is = record { number_is = refl; problem_is = ap problems.Fault is; same = refl }

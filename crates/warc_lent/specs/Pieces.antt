@@ -1,5 +1,5 @@
 -- Pieces of bytes, as numbers for callers in other languages. This project's own notion.
-use Rattle.std.specs.Prelude.{◌≡◌, ◌≢◌, ◌⊎◌, ◌≤◌, ℕ, List, length, map, Result, Ok, Err, Some, IfOk, IfErr}
+use Rattle.std.specs.Prelude.{◌≡◌, ◌≢◌, ◌⊎◌, ◌≤◌, ℕ, List, length, map, Option, Some, None, IfSome}
 use Rattle.warc_frame.specs.Record.{max_archive}
 use Rattle.warc_frame.specs.Seen.{IfHeld, SeenSource}
 use Rattle.warc_frame.specs.declared.fault.Fault.{Fault}
@@ -34,36 +34,40 @@ pub record AllArePut (bytes : List ℕ) (number : ℕ) (old new : List PieceNumb
   pub number_is : number ≡ length pieces
   pub put : HoldsPieces pieces old new
 
--- the pieces of bytes before a fault are put, and this is the problem: memory ran out, or the bytes go on at offset
--- 2^48
-pub record SomeArePut (bytes : List ℕ) (problem : Problem) (old new : List PieceNumbers) : Type 0 where
+-- the pieces of bytes before a fault are put, this is their number and this the problem: memory ran out, or the bytes
+-- go on at offset 2^48
+pub record SomeArePut (bytes : List ℕ) (number : ℕ) (problem : Problem) (old new : List PieceNumbers) : Type 0 where
   pub pieces : List Piece
   pub fault : Fault
   pub are : AreBefore bytes fault pieces
   pub sound : fault.kind ≢ Read
+  pub number_is : number ≡ length pieces
   pub problem_is : problem ≡ problems.Fault fault
   pub put : HoldsPieces pieces old new
 
 -- there is no memory to begin with, and nothing is put
-pub record NoneIsPut (problem : Problem) (old new : List PieceNumbers) : Type 0 where
+pub record NoneIsPut (number : ℕ) (problem : Problem) (old new : List PieceNumbers) : Type 0 where
+  pub number_is : number ≡ 0
   pub problem_is : problem ≡ problems.Fault (record { kind = Memory; offset = 0 })
   pub same : new ≡ old
 
--- all pieces of bytes are put, or those before the problem
-abbrev pub PutsPieceNumbers : List ℕ → Result ℕ Problem → List PieceNumbers → List PieceNumbers → Type 0
-PutsPieceNumbers bytes (Ok number) old new = AllArePut bytes number old new
-PutsPieceNumbers bytes (Err problem) old new = SomeArePut bytes problem old new ⊎ NoneIsPut problem old new
+-- all pieces of bytes are put, or those before the problem, and this is their number
+abbrev pub PutsPieceNumbers : List ℕ → ℕ → Option Problem → List PieceNumbers → List PieceNumbers → Type 0
+PutsPieceNumbers bytes number None old new = AllArePut bytes number old new
+PutsPieceNumbers bytes number (Some problem) old new =
+    SomeArePut bytes number problem old new ⊎ NoneIsPut number problem old new
 
 -- these are the pieces of bytes to the end, or those before what stops reading
-abbrev pub AreReadTo : List ℕ → Result ℕ Fault → List Piece → Type 0
-AreReadTo bytes (Ok number) pieces = ArePieces bytes pieces × (length bytes ≤ max_archive)
-AreReadTo bytes (Err f) pieces = AreBefore bytes f pieces
+abbrev pub AreReadTo : List ℕ → Option Fault → List Piece → Type 0
+AreReadTo bytes None pieces = ArePieces bytes pieces × (length bytes ≤ max_archive)
+AreReadTo bytes (Some f) pieces = AreBefore bytes f pieces
 
--- the pieces that a reader gives are put, and their number is answered, or what stops it; the source has failed once
--- more exactly if that is a failed read
-pub record IsWalkPut (begun now : SeenSource) (answer : Result ℕ Fault) (old new : List PieceNumbers) : Type 0 where
+-- the pieces that a reader gives are put, and this is their number, and what stops it, if something does; the source
+-- has failed once more exactly if that is a failed read
+pub record IsWalkPut (begun now : SeenSource) (number : ℕ) (stop : Option Fault) (old new : List PieceNumbers)
+    : Type 0 where
   pub pieces : List Piece
-  pub are : IfHeld begun.holds (λ bytes. AreReadTo bytes answer pieces)
-  pub number_is : IfOk answer (λ number. number ≡ length pieces)
-  pub cause : IfErr answer (λ f. now.faults ≡ faults_after_stop (Some f) begun.faults)
+  pub are : IfHeld begun.holds (λ bytes. AreReadTo bytes stop pieces)
+  pub number_is : number ≡ length pieces
+  pub cause : IfSome stop (λ f. now.faults ≡ faults_after_stop (Some f) begun.faults)
   pub put : HoldsPieces pieces old new

@@ -61,42 +61,46 @@ fn put_piece(piece: Piece, index: usize, out: &mut [PieceNumbers])
     }
 }
 
-/// Puts the pieces that a reader gives, as many as there is room for, and returns how many there are.
+/// Puts the pieces that a reader gives, as many as there is room for. Returns how many it gives, and the fault at which
+/// it stops, if it does.
 fn put_walk<S: Source, A: Allocator + Copy>(
     reader: &mut Pieces<S, A>,
     out: &mut [PieceNumbers],
-) -> Result<usize, Fault>
+) -> (usize, Option<Fault>)
     requires { (reader.old.at ≡ 0) × (reader.old.failure ≡ None) }
-    ensures put { IsWalkPut (S.seen reader.old.source) (S.seen reader.new.source) result out.old out.new }
+    ensures put { IsWalkPut (S.seen reader.old.source) (S.seen reader.new.source) result.0 result.1 out.old out.new }
     ensures room { length out.new ≡ length out.old }
 {
     let mut count = 0;
     'putting: loop {
-        let Some(piece) = reader.next()? else {
-            return Ok(count);
+        let piece = match reader.next() {
+            Ok(Some(piece)) => piece,
+            Ok(None) => return (count, None),
+            Err(fault) => return (count, Some(fault)),
         };
         put_piece(piece, count, out);
         count += 1;
     }
 }
 
-/// Puts the pieces of these bytes, as many of the first ones as there is room for, and returns how many there are. What
+/// Puts the pieces of these bytes, as many of the first ones as there is room for. Returns how many there are. What
 /// follows them in the buffer stays. Bytes that go on at offset 2^48 are F12 TooLong, and memory that runs out is F14
-/// Memory; then the pieces before that are put, as far as there is room, and what follows them stays.
+/// Memory: then that is returned too, and the pieces are those before it.
 pub fn put_pieces<A: Allocator + Copy>(
     alloc: A,
     bytes: &[u8],
     out: &mut [PieceNumbers],
-) -> Result<usize, Problem>
-    ensures puts { PutsPieceNumbers bytes.now result out.old out.new }
+) -> (usize, Option<Problem>)
+    ensures puts { PutsPieceNumbers bytes.now result.0 result.1 out.old out.new }
     ensures room { length out.new ≡ length out.old }
 {
     let mut reader = match Pieces::new(alloc, SliceSource::new(bytes)) {
         Ok(reader) => reader,
-        Err((fault, _source)) => return Err(Problem::Fault(fault)),
+        Err((fault, _source)) => return (0, Some(Problem::Fault(fault))),
     };
-    match put_walk(&mut reader, out) {
-        Ok(count) => Ok(count),
-        Err(fault) => Err(Problem::Fault(fault)),
+    let (count, stop) = put_walk(&mut reader, out);
+    match stop {
+        None => (count, None),
+        Some(fault) => (count, Some(Problem::Fault(fault))),
     }
 }

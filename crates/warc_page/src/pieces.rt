@@ -1,8 +1,7 @@
 //! The pieces of an archive, and the words of their faults.
 ghost use Rattle.std.specs.Prelude.{◌≡◌};
-ghost use Rattle.warc_lent.specs.Pieces.{PutsPieceNumbers};
 ghost use Rattle.warc_lent.specs.Texts.{IsProblemPut};
-ghost use Rattle.warc_page.specs.Shown.{Replies};
+ghost use Rattle.warc_page.specs.Shown.{Replies, ShowsPieces};
 
 use crate::ends::end_with;
 use crate::shapes::PageOutcome;
@@ -22,11 +21,14 @@ pub extern "C" fn page_pieces(
     outcome: &mut PageOutcome,
 )
     requires { memory.units ≡ units }
-    ensures { Replies (λ answered. PutsPieceNumbers bytes.now answered pieces.old pieces.new) outcome.new text.new }
+    ensures { Replies (λ answered. ShowsPieces bytes.now answered pieces.old pieces.new) outcome.new text.new }
 {
     let heap = Heap::new(memory, units);
-    let count = put_pieces(&heap, bytes, pieces);
-    *outcome = end_with(&heap, count, text);
+    let answer = match put_pieces(&heap, bytes, pieces) {
+        (count, None) => Ok(count),
+        (_, Some(problem)) => Err(problem),
+    };
+    *outcome = end_with(&heap, answer, text);
 }
 
 /// Puts the text of a problem, such as the fault of a damage, as far as there is room, and returns its length; 0 if no
