@@ -1,3 +1,4 @@
 pub mod Migration
 pub mod Opened
 pub mod RoundTrip
+pub mod Share

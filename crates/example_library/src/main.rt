@@ -8,8 +8,10 @@ mod opened;
 mod pieces;
 mod replays;
 mod round_trip;
+mod share;
 
 use round_trip::Plan;
+use std::alloc::Global;
 use std::{fs, io};
 use warc::{Archive, MemSource, Moment, read_date};
 use warc_record::Kind;
@@ -101,6 +103,35 @@ fn report_returned(rt: &HostRuntime) -> io::Result<()> {
     }
 }
 
+/// The last record of an archive with all that it needs; nothing of an archive that has none.
+fn share_last(
+    alloc: Global,
+    archive: &mut Archive<MemSource>,
+) -> Result<Archive<MemSource>, share::ShareFault> {
+    match archive.count().checked_sub(1) {
+        Some(last) => share::share(alloc, archive, &[last]),
+        None => share::share(alloc, archive, &[]),
+    }
+}
+
+/// Prints how many records an archive has of the last record of another and of all that it needs.
+fn report_shared(rt: &HostRuntime, bytes: Vec<u8>) -> io::Result<()> {
+    let mut archive = match Archive::open(rt.alloc(), MemSource::new(bytes, usize::MAX)) {
+        Ok(archive) => archive,
+        Err((fault, _)) => return println!(rt; "refused: {fault}"),
+    };
+    let shared = share_last(rt.alloc(), &mut archive);
+    archive.into_source();
+    match shared {
+        Ok(shared) => {
+            let count = shared.count();
+            shared.into_source();
+            println!(rt; "records with all that they need: {count}")
+        }
+        Err(fault) => println!(rt; "not shared: {fault:?}"),
+    }
+}
+
 fn main(rt: HostRuntime) -> io::Result<()> {
     report_described(&rt, fs::read(&rt, "described.warc")?)?;
     report_in_pieces(&rt, &fs::read(&rt, "late.warc")?)?;
@@ -113,5 +144,6 @@ fn main(rt: HostRuntime) -> io::Result<()> {
     report_as_of(&rt, fs::read(&rt, "described.warc")?, b"2021")?;
     report_as_of(&rt, fs::read(&rt, "described.warc")?, b"2019")?;
     report_moved(&rt, fs::read(&rt, "old.warc")?)?;
-    report_returned(&rt)
+    report_returned(&rt)?;
+    report_shared(&rt, fs::read(&rt, "revisit.warc")?)
 }
