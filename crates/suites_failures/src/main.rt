@@ -3,33 +3,14 @@
 //! whose name has it.
 #![tactic(auto)]
 
-mod all;
 mod archives;
-mod by_reads;
-mod call_turns;
-mod calls;
-mod check_fronts;
-mod checks;
-mod copies;
 mod endless;
-mod growth;
-mod kept;
 mod lines;
-mod places;
 mod plain;
-mod refused_checks;
-mod replays;
 mod runs;
 mod salvage_failures;
 mod salvaged;
-mod single_calls;
-mod sources;
-mod subjects;
-mod text;
-mod torn;
 mod turns;
-mod verbs;
-mod wanted;
 mod ways;
 mod words;
 
@@ -54,7 +35,7 @@ impl Trial for Trials {
     ) -> Result<(), AllocError> {
         let is_known = self.archives.answer(alloc, case, answer)?
             || ways::answer(alloc, case, self.archives.bytes(), answer)?
-            || by_reads::answer(alloc, case, self.archives.bytes(), answer)?;
+            || suites_calls::answer(alloc, case, self.archives.bytes(), answer)?;
         if is_known {
             Ok(())
         } else {

@@ -1,6 +1,8 @@
 //! The suite of texts and records: what the crates from fields to writing answer to a script on standard input.
 #![tactic(auto)]
 
+mod framed;
+
 use std::alloc::{AllocError, Global};
 use std::io::{self, Read, Write};
 use std::process::ExitCode;
@@ -24,7 +26,7 @@ impl Trial for Trials {
             return Ok(());
         }
         let is_parsed = suites_texts_parsed::answer(alloc, case, &self.text, answer)?;
-        let is_framed = suites_texts_framed::answer(alloc, case, &self.text, answer)?;
+        let is_framed = framed::answer(alloc, case, &self.text, answer)?;
         if !is_parsed && !is_framed {
             answer.extend_from_slice(b"no such case\n")?;
         }

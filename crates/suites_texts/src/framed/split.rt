@@ -1,6 +1,6 @@
 //! Records that are split.
 
-use crate::written::{record, say_rendered};
+use crate::framed::written::{record, say_rendered};
 use std::alloc::{AllocError, Allocator, Global};
 use suites_script::Case;
 use suites_texts_parsed::{Attempt, say_fields, say_line, say_parts, say_refusals};

@@ -1,7 +1,7 @@
 //! What records are read from and written to: sources and sinks.
 
-use crate::odd::{Trick, Tricked, read_twice, sent_once, sent_to_full, written_once};
-use crate::ranges::{say_put_ranges, say_range};
+use crate::framed::odd::{Trick, Tricked, read_twice, sent_once, sent_to_full, written_once};
+use crate::framed::ranges::{say_put_ranges, say_range};
 use std::alloc::{AllocError, Global};
 use std::io::Cursor;
 use suites_script::Case;

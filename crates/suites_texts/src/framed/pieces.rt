@@ -1,8 +1,8 @@
 //! Archives in pieces: every cutting gives the same.
 
-use crate::devices::number_or_all;
-use crate::records::{changed, say_cut};
-use crate::steps::{Stepping, say_letters, say_steps};
+use crate::framed::devices::number_or_all;
+use crate::framed::records::{changed, say_cut};
+use crate::framed::steps::{Stepping, say_letters, say_steps};
 use std::alloc::{AllocError, Global};
 use suites_script::Case;
 use suites_texts_parsed::{say_line, say_refusals, say_text, text_of};

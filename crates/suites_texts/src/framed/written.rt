@@ -1,7 +1,7 @@
 //! Records that are made, split, converted and rendered.
 
-use crate::made::{say_made, say_made_without_memory};
-use crate::split::{say_split_of, say_split_without_memory, say_splittable_of};
+use crate::framed::made::{say_made, say_made_without_memory};
+use crate::framed::split::{say_split_of, say_split_without_memory, say_splittable_of};
 use std::alloc::{AllocError, Allocator, Global};
 use std::slice::from_ref;
 use suites_script::Case;

@@ -1,6 +1,6 @@
 //! Records that are made.
 
-use crate::written::say_rendered;
+use crate::framed::written::say_rendered;
 use std::alloc::{AllocError, Global};
 use std::slice::from_ref;
 use suites_script::Case;

@@ -1,6 +1,6 @@
 //! Ranges of a source.
 
-use crate::devices::{number_or_all, say_taken};
+use crate::framed::devices::{number_or_all, say_taken};
 use std::alloc::{AllocError, Global};
 use suites_script::Case;
 use suites_texts_parsed::{say_done, say_line};

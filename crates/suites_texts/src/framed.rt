@@ -1,6 +1,5 @@
 //! What records as bytes, the devices that they are read from and written to, and the crate that writes records answer
 //! to the cases of a script.
-#![tactic(auto)]
 
 mod devices;
 mod faults;
@@ -17,9 +16,9 @@ mod written;
 use std::alloc::{AllocError, Global};
 use suites_script::Case;
 
-/// Adds what a case answers, and tells whether it is a case of these crates. `kept` is the text that cases speak of
+/// Adds what a case answers, and tells whether it is one of these. `kept` is the text that cases speak of
 /// which give none.
-pub fn answer(
+pub(crate) fn answer(
     alloc: Global,
     case: &Case<'_>,
     kept: &[u8],

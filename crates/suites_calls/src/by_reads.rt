@@ -24,7 +24,7 @@ fn add_other(
 }
 
 /// Adds what calls answer over the archive of these bytes, and says whether the verb of the case is one of theirs.
-pub(crate) fn answer(
+pub fn answer(
     alloc: Global,
     case: &Case<'_>,
     archive: &[u8],
