@@ -16,10 +16,12 @@ use Rattle.warc_reading.specs.Row.{Row}
 use Rattle.warc.specs.Fixity.{digest_value}
 use Rattle.warc.specs.Front.{AreRowsOfFront}
 use Rattle.warc_lent.specs.Buffers.{HoldsFront}
+use Rattle.warc_lent.specs.Pieces.{PutsPieceNumbers}
 use Rattle.warc_lent.specs.Problems.{problem_text}
 use Rattle.warc_lent.specs.Rows.{row_numbers, row_texts, verdict_number}
 use Rattle.warc_lent.specs.Texts.{AreFindingsOf, IsTextPut, IsRefusedFor, PutsSome}
 use Rattle.warc_lent.specs.declared.bodies.AnswerNumbers.{AnswerNumbers}
+use Rattle.warc_lent.specs.declared.pieces.PieceNumbers.{PieceNumbers}
 use Rattle.warc_lent.specs.declared.problem.Problem.{Problem}
 use Rattle.warc_lent.specs.declared.problem.Problem.TheVariants as problems
 use Rattle.warc_lent.specs.declared.rows.RowNumbers.{RowNumbers}
@@ -36,9 +38,10 @@ wants_memory (problems.Fault fault) = lacks_memory fault.kind
 wants_memory problems.Memory = true
 wants_memory problem = false
 
--- there is no result, for the problem whose text is put, or memory doesn't suffice
+-- there is no result, for the problem whose text is put, which isn't that memory ran out; or memory doesn't suffice
 abbrev pub EndsBy : Problem → ℕ → ℕ → List ℕ → Type 0
-EndsBy problem state size text = (state ≡ 2) ⊎ ((state ≡ 1) × IsTextPut (problem_text problem) size text)
+EndsBy problem state size text = (state ≡ 2)
+    ⊎ ((wants_memory problem ≡ false) × (state ≡ 1) × IsTextPut (problem_text problem) size text)
 
 -- the good front is the whole, or a fault ends it
 abbrev pub EndsFront : Option Fault → ℕ → ℕ → List ℕ → Type 0
@@ -88,6 +91,11 @@ pub record Replies (Puts : Result ℕ Problem → Type 0) (outcome : PageOutcome
   pub answered : Result ℕ Problem
   pub puts : Puts answered
   pub ends : EndsWith answered outcome text
+
+-- the pieces of bytes are put, and their number is answered, or those before the problem
+abbrev pub ShowsPieces : List ℕ → Result ℕ Problem → List PieceNumbers → List PieceNumbers → Type 0
+ShowsPieces bytes (Ok number) old new = PutsPieceNumbers bytes number None old new
+ShowsPieces bytes (Err problem) old new = (number : ℕ) × PutsPieceNumbers bytes number (Some problem) old new
 
 -- a question is answered with a number or a problem: of an open archive, one that may be, or else that none is open
 pub record IsReply (MayBe : Problem → Type 0) (is_open : Bool) (outcome : PageOutcome) (text : List ℕ) : Type 0 where
