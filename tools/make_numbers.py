@@ -15,6 +15,8 @@ from shared import TOP, matched, read
 
 TABLE = "crates/warc_arguments/src/numbers.rt"
 PAGE = "docs/NUMBERS.md"
+# What is explained and is no number.
+WORD = "date"
 ENTRY = re.compile(r'^    \(\n        "(\w+)",\n        "([^"]*)",\n    \),$', re.MULTILINE)
 COMMAND = re.compile(r"'((?:z?warc|gunzip|cat|-)[^']*|-)'")
 TITLES = {
@@ -28,6 +30,7 @@ TITLES = {
     ),
     "E": ("What isn't there", "`extract`, `head`, `block` and `body` print these."),
     "N": ("What `check` finds", "For N1, N2, N3 and N9 the name of a field follows."),
+    "d": ("What a date is", "`warc explain date` prints this. `replay` says `bad date` of any other text."),
 }
 INTRO = """# Numbers
 
@@ -68,10 +71,15 @@ def page() -> str:
     return "\n".join(out)
 
 
+def place_of(number: str) -> tuple[int, int]:
+    """The place of a number in the table: by its letter, then by its digits. The word comes last."""
+    return list(TITLES).index(number[0]), 0 if number == WORD else int(number[1:])
+
+
 def wrong() -> Iterator[str]:
     """What is wrong with the table or the page, a line each."""
     rows = entries()
-    order = [(list(TITLES).index(number[0]), int(number[1:])) for number, *_ in rows]
+    order = [place_of(number) for number, *_ in rows]
     if order != sorted(set(order)) or len(rows) != int(matched(re.search(r"; (\d+)\] = \[", read(TABLE)))[1]):
         yield f"{TABLE}: the numbers aren't in order, or a row isn't as tools/make_numbers.py reads it"
     for number, name, means, remedy in rows:
@@ -84,7 +92,7 @@ def wrong() -> Iterator[str]:
         named.update(zip(line[0].split(", "), line[1].split(", ")))
     named.update({"F12": "TooLong", "F13": "Read", "F14": "Memory"})
     for number, name, *_ in rows:
-        if named.get(number) != name:
+        if number != WORD and named.get(number) != name:
             yield f"docs/FORMAT.md: {number} is {named.get(number)}, and {TABLE} says {name}"
     for number in sorted(set(named) - {number for number, *_ in rows}):
         if number[1:].isdigit():

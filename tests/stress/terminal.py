@@ -33,6 +33,7 @@ FIRST = 1.0
 EACH = 0.25
 WITH_TOTAL = re.compile(rb"\d+ of \d+ MB, \d+ MB/s, \d+ s left")
 WITHOUT_TOTAL = re.compile(rb"\d+ MB, \d+ MB/s")
+OF_OUTPUT = re.compile(rb"\d+ MB read, \d+ MB written")
 ERASE = b"\r\x1b[K"
 
 
@@ -134,7 +135,8 @@ def judge_progress(
 ) -> None:
     """There was progress, not too often, and nothing of it is left."""
     frames = [frame for frame in seen.message.split(ERASE) if form.fullmatch(frame)]
-    others = [frame for frame in seen.message.split(ERASE)[1:-1] if frame and not form.fullmatch(frame)]
+    shown = [frame for frame in seen.message.split(ERASE)[1:-1] if frame and not OF_OUTPUT.fullmatch(frame)]
+    others = [frame for frame in shown if not form.fullmatch(frame)]
     left = b"\n".join(screen(seen.message))
     is_right = (seen.out, left, seen.status) == (wanted.out, wanted.message, wanted.status) and not others
     is_right = is_right and len(frames) <= seconds / EACH and (frames != [] or seconds < FIRST + 3 * DELAY / 1e6)
@@ -155,6 +157,29 @@ def progress(stress: Stress) -> None:
             seen, seconds = run(stress, words, slow(stress, damaged))
             judge_progress(stress, words, seen, seconds, Result(b"", refusal, 2))
     stress.end()
+
+
+def output_progress(stress: Stress) -> None:
+    """What follows the reading may take long, too: here nobody reads the output for some time."""
+    stress.begin("progress of an output")
+    path = stress.file("many.warc", b"".join(system.record_text("resource", "urn:x:%d" % n, b"") for n in range(3000)))
+    wanted = stress.run(["captures", path])
+    terminal = Terminal()
+    child = subprocess.Popen([stress.program, "captures", path], stdout=subprocess.PIPE, stderr=terminal.theirs)
+    assert child.stdout
+    time.sleep(FIRST + EACH)
+    out = child.stdout.read()
+    seen = Result(out, terminal_end(terminal, child), child.wait())
+    frames = [frame for frame in seen.message.split(ERASE) if OF_OUTPUT.fullmatch(frame)]
+    is_right = (seen.out, screen(seen.message), seen.status) == (wanted.out, [b""], 0)
+    stress.judge(is_right and len(wanted.out) > 1 << 17 and frames != [], ("captures", "slowly read"), seen)
+    stress.end()
+
+
+def terminal_end(terminal: Terminal, child: "subprocess.Popen[bytes]") -> bytes:
+    """What a terminal got until a program ended."""
+    child.wait()
+    return terminal.close()
 
 
 def piped_progress(stress: Stress) -> None:
@@ -385,6 +410,7 @@ def hints_wanted(stress: Stress) -> Iterator[Tuple[Sequence[str], Optional[str],
     yield ("list", "--hints", missing), None, "%s: No such file or directory (os error 2)" % missing
     yield ("check", packed, "--hints"), None, "this looks like gzip: zwarc check %s --hints --quiet" % packed
     yield ("list", "--hints", stress.archive), None, None
+    yield ("list", "--hints", stress.file("empty.warc", b"")), None, "the file is empty: an archive of no records"
     yield ("replay", "--hints", stress.archive, system.TARGET, "1999"), None, earliest
     yield ("replay", "--hints", stress.archive, *in_hex, "1999"), None, earliest
     yield ("replay", "--hints", "-", system.TARGET, "1999"), stress.archive, earliest
@@ -420,6 +446,20 @@ def hints_flag(stress: Stress) -> None:
     stress.end()
 
 
+def many_archives(stress: Stress) -> None:
+    """A command that takes one archive says how it is done for many; of what looks like an option it says nothing."""
+    stress.begin("many archives")
+    for command in ("list", "check", "fixity", "summary"):
+        for words, is_hinted in (([stress.archive] * 2, True), ([stress.archive, "-v"], False)):
+            line = 'one archive at a time: for file in *.warc; do warc %s "$file"; done\r\n' % command
+            added = line.encode() + b"warc-collection checks many archives\r\n" if is_hinted else b""
+            plain = stress.run([command, *words])
+            seen, _ = run(stress, [command, *words])
+            wanted = plain.message.replace(b"\n", b"\r\n") + added
+            stress.judge((seen.status, seen.message) == (3, wanted), (command, *words), seen)
+    stress.end()
+
+
 def help_texts(stress: Stress) -> None:
     """Each line of help fits into 78 columns."""
     stress.begin("help")
@@ -433,6 +473,7 @@ def help_texts(stress: Stress) -> None:
 KINDS = (
     system.plain_runs,
     progress,
+    output_progress,
     piped_progress,
     no_progress,
     lines_for_people,
@@ -440,6 +481,7 @@ KINDS = (
     hostile_messages,
     hostile_names,
     hints_flag,
+    many_archives,
     help_texts,
 )
 

@@ -297,7 +297,7 @@ const EXPLAIN_NOTES: &str = "The number is one that the program prints: F1 to F1
 refused; G1 to G6, why segments don't join; P1 to P10, why there is no body;
 M1 to M5 and S1 to S7, why a record isn't made or split; E1 and E2, what isn't
 there; N1 to N12, what 'warc check' finds. Its letter may be in lower case.
-Nothing is opened.
+'warc explain date' prints the forms of a date. Nothing is opened.
 
 Exit status: 0 written; 3 the number isn't one of these, or see 'warc --help'.
 There is no status 1 or 2.

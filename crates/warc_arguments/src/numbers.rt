@@ -2,7 +2,7 @@
 
 /// All numbers, letter by letter, each as the program prints it and with its lines: the number and its name, what it
 /// means, and last what to do. `make numbers` makes docs/NUMBERS.md of them.
-pub const EXPLANATIONS: [(&str, &str); 56] = [
+pub const EXPLANATIONS: [(&str, &str); 57] = [
     (
         "F1",
         "F1 Version
@@ -405,6 +405,15 @@ What to do: fix the tool that wrote it. The block can be had with 'warc block'.
         "N12 Empty
 The archive has no records.
 What to do: see that the file is the right one: an empty file is an archive of no records.
+",
+    ),
+    (
+        "date",
+        "bad date
+A date is YYYY, YYYY-MM, YYYY-MM-DD, YYYY-MM-DDThh:mmZ or YYYY-MM-DDThh:mm:ssZ, in UTC. Seconds may have up to nine
+digits after a point. A shorter date means the first instant of the year, month, day or minute.
+What to do: write it so. The 14 digits of a CDX file or of the Wayback Machine, as 20261126044836, are
+2026-11-26T04:48:36Z here. 9999 is later than any capture.
 ",
     ),
 ];

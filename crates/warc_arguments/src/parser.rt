@@ -22,6 +22,9 @@ use std::convert::AsStr;
 use std::fmt;
 use thiserror::Error;
 
+/// What the tip of `clap` to write a word after `--` begins with.
+const TIP: &str = "\n  tip: to pass '";
+
 /// Why words name no command.
 #[derive(Debug, Drop, Error)]
 pub enum CommandFault {
@@ -285,13 +288,34 @@ fn refusal(alloc: Global, error: &clap::Error) -> CommandFault
     if let ErrorKind::OutOfMemory = error.kind() {
         return CommandFault::Memory;
     }
-    match error.to_string(alloc) {
+    match refusal_text(alloc, error) {
         Ok(text) => CommandFault::Usage {
             text,
             asked: !error.use_stderr(),
         },
         Err(_) => CommandFault::Memory,
     }
+}
+
+/// The text of `clap`, without its tip to write a word after `--`: who writes `--json` means no file of that name.
+fn refusal_text(alloc: Global, error: &clap::Error) -> Result<String, AllocError> {
+    let text = error.to_string(alloc)?;
+    match around_tip(text.as_str()) {
+        Some((before, after)) => {
+            let mut kept = String::new(alloc);
+            kept.push_str(before)?;
+            kept.push_str(after)?;
+            Ok(kept)
+        }
+        None => Ok(text),
+    }
+}
+
+/// What is before and after the lines of a tip, if a text has one.
+fn around_tip(text: &str) -> Option<(&str, &str)> {
+    let (before, rest) = text.split_once(TIP)?;
+    let (_, after) = rest.split_once("'\n")?;
+    Some((before, after))
 }
 
 /// The command and the texts that the words name, and whether `--quiet` and `--hints` are among them, the program's

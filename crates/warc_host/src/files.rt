@@ -3,8 +3,9 @@ ghost use Rattle.std.specs.Prelude.{◌≡◌, IfOk, IfSome};
 
 use crate::progress::Progress;
 use std::cell::Cell;
-use std::fs::{self, File};
+use std::fs::{self, File, Metadata};
 use std::io::{self, Read, Seek, SeekFrom, Stdin};
+use std::os::unix::fs::MetadataExt;
 use warc_frame::FileSource;
 use warc_stream::{StreamSource, WatchedSource, WindowSource};
 
@@ -14,8 +15,10 @@ pub type HostFile<'a> = WindowSource<WatchedSource<'a, FileSource<Noted<'a, File
 /// Standard input as it comes, which passes each read on to the progress.
 pub type HostStream<'a> = WatchedSource<'a, StreamSource<Noted<'a, Stdin>>, Progress<'a>>;
 
-/// The path of standard input.
+/// The paths of standard input and standard output.
 const STANDARD_INPUT: &str = "/dev/stdin";
+
+const STANDARD_OUTPUT: &str = "/dev/stdout";
 
 /// The system's last error: its number, and whether it is of the list that a command reads beside its archive.
 #[derive(Clone, Copy)]
@@ -24,24 +27,58 @@ pub struct Failure {
     pub of_list: bool,
 }
 
-/// A reader whose last error is noted.
+/// A reader whose last error is noted. Of one that is no regular file, such as a pipe, the bytes come in order.
 #[derive(Drop)]
 pub struct Noted<'a, F> {
     reader: F,
     of_list: bool,
+    is_regular: bool,
+    position: u64,
     reason: &'a Cell<Option<Failure>>,
+}
+
+impl<'a, F> Noted<'a, F> {
+    /// A reader that nobody has read.
+    fn new(
+        reader: F,
+        of_list: bool,
+        is_regular: bool,
+        reason: &'a Cell<Option<Failure>>,
+    ) -> Noted<'a, F> {
+        Noted {
+            reader,
+            of_list,
+            is_regular,
+            position: 0,
+            reason,
+        }
+    }
+
+    /// Whether the next byte that comes is the wanted one, of a reader that can't be put elsewhere.
+    fn is_there(&self, to: SeekFrom) -> bool {
+        match to {
+            SeekFrom::Start(at) => !self.is_regular && at == self.position,
+            _ => false,
+        }
+    }
 }
 
 impl<'a, F: Read> Read for Noted<'a, F> {
     fn read(&mut self, buf: &mut [u8]) -> io::Result<usize> {
         let answer = self.reader.read(buf);
         note(self.reason, self.of_list, &answer);
+        if let Ok(count) = &answer {
+            self.position = self.position.saturating_add(*count as u64);
+        }
         answer
     }
 }
 
 impl<'a, F: Seek> Seek for Noted<'a, F> {
     fn seek(&mut self, to: SeekFrom) -> io::Result<u64> {
+        if self.is_there(to) {
+            return Ok(self.position);
+        }
         let answer = self.reader.seek(to);
         note(self.reason, self.of_list, &answer);
         answer
@@ -75,16 +112,14 @@ impl<'a> Host<'a> {
         let opened = File::open(self.rt, path);
         note(self.reason, of_list, &opened);
         let file = opened?;
-        if let Ok(metadata) = file.metadata()
+        let metadata = file.metadata();
+        if let Ok(metadata) = &metadata
             && !of_list
         {
             self.progress.expect(metadata.len());
         }
-        let reader = Noted {
-            reader: file,
-            of_list,
-            reason: self.reason,
-        };
+        let is_regular = !of_list || is_regular(&metadata);
+        let reader = Noted::new(file, of_list, is_regular, self.reason);
         let source = WatchedSource::new(FileSource::new(reader), self.progress);
         Ok(WindowSource::new(self.rt.alloc(), source))
     }
@@ -106,11 +141,30 @@ impl<'a> Host<'a> {
         ensures unread { result.source.reads ≡ 0 }
         ensures sound { result.source.faults ≡ 0 }
     {
-        let reader = Noted {
-            reader: self.rt.stdin(),
-            of_list: matches!(self.list, Some("-" | STANDARD_INPUT)),
-            reason: self.reason,
-        };
+        let of_list = matches!(self.list, Some("-" | STANDARD_INPUT));
+        let reader = Noted::new(self.rt.stdin(), of_list, false, self.reason);
         WatchedSource::new(StreamSource::new(reader), self.progress)
+    }
+
+    /// Whether standard output is a regular file, and the same as the file at a path.
+    pub fn is_output(&self, path: &str) -> bool {
+        let input = if path == "-" { STANDARD_INPUT } else { path };
+        match (
+            fs::metadata(self.rt, input),
+            fs::metadata(self.rt, STANDARD_OUTPUT),
+        ) {
+            (Ok(read), Ok(written)) => {
+                written.is_file() && read.dev() == written.dev() && read.ino() == written.ino()
+            }
+            _ => false,
+        }
+    }
+}
+
+/// Whether this is known to be of a regular file.
+fn is_regular(metadata: &io::Result<Metadata>) -> bool {
+    match metadata {
+        Ok(metadata) => metadata.is_file(),
+        Err(_) => false,
     }
 }

@@ -9,5 +9,5 @@ mod shown;
 
 pub use files::{Failure, Host, HostFile, HostStream, Noted};
 pub use hints::{Ended, hint, words};
-pub use progress::{ErasingSink, Progress};
+pub use progress::{CountedSink, ErasingSink, Progress};
 pub use shown::ShownSink;

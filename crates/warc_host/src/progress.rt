@@ -30,6 +30,7 @@ pub struct Progress<'a> {
     start: Option<Instant>,
     total: Cell<u64>,
     read: Cell<u64>,
+    written: Cell<u64>,
     due: Cell<u64>,
     is_shown: Cell<bool>,
     packing: Cell<Option<&'static str>>,
@@ -48,6 +49,7 @@ impl<'a> Progress<'a> {
             start,
             total: Cell::new(0),
             read: Cell::new(0),
+            written: Cell::new(0),
             due: Cell::new(FIRST),
             is_shown: Cell::new(false),
             packing: Cell::new(None),
@@ -57,6 +59,11 @@ impl<'a> Progress<'a> {
     /// Notes how many bytes there are to read.
     pub fn expect(&self, total: u64) {
         self.total.set(total);
+    }
+
+    /// Whether no byte was read.
+    pub fn is_unread(&self) -> bool {
+        self.read.get() == 0
     }
 
     /// The compression that the first bytes that were read look like.
@@ -72,25 +79,42 @@ impl<'a> Progress<'a> {
         }
     }
 
-    /// Shows the line, where it is due.
+    /// Notes how many bytes more went out, and shows a line of that, where it is due: what follows the reading may take
+    /// as long.
+    fn note_written(&self, count: u64) {
+        self.written.set(self.written.get().saturating_add(count));
+        if let Some(start) = self.start
+            && let Some(_) = self.due_at(start)
+        {
+            self.put(line_of_output(self.read.get(), self.written.get()).as_str());
+        }
+    }
+
+    /// Shows how far the reading is, where that is due.
     fn show(&self, start: Instant, position: u64) {
-        let Ok(elapsed) = start.elapsed(self.rt) else {
-            return;
-        };
+        if let Some(now) = self.due_at(start) {
+            self.put(line_of(position, self.total.get(), self.read.get(), now).as_str());
+        }
+    }
+
+    /// The milliseconds since the start, if a line is due; then the next one is due later.
+    fn due_at(&self, start: Instant) -> Option<u64> {
+        let elapsed = start.elapsed(self.rt).ok()?;
         let now = elapsed
             .as_secs()
             .saturating_mul(1_000)
             .saturating_add(elapsed.subsec_millis() as u64);
         if now < self.due.get() {
-            return;
+            return None;
         }
         self.due.set(now.saturating_add(EACH));
+        Some(now)
+    }
+
+    /// Writes the line in the place of the one before.
+    fn put(&self, line: &str) {
         self.is_shown.set(true);
-        let line = line_of(position, self.total.get(), self.read.get(), now);
-        let _ = send_all(
-            &mut OutSink::new(self.rt.stderr()),
-            line.as_str().as_bytes(),
-        );
+        let _ = send_all(&mut OutSink::new(self.rt.stderr()), line.as_bytes());
     }
 }
 
@@ -125,6 +149,47 @@ fn line_of(position: u64, total: u64, read: u64, millis: u64) -> ArrayString<LIN
         line.push_str(" s left");
     }
     line
+}
+
+/// The line of what follows the reading: the megabytes that were read, and those that went out.
+fn line_of_output(read: u64, written: u64) -> ArrayString<LINE> {
+    let mut digits = Buffer::new();
+    let mut line = ArrayString::new();
+    line.push_str("\r\x1b[K");
+    line.push_str(digits.format(read / MEGABYTE));
+    line.push_str(" MB read, ");
+    line.push_str(digits.format(written / MEGABYTE));
+    line.push_str(" MB written");
+    line
+}
+
+/// A sink whose writes show progress. Contracts see the sink alone.
+#[derive(Drop)]
+pub struct CountedSink<'a, W> {
+    pub sink: W,
+    pub progress: &'a Progress<'a>,
+}
+
+impl<'a, W> CountedSink<'a, W> {
+    /// Nothing was written yet.
+    pub fn new(sink: W, progress: &'a Progress<'a>) -> CountedSink<'a, W>
+        ensures { result.sink ≡ sink }
+    {
+        CountedSink { sink, progress }
+    }
+}
+
+impl<'a, W: Sink> Sink for CountedSink<'a, W> {
+    ghost seen = { λ e. W.seen e.sink };
+
+    /// It answers what the sink answers.
+    fn write(&mut self, piece: &[u8]) -> Result<usize, WriteFault> {
+        let answer = self.sink.write(piece);
+        if let Ok(count) = answer {
+            self.progress.note_written(count as u64);
+        }
+        answer
+    }
 }
 
 impl<'a> Watcher for Progress<'a> {

@@ -10,14 +10,17 @@ use files::Files;
 use std::cell::Cell;
 use std::io::{self, IsTerminal};
 use std::process::ExitCode;
-use warc_arguments::{CommandLine, Request};
+use warc_arguments::{Command, CommandFault, CommandLine, Request};
 use warc_commands::run;
-use warc_frame::Sink;
-use warc_host::{Ended, ErasingSink, Host, Progress, ShownSink, hint, words};
-use wrong_words::hint_word;
+use warc_frame::{Sink, send_all};
+use warc_host::{CountedSink, Ended, ErasingSink, Host, Progress, ShownSink, hint, words};
+use wrong_words::{hint_empty, hint_fault, hint_word};
 
 /// The exit status where a write failed.
 const FAILED: u8 = 3;
+
+/// What is reported where standard output is a file that the command reads.
+const SAME_FILE: &str = "warc: the output is a file that is read\n";
 
 /// What the words of the command line name, or why they aren't text.
 fn read_line<'a>(
@@ -41,13 +44,33 @@ fn request_of<'a>(line: &io::Result<CommandLine<'a>>) -> Option<Request<'a>> {
     }
 }
 
-/// Does what a command line says, and returns the exit status.
+/// Whether standard output is a file that the command reads.
+fn writes_over(host: &Host<'_>, command: &Command<'_>) -> bool {
+    if command.opens_nothing() {
+        return false;
+    }
+    let is_list = match command.list_path() {
+        Some(list) => host.is_output(list),
+        None => false,
+    };
+    is_list || host.is_output(command.path())
+}
+
+/// Does what a command line says, and returns the exit status. Nothing is read or written where the output is a file
+/// that the command reads.
 fn status_of<'a, W: Sink, E: Sink>(
     files: &Files<'a>,
     line: &io::Result<CommandLine<'_>>,
+    request: &Option<Request<'_>>,
     out: &mut W,
     err: &mut E,
 ) -> u8 {
+    if let Some(request) = request
+        && writes_over(&files.host, &request.command)
+    {
+        let _ = send_all(err, SAME_FILE.as_bytes());
+        return FAILED;
+    }
     let (status, _) = run(files.host.rt.alloc(), files, line, out, err);
     status
 }
@@ -74,7 +97,37 @@ fn give_hints(
     let _ = hint(rt, line.words(), request, ended);
     let _ = hint_answer(&files.host, request, report);
     let _ = hint_word(rt, request, report);
+    let _ = hint_empty(rt, &request.command, status, progress.is_unread());
     progress.erase();
+}
+
+/// Writes what more there is to say after a run: to people on a terminal or where they ask for it, and of a command
+/// that reads two files which of them failed.
+fn say_more(
+    files: &Files<'_>,
+    line: &CommandLine<'_>,
+    is_terminal: bool,
+    status: u8,
+    report: &[u8],
+) {
+    let rt = files.host.rt;
+    match line.parsed() {
+        Ok(request) if is_terminal || request.hints => {
+            give_hints(files, line, request, status, report);
+        }
+        Ok(request) if status == FAILED && request.command.list_path().is_some() => {
+            let ended = Ended {
+                status,
+                packing: None,
+                reason: files.host.reason.get(),
+            };
+            let _ = hint(rt, line.words(), request, ended);
+        }
+        Err(CommandFault::Usage { text, asked: false }) if is_terminal => {
+            let _ = hint_fault(rt, line.words(), text.as_str());
+        }
+        _ => {}
+    }
 }
 
 /// Runs a command line over the files and the outputs of the system, and returns the exit status.
@@ -85,17 +138,16 @@ fn run_line(
 ) -> u8 {
     let Host { rt, progress, .. } = &files.host;
     let is_text = !request.is_some_and(|it| it.command.gives_bytes());
-    let mut out = ShownSink::new(rt.stdout(), is_text && rt.stdout().is_terminal());
+    let shown = ShownSink::new(rt.stdout(), is_text && rt.stdout().is_terminal());
+    let mut out = CountedSink::new(shown, progress);
     let is_terminal = rt.stderr().is_terminal();
     let mut err = ErasingSink::new(ShownSink::new(rt.stderr(), is_terminal), progress);
-    let status = status_of(files, line, &mut out, &mut err);
-    let status = if out.end() { status } else { FAILED };
+    let status = status_of(files, line, &request, &mut out, &mut err);
+    let status = if out.sink.end() { status } else { FAILED };
     err.sink.end();
     progress.erase();
-    if let (Ok(line), Some(request)) = (line, &request)
-        && (is_terminal || request.hints)
-    {
-        give_hints(files, line, request, status, err.report.as_slice());
+    if let Ok(line) = line {
+        say_more(files, line, is_terminal, status, err.report.as_slice());
     }
     status
 }

@@ -1,4 +1,4 @@
-//! Lines for people about a word of the command line that a run couldn't use.
+//! Lines for people about a word of the command line that a run couldn't use, or found nothing at.
 
 use std::io;
 use warc_arguments::{Command, Request};
@@ -14,6 +14,45 @@ pub fn hint_word(rt: &HostRuntime, request: &Request<'_>, report: &[u8]) -> io::
     match request.command {
         Command::Extract { archive: _, id } if report.starts_with(b"warc: E1 ") && are_digits(id) =>
             { eprintln!(rt; "extract wants an id; block and head take a position") }
+        _ => Ok(()),
+    }
+}
+
+/// The commands whose only word is an archive.
+const OF_ONE_ARCHIVE: [&str; 9] = [
+    "list", "check", "fixity", "summary", "survey", "pieces", "salvage", "rewrite", "convert",
+];
+
+/// What a report of a word too many begins with, before that word.
+const UNEXPECTED: &str = "error: unexpected argument '";
+
+/// Writes how a command is done for many archives, if words name more than the one that it takes.
+pub fn hint_fault(rt: &HostRuntime, words: &[String], fault: &str) -> io::Result<()> {
+    let Some(word) = fault.strip_prefix(UNEXPECTED) else {
+        return Ok(());
+    };
+    let Some(named) = words.get(1) else {
+        return Ok(());
+    };
+    let command = named.as_str();
+    if word.starts_with("-") || !OF_ONE_ARCHIVE.contains(&command) {
+        return Ok(());
+    }
+    eprintln!(rt; "one archive at a time: for file in *.warc; do warc {command} \"$file\"; done")?;
+    eprintln!(rt; "warc-collection checks many archives")
+}
+
+/// Writes that an archive has no records, if one was listed of which no byte was read.
+pub fn hint_empty(
+    rt: &HostRuntime,
+    command: &Command<'_>,
+    status: u8,
+    is_unread: bool,
+) -> io::Result<()> {
+    match command {
+        Command::List { archive: _ } if status == 0 && is_unread => {
+            eprintln!(rt; "the file is empty: an archive of no records")
+        }
         _ => Ok(()),
     }
 }
