@@ -5,9 +5,13 @@
 #include "warc.h"
 
 #include <errno.h>
+#include <inttypes.h>
 #include <signal.h>
+#include <stdio.h>
 #include <stdlib.h>
 #include <string.h>
+#include <sys/stat.h>
+#include <sys/sysmacros.h>
 #include <time.h>
 #include <unistd.h>
 
@@ -248,6 +252,39 @@ size_t warc_row_at(warc_archive *archive, size_t position, warc_row *row, uint8_
                        problem);
 }
 
+/* Puts a line feed after each of the texts of a row, which are one after another. Answers where the lines end. */
+static uint8_t *put_row_lines(const warc_row *row, uint8_t *text) {
+    const size_t lengths[] = {row->target_length, row->id_length, row->date_length, row->type_length};
+    uint8_t *from = text + row->type_length + row->date_length + row->id_length + row->target_length;
+    uint8_t *end = from + 4, *to = end;
+    for (size_t i = 0; i < 4; i++) {
+        *--to = '\n';
+        to -= lengths[i];
+        from -= lengths[i];
+        memmove(to, from, lengths[i]);
+    }
+    return end;
+}
+
+size_t warc_rows(warc_archive *archive, size_t position, warc_row *rows, size_t rows_length, uint8_t *text,
+                 size_t text_length, warc_problem *problem) {
+    warc_problem none;
+    if (problem == NULL) problem = &none;
+    bool are_good = archive != NULL && fits(rows, rows_length, sizeof *rows) && fits(text, text_length, 1);
+    if (!begin(are_good, problem)) return 0;
+    uint8_t *at = room_or_nothing(text);
+    const uint8_t *end = at + text_length;
+    size_t put = 0;
+    for (; put < rows_length && position < archive->count; put++, position++) {
+        size_t room = (size_t)(end - at);
+        size_t length = warc_rt_row(&archive->handle, position, &rows[put], at, room, problem);
+        if (problem->code != 0 || length + 4 > room) break;
+        at = put_row_lines(&rows[put], at);
+    }
+    if (put != 0) set(problem, 0);
+    return put;
+}
+
 /* The row of a record, without its texts. */
 static bool read_row(warc_archive *archive, size_t position, warc_row *row, warc_problem *problem) {
     warc_row_at(archive, position, row, NULL, 0, problem);
@@ -346,6 +383,47 @@ bool warc_field_at(warc_archive *archive, size_t position, size_t place, warc_fi
     field->value = field->name + field->name_length;
     field->value_length = kept->lengths[place].value_length;
     return true;
+}
+
+/* Copies a text and puts a line feed after it. Answers where that ends. */
+static uint8_t *put_line(const uint8_t *text, size_t length, uint8_t *out) {
+    memcpy(out, text, length);
+    out[length] = '\n';
+    return out + length + 1;
+}
+
+/* Copies the lines of the fields that are kept. Answers where they end; null if there is no room for all. */
+static uint8_t *put_field_lines(const field_cache *kept, uint8_t *out, const uint8_t *end) {
+    const uint8_t *text = kept->texts;
+    if (kept->count > MOST_FIELDS) return NULL;
+    for (size_t place = 0; place < kept->count; place++) {
+        const size_t lengths[] = {kept->lengths[place].name_length, kept->lengths[place].value_length};
+        if (lengths[0] + lengths[1] > (size_t)(kept->texts + MOST_TEXTS - text)) return NULL;
+        if (lengths[0] + lengths[1] + 2 > (size_t)(end - out)) return NULL;
+        for (size_t i = 0; i < 2; text += lengths[i++]) out = put_line(text, lengths[i], out);
+    }
+    return out;
+}
+
+size_t warc_fields(warc_archive *archive, size_t position, warc_lines *lines, size_t lines_length, uint8_t *text,
+                   size_t text_length, warc_problem *problem) {
+    warc_problem none;
+    if (problem == NULL) problem = &none;
+    bool are_good = archive != NULL && fits(lines, lines_length, sizeof *lines) && fits(text, text_length, 1);
+    if (!begin(are_good, problem)) return 0;
+    uint8_t *at = room_or_nothing(text);
+    const uint8_t *end = at + text_length;
+    size_t put = 0;
+    for (; put < lines_length && position < archive->count; put++, position++) {
+        if (!read_fields(archive, position, problem)) break;
+        uint8_t *next = put_field_lines(archive->fields, at, end);
+        if (next == NULL) break;
+        lines[put].fields = (uint32_t)archive->fields->count;
+        lines[put].length = (uint32_t)(next - at);
+        at = next;
+    }
+    if (put != 0) set(problem, 0);
+    return put;
 }
 
 /* Parses the HTTP head of a record's block, unless it is the one that was parsed last. */
@@ -549,6 +627,39 @@ static ssize_t write_quietly(int file, const uint8_t *bytes, size_t length) {
     return taken;
 }
 
+/* Whether a line of /proc/self/maps is of the mapping that an address is in, and that of a given file. Some file
+ * systems show other numbers there than stat gives: then the path decides. */
+static bool maps_file(const char *line, const void *address, const struct stat *file) {
+    uintptr_t begin, end;
+    unsigned major, minor;
+    uintmax_t number;
+    int path = 0;
+    struct stat mapped;
+    if (sscanf(line, "%" SCNxPTR "-%" SCNxPTR " %*s %*s %x:%x %" SCNuMAX " %n", &begin, &end, &major, &minor, &number,
+               &path) != 5) return false;
+    if ((uintptr_t)address < begin || (uintptr_t)address >= end || number == 0) return false;
+    if (number == file->st_ino && makedev(major, minor) == file->st_dev) return true;
+    return stat(line + path, &mapped) == 0 && mapped.st_ino == file->st_ino && mapped.st_dev == file->st_dev;
+}
+
+/* Whether bytes are mapped from the regular file that a descriptor writes to, as far as /proc/self/maps says. */
+static bool are_of_file(const uint8_t *bytes, size_t length, int descriptor) {
+    struct stat file;
+    if (length == 0 || fstat(descriptor, &file) != 0 || !S_ISREG(file.st_mode)) return false;
+    FILE *maps = fopen("/proc/self/maps", "re");
+    if (maps == NULL) return false;
+    char *line = NULL;
+    size_t room = 0;
+    bool found = false;
+    for (ssize_t count; !found && (count = getline(&line, &room, maps)) > 0;) {
+        if (line[count - 1] == '\n') line[count - 1] = '\0';
+        found = maps_file(line, bytes, &file);
+    }
+    free(line);
+    fclose(maps);
+    return found;
+}
+
 /* Writes a part, and answers how many bytes of it went out. A write that fails or takes nothing isn't tried again. */
 static size_t write_part(int file, const uint8_t *part, size_t length) {
     size_t sent = 0;
@@ -597,13 +708,14 @@ static bool write_output(const output *what, int file, uint64_t *sent, warc_prob
     return is_done;
 }
 
-/* Writes an output: nothing is sent if an argument is bad. */
+/* Writes an output: nothing is sent if an argument is bad, or if the bytes are those of the file that is written. */
 static bool write_if_good(bool are_good, const output *what, int file, uint64_t *sent, warc_problem *problem) {
     warc_problem none;
     uint64_t unread;
     if (problem == NULL) problem = &none;
     if (sent == NULL) sent = &unread;
     *sent = 0;
+    are_good = are_good && !are_of_file(what->bytes, what->length, file);
     return begin(are_good, problem) && write_output(what, file, sent, problem);
 }
 

@@ -20,11 +20,11 @@
  * length 0 asks for the length alone. Calls that give spans, positions or pieces do the same, in elements. What is in a
  * buffer after what was written stays as it was. With a problem all of it does, but for warc_pieces.
  *
- * PROBLEMS. A call that fails sets `*problem` and answers 0, false, WARC_UNCHECKED or WARC_PAYLOAD_NONE; one that
- * succeeds sets it to {0}. A problem has a code, listed below, and warc_problem_text gives its text, as the program
- * `warc` prints it. `problem` may be null. Any call with a `problem` may fail with WARC_BAD_ARGUMENT; what else it may
- * fail with is said at the call. Where it isn't said otherwise, a call that fails leaves the archive and the caller's
- * buffers as they were.
+ * PROBLEMS. A call that fails sets `*problem` and answers 0, false, WARC_UNCHECKED or WARC_PAYLOAD_NONE; warc_pieces
+ * answers how many pieces come before the problem. One that succeeds sets it to {0}. A problem has a code, listed
+ * below, and warc_problem_text gives its text, as the program `warc` prints it. `problem` may be null. Any call with a
+ * `problem` may fail with WARC_BAD_ARGUMENT; what else it may fail with is said at the call. Where it isn't said
+ * otherwise, a call that fails leaves the archive and the caller's buffers as they were.
  *
  * POINTERS. A null pointer with length 0 is empty bytes, an empty text or no buffer. A null pointer with another
  * length, a length above PTRDIFF_MAX and a null archive are WARC_BAD_ARGUMENT. Any other pointer must lead to as many
@@ -33,7 +33,8 @@
  * LIFETIMES. An archive keeps the address of its bytes. They must stay where they are, and as they are, until
  * warc_close, or until a warc_grow that succeeds gives it others. warc_close frees all that an archive holds, and the
  * archive: it isn't used again. Texts, spans and positions are the caller's. What a warc_field points to is the
- * library's, and stays until the next call of warc_field_at for another record of the archive, warc_grow or warc_close.
+ * library's, and stays until the next call of warc_field_at for another record of the archive, warc_fields, warc_grow
+ * or warc_close.
  *
  * MAPPED FILES. A read of a mapped file that fails kills the process by SIGBUS: where the file became shorter, and
  * where its disk or network fails. No call reads a file by its descriptor. Where that may happen and the process must
@@ -55,19 +56,19 @@
  * checked, by warc_replay and warc_body_at those that are joined. warc_payload_verdict_at hashes the payload of one
  * record, and of a revisit also the blocks that its replay joins.
  *
- * PROVED. A call over an archive is one call of a library function whose contract says what is answered and what is
- * put into the buffers: put_row, verdict_at, stated_verdict_at, payload_verdict_at, put_captures, put_replay,
- * put_body, put_list, put_check or grow_lent of the crate warc_lent, or count of warc. Around it the archive is taken
- * out of its handle and put back, and a problem becomes numbers. warc_head_at and warc_block_at take theirs from the
- * row. warc_open, warc_open_front, warc_pieces, warc_field_at, warc_http_at, warc_http_field_at, warc_fixity,
- * warc_problem_text and warc_abi_version call functions over bytes that state their contracts themselves; warc_open
- * answers true only for bytes that spell good records, and otherwise gives their first fault, or says that memory ran
- * out. warc_rewrite, warc_convert, warc_split, warc_select and warc_make are one call of write_lent, split_lent,
- * select_lent, select_closed_lent or make_lent each, whose contract says what goes to a sink; that a descriptor takes
- * these bytes is write's matter, and warc.c puts the parts together. No contract says that a handle holds the archive
- * that was opened: contracts see no value of a struct that C keeps (docs/PROMISES.md). What this page demands of the
- * caller isn't checked by anybody, and warc.c, which checks pointers, keeps texts and finds fields in what was put,
- * isn't proved.
+ * PROVED. A call over an archive is one call of a library function whose contract says what is answered and what is put
+ * into the buffers: put_row, verdict_at, stated_verdict_at, payload_verdict_at, put_captures, put_replay, put_body,
+ * put_list, put_check or grow_lent of the crate warc_lent, or count of warc. Around it the archive is taken out of its
+ * handle and put back, and a problem becomes numbers. warc_rows makes one such call for each record, and warc_fields
+ * one as warc_field_at does. warc_head_at and warc_block_at take theirs from the row. warc_open, warc_open_front,
+ * warc_pieces, warc_field_at, warc_http_at, warc_http_field_at, warc_fixity, warc_problem_text and warc_abi_version
+ * call functions over bytes that state their contracts themselves; warc_open answers true only for bytes that spell
+ * good records, and otherwise gives their first fault, or says that memory ran out. warc_rewrite, warc_convert,
+ * warc_split, warc_select and warc_make are one call of write_lent, split_lent, select_lent, select_closed_lent or
+ * make_lent each, whose contract says what goes to a sink; that a descriptor takes these bytes is write's matter, and
+ * warc.c puts the parts together. No contract says that a handle holds the archive that was opened: contracts see no
+ * value of a struct that C keeps (docs/PROMISES.md). What this page demands of the caller isn't checked by anybody, and
+ * warc.c, which checks pointers, keeps texts and finds fields in what was put, isn't proved.
  */
 #ifndef WARC_H
 #define WARC_H
@@ -80,7 +81,8 @@
 extern "C" {
 #endif
 
-/* The version of this interface. It changes with any change of a call, a struct or a number here. */
+/* The version of this interface. It changes with any change of a call, a struct or a number here; a call that is added
+ * leaves it as it is. */
 #define WARC_ABI_VERSION 3
 
 /* The version that the library has. It never fails. A program that loads the library compares it with
@@ -124,7 +126,8 @@ enum {
     WARC_NO_MEMORY = 204,           /* Memory ran out. */
     WARC_BAD_DATE = 205,            /* The text is no date. */
     WARC_NOT_OPEN = 206,            /* No archive is open. No call of this page answers it. */
-    WARC_BAD_ARGUMENT = 207,        /* A pointer is null, or a length above PTRDIFF_MAX. */
+    WARC_BAD_ARGUMENT = 207,        /* A pointer is null, a length above PTRDIFF_MAX, or the output the file that is
+                                     * read. */
     WARC_WRITE_FAILED = 208,        /* A write failed, or took nothing. */
 
     /* No record is made. */
@@ -199,8 +202,8 @@ typedef struct {
 /* The pieces of these bytes, in order. They follow one another without gap or overlap from offset 0 to the end, and
  * runs and damage come in turn: an archive is one piece, and no bytes have none. The bytes of all runs, joined, are an
  * archive of their records. Answers how many pieces there are; if that is more than `pieces_length`, only the first
- * ones are written. 0 without bytes, and with a problem: WARC_FAULT_MEMORY, or WARC_FAULT_TOO_LONG for bytes that go on
- * at offset 2^48. With a problem the pieces before it are written, as far as there is room. */
+ * ones are written. 0 without bytes. The problem is WARC_FAULT_MEMORY, or WARC_FAULT_TOO_LONG for bytes that go on at
+ * offset 2^48: then the pieces before it are written, as far as there is room, and the answer is how many they are. */
 size_t warc_pieces(const uint8_t *bytes, size_t length, warc_piece *pieces, size_t pieces_length,
                    warc_problem *problem);
 
@@ -224,6 +227,14 @@ typedef struct {
  * WARC_NO_RECORD. `row` may be null. */
 size_t warc_row_at(warc_archive *archive, size_t position, warc_row *row, uint8_t *texts, size_t texts_length,
                    warc_problem *problem);
+
+/* The same of many records in one call: those from a position on, in order. Writes the row of each, and to `text` its
+ * type, its date, its id and its target, each with a line feed after it, which none of them has: of as many records
+ * as there is room for. 65,540 bytes hold the lines of any record. Answers how many records these are: 0 at the end
+ * of the archive, and where there is no room for the first one. What is in the buffers after these is of no meaning.
+ * Nothing of the archive's bytes is read. */
+size_t warc_rows(warc_archive *archive, size_t position, warc_row *rows, size_t rows_length, uint8_t *text,
+                 size_t text_length, warc_problem *problem);
 
 /* A part of the archive's bytes. */
 typedef struct {
@@ -284,6 +295,21 @@ typedef struct {
  * the head has no more fields; false with WARC_NO_RECORD, WARC_NO_MEMORY, or WARC_CHANGED where the bytes aren't
  * what they were. The head is parsed once for all its fields, as long as no other record's are asked for. */
 bool warc_field_at(warc_archive *archive, size_t position, size_t place, warc_field *field, warc_problem *problem);
+
+/* How many fields a head has, and how many bytes their lines have. */
+typedef struct {
+    uint32_t fields;
+    uint32_t length;
+} warc_lines;
+
+/* The fields of many heads in one call: those of the records from a position on, in order. Writes to `text` the name
+ * and the value of each field, each with a line feed after it, which none of them has, and to `lines` how many these
+ * are for each head: of as many records as there is room for. 98,304 bytes hold the lines of any head. Answers how many
+ * records these are: 0 at the end of the archive, where there is no room for the first one, and where the first one
+ * fails, as warc_field_at does. What is in the buffers after these is of no meaning. What a warc_field of this archive
+ * points to doesn't stay. */
+size_t warc_fields(warc_archive *archive, size_t position, warc_lines *lines, size_t lines_length, uint8_t *text,
+                   size_t text_length, warc_problem *problem);
 
 /* What the head of an HTTP response says, which begins the block of a record: the three digits of its status, its
  * minor version (1 for HTTP/1.1), its reason phrase, how many fields it has, and where the body is, in the block of
@@ -364,7 +390,9 @@ size_t warc_fixity(warc_archive *archive, uint8_t *text, size_t text_length, war
 
 /* Writes the archive that these bytes are in canonical form, as one of WARC/1.1, or with its records split into
  * segments of `size` bytes, as the program's commands do. Bytes that are refused are refused as by warc_open. A size
- * of 0 is WARC_BAD_ARGUMENT. The bytes must not be those of the file that is written to. */
+ * of 0 is WARC_BAD_ARGUMENT. The bytes must not be those of the file that is written to: where they are mapped from it,
+ * as far as /proc/self/maps says, each of these calls is WARC_BAD_ARGUMENT before it reads or writes a byte, also where
+ * the file was emptied when it was opened. Of bytes that were read into memory nobody can tell which file had them. */
 bool warc_rewrite(const uint8_t *bytes, size_t length, int file, uint64_t *sent, warc_problem *problem);
 bool warc_convert(const uint8_t *bytes, size_t length, int file, uint64_t *sent, warc_problem *problem);
 bool warc_split(const uint8_t *bytes, size_t length, uint64_t size, int file, uint64_t *sent, warc_problem *problem);

@@ -1,4 +1,5 @@
-//! Archives and records that are written.
+//! Archives and records that are written. An output doesn't say which file it leads to, so no call here can refuse the
+//! one that the bytes are mapped from: that is the caller's to avoid.
 use crate::error::Error;
 use crate::raw;
 use std::error;

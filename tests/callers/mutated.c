@@ -151,6 +151,55 @@ static void ask_record(warc_archive *archive, size_t position, const text *of) {
     ask_heads(archive, position, of);
 }
 
+/* Whether a line is a text and a line feed. Moves to the next line. */
+static bool is_line(const uint8_t **at, const uint8_t *bytes, size_t length) {
+    bool is = memcmp(*at, bytes, length) == 0 && (*at)[length] == '\n';
+    *at += length + 1;
+    return is;
+}
+
+/* The rows of many records are those of each, in room for some of them. */
+static void ask_rows(warc_archive *archive, size_t first) {
+    static uint8_t out[98304], texts[65536];
+    warc_row rows[8], row;
+    warc_problem problem;
+    uint8_t *exact = out + below(sizeof out);
+    size_t count = warc_rows(archive, first, rows, below(9), exact, (size_t)(out + sizeof out - exact), &problem);
+    if (problem.code || count > 8 || (count != 0 && first + count > warc_count(archive))) abort();
+    const uint8_t *line = exact;
+    for (size_t i = 0; i < count; i++) {
+        warc_row_at(archive, first + i, &row, texts, sizeof texts, &problem);
+        if (row.offset != rows[i].offset || row.block_length != rows[i].block_length) abort();
+        const uint32_t lengths[] = {row.type_length, row.date_length, row.id_length, row.target_length};
+        const uint8_t *at = texts;
+        for (size_t part = 0; part < 4; at += lengths[part++]) {
+            if (!is_line(&line, at, lengths[part])) abort();
+        }
+    }
+}
+
+/* The fields of many heads are those of each. */
+static void ask_fields(warc_archive *archive, size_t first) {
+    static uint8_t out[98304];
+    warc_lines lines[8];
+    warc_field field;
+    warc_problem problem;
+    uint8_t *exact = out + (below(4) ? 0 : below(sizeof out));
+    size_t count = warc_fields(archive, first, lines, below(9), exact, (size_t)(out + sizeof out - exact), &problem);
+    if (problem.code || count > 8 || (count != 0 && first + count > warc_count(archive))) abort();
+    const uint8_t *line = exact;
+    for (size_t i = 0; i < count; i++) {
+        const uint8_t *begin = line;
+        for (size_t place = 0; place < lines[i].fields; place++) {
+            if (!warc_field_at(archive, first + i, place, &field, &problem)) abort();
+            if (!is_line(&line, field.name, field.name_length)) abort();
+            if (!is_line(&line, field.value, field.value_length)) abort();
+        }
+        if (warc_field_at(archive, first + i, lines[i].fields, &field, &problem) || problem.code) abort();
+        if ((size_t)(line - begin) != lines[i].length) abort();
+    }
+}
+
 static void ask_all(warc_archive *archive, const text *of) {
     static uint8_t out[ROOM];
     warc_problem problem;
@@ -168,6 +217,8 @@ static void ask_all(warc_archive *archive, const text *of) {
     if (warc_field_at(archive, count, 0, &field, &problem) || problem.code != WARC_NO_RECORD) abort();
     if (warc_http_field_at(archive, count, 0, &field, &problem) || problem.code != WARC_NO_RECORD) abort();
     for (size_t position = 0; position < count && position < 50; position++) ask_record(archive, position, of);
+    ask_rows(archive, below(count + 2));
+    ask_fields(archive, below(count + 2));
 }
 
 /* Asks for the pieces of bytes, in room for some of them. They follow one another to the end, runs and damage in turn,
@@ -234,6 +285,10 @@ static void ask_wrongly(void) {
     if (warc_replay(archive, &byte, 1, NULL, 0, NULL, NULL, 0, &problem) || problem.code != WARC_BAD_DATE) abort();
     if (warc_body_at(archive, 0, NULL, NULL, 3, &problem) || problem.code != WARC_BAD_ARGUMENT) abort();
     if (warc_field_at(archive, 0, 0, NULL, &problem) || problem.code != WARC_BAD_ARGUMENT) abort();
+    if (warc_rows(archive, 0, NULL, 1, NULL, 0, &problem) || problem.code != WARC_BAD_ARGUMENT) abort();
+    if (warc_fields(archive, 0, NULL, 0, NULL, 1, &problem) || problem.code != WARC_BAD_ARGUMENT) abort();
+    if (warc_rows(archive, 0, NULL, 0, NULL, 0, &problem) || problem.code) abort();
+    if (warc_fields(archive, 7, NULL, 0, NULL, 0, &problem) || problem.code) abort();
     if (warc_grow(archive, &byte, 1, &problem) || problem.code != WARC_FAULT_VERSION) abort();
     warc_close(archive);
     for (uint32_t code = 0; code < 400; code++) {

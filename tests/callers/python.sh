@@ -9,4 +9,6 @@ python3 -c 'import doctest, sys, zogwedu; sys.exit(doctest.testmod(zogwedu).fail
 python3 tests/callers/test_python.py
 python3 tests/callers/test_compressed.py
 python3 tests/callers/test_verdicts.py
+python3 tests/callers/test_edges.py
+python3 tests/callers/test_heads.py
 echo "out/python has the package: PYTHONPATH=$PWD/out/python"

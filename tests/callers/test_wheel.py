@@ -2,20 +2,26 @@
 """The wheel of the Python package: it has the tag of this system, and is installed and imported in an environment of
 its own, without a network.
 
-It is made by this Python, or by Debian's where this one lacks what makes wheels. Needs pip, setuptools, wheel and venv.
+It is made by the command of docs/PYTHON.md, in which no index answers: by this Python, or by Debian's where this one
+lacks what makes wheels. Needs pip, setuptools, wheel and venv.
 """
 import glob
 import os
+import re
+import shlex
 import subprocess
 import sys
 import tempfile
 import unittest
 import zipfile
-from typing import Optional
+from typing import List, Optional
 
 TOP = os.path.dirname(os.path.dirname(os.path.dirname(os.path.abspath(__file__))))
 NAME = "zogwedu-*-py3-none-linux_x86_64.whl"
 NEEDED = "import setuptools, wheel.bdist_wheel, pip, ensurepip, venv"  # in this order: pip loads Python's own distutils
+COMMAND = re.compile(r"^/usr/bin/python3 (-m pip wheel .*) out/python$", re.MULTILINE)
+# Nothing listens there, so what asks an index fails.
+NO_INDEX = {"PIP_INDEX_URL": "http://127.0.0.1:9/", "PIP_RETRIES": "0", "PIP_DISABLE_PIP_VERSION_CHECK": "1"}
 OPEN = """
 import sys, zogwedu
 with zogwedu.Archive.open(sys.argv[1]) as archive:
@@ -34,6 +40,13 @@ def maker() -> Optional[str]:
     return None
 
 
+def words_of_page() -> List[str]:
+    """The words by which docs/PYTHON.md makes a wheel, but for the Python and the folder."""
+    with open(f"{TOP}/docs/PYTHON.md", encoding="utf-8") as page:
+        (words,) = COMMAND.findall(page.read())
+    return shlex.split(words)
+
+
 @unittest.skipUnless(maker(), "no Python here has pip, setuptools, wheel and venv")
 class Wheel(unittest.TestCase):
     folder: "tempfile.TemporaryDirectory[str]"
@@ -48,8 +61,8 @@ class Wheel(unittest.TestCase):
         cls.wheels, cls.python = f"{top}/wheels", f"{top}/venv/bin/python"
         subprocess.run(["cp", "-r", f"{TOP}/out/python", f"{top}/package"], check=True)
         offline = ("--quiet", "--no-index", "--no-deps", "--disable-pip-version-check")
-        words = ["-m", "pip", "wheel", *offline, "--no-build-isolation", "-w", cls.wheels, f"{top}/package"]
-        subprocess.run([str(maker()), *words], check=True)
+        words = [str(maker()), *words_of_page(), "--quiet", "-w", cls.wheels, f"{top}/package"]
+        subprocess.run(words, env={**os.environ, **NO_INDEX}, check=True)
         subprocess.run([str(maker()), "-m", "venv", f"{top}/venv"], check=True)
         subprocess.run([cls.python, "-m", "pip", "install", *offline, *glob.glob(f"{cls.wheels}/*")], check=True)
 

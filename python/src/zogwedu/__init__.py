@@ -40,6 +40,7 @@ records, and says by `Salvaged` what was left out. The exceptions are all a `War
 - `Changed`: bytes aren't what they were when the archive was opened.
 - `NoBody`: there is no body, P1 to P10. `Undecodable`: it can't be decoded.
 - `NoRecord`: there is no record at the position; it is an `IndexError`.
+- `BadDate`: a text is no date; it is a `ValueError`.
 - `NotMade`: no record can be made of these, M1 to M5. `WriteFailed`: a write failed, after `sent` bytes.
 - `Closed`: the archive is closed. `ViewsAlive`: it can't be closed while views are in use.
 
@@ -50,6 +51,7 @@ from ._archive import Archive, Body, Finding, Fixity, PayloadVerdict, Record, Un
 from ._heads import Headers, Http
 from ._pieces import Piece, Salvaged, pieces, salvage
 from ._problems import (
+    BadDate,
     Changed,
     Closed,
     CompressedError,
@@ -66,6 +68,7 @@ from ._writing import make
 
 __all__ = [
     "Archive",
+    "BadDate",
     "Body",
     "Changed",
     "Closed",

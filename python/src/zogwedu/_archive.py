@@ -2,17 +2,15 @@
 import os
 import threading
 from collections.abc import Sequence
-from datetime import datetime
-from operator import index
 from typing import Any, Callable, Iterable, Iterator, List, Literal, NamedTuple, NoReturn, Optional, Tuple
 from typing import TYPE_CHECKING, Union, overload
 
 from ._decoding import CONTENT, DECODED_LIMIT, TRANSFER, codings_of, decode
-from ._files import Contents, read_object, read_path, unmap
-from ._heads import Headers, Http, text_of
-from ._library import CODED, TRUNCATED, Lent, Opened, Spans, lib
-from ._problems import Closed, CompressedError, NoBody, NoRecord, Refused, Undecodable, ViewsAlive
-from ._writing import Output, Text, bytes_of, date_of, write_to
+from ._files import Contents, Upon, path_of, read_object, read_path, refuse_same, unmap
+from ._heads import Headers, Http
+from ._library import CODED, MANY, TRUNCATED, Known, Lent, Opened, Spans, lib, text_of
+from ._problems import Closed, CompressedError, NoBody, Refused, Undecodable, ViewsAlive
+from ._writing import Date, Output, Text, buffer_of, bytes_of, date_of, integer_of, write_to
 
 if TYPE_CHECKING:
     Records = Sequence["Record"]
@@ -149,18 +147,18 @@ class Record:
         "_verdict",
     )
 
-    def __init__(self, archive: "Archive", position: int, row: Any, texts: List[bytes]) -> None:
-        kind, date, identity, target = (text_of(text) for text in texts)
+    def __init__(self, archive: "Archive", position: int, known: Known) -> None:
+        offset, block, length, is_truncated, kind, date, identity, target = known
         self._archive = archive
-        self._block: int = row.block_offset
+        self._block = block
         self.position = position
-        self.offset: int = row.offset
-        self.length: int = row.block_length
-        self.type: str = kind
-        self.date: str = date
-        self.id: str = identity
+        self.offset = offset
+        self.length = length
+        self.type = kind
+        self.date = date
+        self.id = identity
         self.target: Optional[str] = target or None
-        self.truncated: bool = bool(row.is_truncated)
+        self.truncated = bool(is_truncated)
         self._verdict: Optional[str] = None
 
     @property
@@ -186,7 +184,10 @@ class Record:
 
     @property
     def headers(self) -> Headers:
-        """The fields of its head. They are parsed each time that this is read."""
+        """The fields of its head. They are made each time that this is read.
+
+        In a loop over records the heads of the next 63 are read together with one.
+        """
         return Headers(self._archive._use().fields(self.position))
 
     @property
@@ -241,7 +242,7 @@ class Archive(Records):
         self._contents = _contents._replace(data=None)
         self._growing = threading.Lock()
         self._opened: Optional[Opened] = None
-        lent = Lent(data)
+        lent = Lent(buffer_of(data, "Archive(data) takes bytes, and Archive.open(path) a file"))
         try:
             self._opened = Opened(lent, front)
         except BaseException:
@@ -264,11 +265,13 @@ class Archive(Records):
         A path is mapped into memory. A read of a mapped file that fails kills the process by SIGBUS: where the file
         became shorter, and where its disk or network fails. `mmap=False` reads the file into memory instead, all of it.
         """
+        upon = Upon.END if front else Upon.RAISE
+        upon = Upon.END if front else Upon.RAISE
         if hasattr(file, "read"):
-            contents = read_object(file, mmap, front)
+            contents = read_object(file, mmap, upon)
             return cls(contents.data, front=front, _contents=contents)
-        path = os.fspath(file)
-        contents = read_path(path, mmap, front)
+        path = path_of(file, "Archive(data)")
+        contents = read_path(path, mmap, upon)
         return cls(contents.data, front=front, _path=path, _mapped=mmap, _contents=contents)
 
     @property
@@ -320,6 +323,7 @@ class Archive(Records):
             opened.close(lambda data: unmap(data) or True)
 
     def __enter__(self) -> "Archive":
+        self._use().require_open()
         return self
 
     def __exit__(self, *_exception: object) -> None:
@@ -335,8 +339,11 @@ class Archive(Records):
         return self._use().count()
 
     def _record(self, position: int) -> Record:
-        row, texts = self._use().row(position)
-        return Record(self, position, row, texts)
+        opened = self._use()
+        for known in opened.rows(position, 1):
+            return Record(self, position, known)
+        opened.require(position)
+        raise AssertionError("a record has no row")
 
     @overload
     def __getitem__(self, position: int) -> Record:
@@ -350,16 +357,22 @@ class Archive(Records):
         count = len(self)
         if isinstance(position, slice):
             return [self._record(number) for number in range(*position.indices(count))]
-        number = position + count if position < 0 else position
-        if not 0 <= number < count:
-            raise NoRecord("E1 NoRecord", 201)
+        wanted = integer_of(position, "a position")
+        number = wanted + count if -count <= wanted < 0 else wanted
+        self._use().require(number)
         return self._record(number)
 
     def __iter__(self) -> Iterator[Record]:
-        position = 0
-        while position < len(self):
-            yield self._record(position)
-            position += 1
+        position, opened = 0, self._use()
+        while True:
+            rows = opened.rows(position, MANY)
+            if not rows:
+                return
+            for known in rows:
+                if not opened.is_open:
+                    opened.require_open()
+                yield Record(self, position, known)
+                position += 1
 
     def __contains__(self, record: object) -> bool:
         return isinstance(record, Record) and record._archive is self and record.position < len(self)
@@ -367,23 +380,24 @@ class Archive(Records):
     def replay(
         self,
         uri: Text,
-        date: Union[Text, datetime],
+        date: Date,
         *,
         decoded: Decoding = False,
         decoded_limit: int = DECODED_LIMIT,
     ) -> Body:
         """The body that was captured of a URI, as of a date: the latest capture that isn't later has it.
 
-        A date is a text such as "2021", "2021-06-30" or "2021-06-30T12:00:00Z", or a datetime, which is read as UTC if
-        it has no time zone. Raises NoBody with the reason P1 to P10 if there is none; it never gives an older capture
-        in its place. For `decoded` see `Record.body`.
+        A date is a text such as "2021", "2021-06-30" or "2021-06-30T12:00:00Z"; a `datetime.date`, which is the first
+        instant of that day; or a datetime, which is read as UTC if it has no time zone. Raises BadDate if the text is
+        no date, and NoBody with the reason P1 to P10 if there is no body; it never gives an older capture in its place.
+        For `decoded` see `Record.body`.
         """
-        opened, words = self._use(), (bytes_of(uri), date_of(date))
+        opened, words = self._use(), (bytes_of(uri, "a URI"), date_of(date))
         return self._body(lambda: opened.replay(*words), decoded, decoded_limit)
 
     def captures(self, uri: Text) -> List[Record]:
         """The captures of a URI: responses, resources and revisits, by date, then by position."""
-        return [self[position] for position in self._use().captures(bytes_of(uri))]
+        return [self[position] for position in self._use().captures(bytes_of(uri, "a URI"))]
 
     def stated_verdict(self, position: int) -> str:
         """How the block of a record compares with the digest that its head states: "good", "bad" or "unchecked".
@@ -393,7 +407,7 @@ class Archive(Records):
         The block is hashed each time. Raises NoRecord if the position isn't that of a record, as one below 0, and
         Changed.
         """
-        return VERDICTS[self._use().stated_verdict(index(position))]
+        return VERDICTS[self._use().stated_verdict(integer_of(position, "a position"))]
 
     def payload_verdict(self, position: int) -> Optional[PayloadVerdict]:
         """How the payload of a record compares with the digest that its head states; None if it states none.
@@ -403,7 +417,7 @@ class Archive(Records):
         of a revisit it is what its replay gives. The verdict is what `warc fixity --payload` prints. The payload is
         hashed each time. Raises NoRecord if the position isn't that of a record, as one below 0, and Changed.
         """
-        number = self._use().payload_verdict(index(position))
+        number = self._use().payload_verdict(integer_of(position, "a position"))
         if number == NO_DIGEST:
             return None
         if number < NO_DIGEST:
@@ -438,7 +452,7 @@ class Archive(Records):
         with self._growing:
             opened = self._use()
             before = opened.count()
-            contents = read_path(self._path, self._wants_mapping, front=False)
+            contents = read_path(self._path, self._wants_mapping, Upon.RAISE)
             lent = Lent(contents.data)
             try:
                 old = opened.grow(lent)
@@ -452,12 +466,13 @@ class Archive(Records):
             return opened.count() - before
 
     def _body(self, ask: Callable[[], Any], decoded: Decoding, limit: int) -> Body:
+        names = _fields_of(decoded)
         try:
             answer, spans = ask()
         except NoBody as reason:
-            if not decoded or reason.code != CODED:
+            if not names or reason.code != CODED:
                 raise
-            return self._decoded(reason, (TRANSFER,) if decoded == "transfer" else (TRANSFER, CONTENT), limit)
+            return self._decoded(reason, names, limit)
         return Body(self, answer.chosen, answer.given, answer.status or None, bool(answer.is_truncated), spans)
 
     def _decoded(self, reason: NoBody, names: Tuple[str, ...], limit: int) -> Body:
@@ -482,8 +497,9 @@ class Archive(Records):
         """Writes the archive in canonical form to a binary file.
 
         A plain file is flushed and then written by its descriptor; any other object gets the bytes in pieces. Raises
-        WriteFailed, whose `sent` is how many bytes went out, if a write fails. Nothing is synced. The file must not be
-        the one that is read.
+        WriteFailed, whose `sent` is how many bytes went out, if a write fails. Nothing is synced. Raises ValueError,
+        and writes nothing, if the file is the one that the archive was opened from; one that is opened by mode "wb"
+        has been emptied before.
         """
         self._write(lib.warc_rewrite, out)
 
@@ -493,9 +509,10 @@ class Archive(Records):
 
     def split(self, out: Output, size: int) -> None:
         """Writes the archive with its records split into segments of `size` bytes, in the same way."""
-        if not 0 < size < 1 << 64:
-            raise ValueError("a segment has at least one byte")
-        self._write(lib.warc_split, out, size)
+        number = integer_of(size, "a size")
+        if not 0 < number < 1 << 64:
+            raise ValueError(f"a segment has from 1 to 2^64 - 1 bytes, not {number}")
+        self._write(lib.warc_split, out, number)
 
     def select(self, out: Output, positions: Iterable[int], *, except_: bool = False, closed: bool = False) -> None:
         """Writes the records at positions, or with `except_` all others, byte for byte, in the same way.
@@ -514,19 +531,31 @@ class Archive(Records):
         URI, nor warcinfo and request records.
         """
         opened = self._use()
-        chosen = [index(position) for position in positions]
-        if any(not 0 <= position < 1 << 64 for position in chosen):
-            raise NoRecord("E1 NoRecord", 201)
+        chosen = [integer_of(position, "a position") for position in positions]
+        for position in chosen:
+            opened.require(position)
+        refuse_same(self._contents.source, out)
         write_to(out, lambda file: opened.select(file, chosen, except_, closed))
 
     def _write(self, call: Any, out: Output, *size: int) -> None:
         opened = self._use()
+        refuse_same(self._contents.source, out)
         write_to(out, lambda file: opened.write(call, file, *size))
 
     def __repr__(self) -> str:
         if self._opened is None or not self._opened.is_open:
             return "<zogwedu.Archive, closed>"
         return f"<zogwedu.Archive {self._path or 'of bytes'}, {len(self)} records>"
+
+
+def _fields_of(decoded: Decoding) -> Tuple[str, ...]:
+    """The fields whose codings are undone. What isn't True, False or "transfer" is refused."""
+    if isinstance(decoded, bool):
+        return (TRANSFER, CONTENT) if decoded else ()
+    if decoded == "transfer":
+        return (TRANSFER,)
+    kind = ValueError if isinstance(decoded, str) else TypeError
+    raise kind(f"decoded is True, False or 'transfer', not {decoded!r}")
 
 
 def _finding(line: str) -> Finding:

@@ -1,8 +1,8 @@
 """The fields of heads, as the library reads them."""
 from collections.abc import Mapping
-from typing import Dict, Iterator, List, Tuple, TYPE_CHECKING
+from typing import Any, Dict, Iterator, List, NamedTuple, Optional, Tuple, TYPE_CHECKING
 
-from ._library import Field, HttpHead
+from ._library import Fields, HttpHead, text_of
 
 if TYPE_CHECKING:
     from ._archive import Archive
@@ -12,11 +12,19 @@ else:
     Texts = Mapping
 
 LOWER = {upper: upper + 32 for upper in range(ord("A"), ord("Z") + 1)}
+# Most heads of an archive have the names of one before: their places are kept for as many lists of names, of so many
+# characters each.
+MOST_LISTS, MOST_NAMES = 256, 1024
 
 
-def text_of(value: bytes) -> str:
-    """Bytes as a text: UTF-8, with `surrogateescape` for other bytes."""
-    return value.decode("utf-8", "surrogateescape")
+class Places(NamedTuple):
+    """The places of names, in lower case and as they are written first."""
+
+    lower: Dict[str, List[int]]
+    written: Dict[str, List[int]]
+
+
+_known: Dict[Tuple[str, ...], Places] = {}
 
 
 class Headers(Texts):
@@ -27,32 +35,48 @@ class Headers(Texts):
     as it is written first. A folded value is one line.
     """
 
-    __slots__ = ("fields", "_places")
+    __slots__ = ("_parts", "_places")
 
-    def __init__(self, fields: List[Field]) -> None:
-        self.fields: Tuple[Tuple[str, str], ...] = tuple((text_of(name), text_of(value)) for name, value in fields)
-        self._places: Dict[str, List[int]] = {}
-        for place, (name, _) in enumerate(self.fields):
-            self._places.setdefault(name.translate(LOWER), []).append(place)
+    def __init__(self, parts: Fields) -> None:
+        self._parts = parts
+        names = tuple(parts[::2])
+        places = _known.get(names)
+        self._places = _places_of(names) if places is None else places
+
+    def _found(self, name: object) -> Optional[List[int]]:
+        """The places of the fields of a name."""
+        if not isinstance(name, str):
+            return None
+        return self._places.written.get(name) or self._places.lower.get(name.translate(LOWER))
+
+    @property
+    def fields(self) -> Tuple[Tuple[str, str], ...]:
+        """Each name and its value, in the order of the head."""
+        return tuple(zip(self._parts[::2], self._parts[1::2]))
 
     def get_all(self, name: str) -> List[str]:
         """The values of all fields of this name, in their order."""
-        return [self.fields[place][1] for place in self._places.get(name.translate(LOWER), [])]
+        return [self._parts[2 * place + 1] for place in self._found(name) or ()]
+
+    def get(self, name: str, default: Any = None) -> Any:
+        """The value of the first field of this name, or another value if there is none."""
+        places = self._found(name)
+        return default if places is None else self._parts[2 * places[0] + 1]
 
     def __getitem__(self, name: str) -> str:
-        places = self._places.get(name.translate(LOWER)) if isinstance(name, str) else None
+        places = self._found(name)
         if places is None:
             raise KeyError(name)
-        return self.fields[places[0]][1]
+        return self._parts[2 * places[0] + 1]
 
     def __contains__(self, name: object) -> bool:
-        return isinstance(name, str) and name.translate(LOWER) in self._places
+        return self._found(name) is not None
 
     def __iter__(self) -> Iterator[str]:
-        return (self.fields[places[0]][0] for places in self._places.values())
+        return (self._parts[2 * places[0]] for places in self._places.lower.values())
 
     def __len__(self) -> int:
-        return len(self._places)
+        return len(self._places.lower)
 
     def __eq__(self, other: object) -> bool:
         if not isinstance(other, Headers):
@@ -64,6 +88,18 @@ class Headers(Texts):
 
     def __repr__(self) -> str:
         return f"<zogwedu.Headers {list(self.fields)}>"
+
+
+def _places_of(names: Tuple[str, ...]) -> Places:
+    """The places of names, which are kept if they are few and short."""
+    places = Places({}, {})
+    for place, name in enumerate(names):
+        places.lower.setdefault(name.translate(LOWER), []).append(place)
+    for name in names:
+        places.written[name] = places.lower[name.translate(LOWER)]
+    if len(_known) < MOST_LISTS and sum(map(len, names)) <= MOST_NAMES:
+        _known[names] = places
+    return places
 
 
 class Http:

@@ -2,22 +2,36 @@
 import ctypes as c
 import os
 import threading
-from typing import Any, Callable, Iterator, List, NamedTuple, Optional, Tuple
+from itertools import accumulate
+from struct import Struct
+from typing import Any, Callable, Dict, Iterable, Iterator, List, NamedTuple, Optional, Tuple, Type
 
-from ._problems import Changed, Closed, NoBody, NoRecord, NotMade, Refused, WarcError, WriteFailed
+from ._problems import BadDate, Changed, Closed, NoBody, NoRecord, NotMade, Refused, WarcError, WriteFailed
 
 ABI_VERSION = 3
 FIRST_REASON, LAST_REASON = 101, 110
 SEGMENT = 107
 BAD_HEAD, CODED = 109, 110
-NO_RECORD, NOT_A_CAPTURE, CHANGED, NO_MEMORY = 201, 202, 203, 204
+NO_RECORD, NOT_A_CAPTURE, CHANGED, NO_MEMORY, BAD_DATE = 201, 202, 203, 204, 205
 WRITE_FAILED = 208
 FIRST_UNMADE, LAST_UNMADE = 301, 305
 TRUNCATED, LAST_FAULT = 11, 14
 
 U32, U64, SIZE, POINTER, INT = c.c_uint32, c.c_uint64, c.c_size_t, c.c_void_p, c.c_int
 
+# A row as the C struct warc_row has it.
+ROW = Struct("@QQQ5I4x")
+# How many records one call is asked for that are read one after another.
+MANY = 64
+# The lines of any head have fewer bytes.
+MOST_LINES = 98304
+
 Field = Tuple[bytes, bytes]
+# The fields of a head: a name, its value, the next name, and so on.
+Fields = List[str]
+# What is kept of a record: the offsets of its head and of its block, the block's length, 1 if it is truncated, and its
+# type, date, id and target.
+Known = Tuple[int, int, int, int, str, str, str, str]
 Spans = List[Tuple[int, int]]
 
 
@@ -27,19 +41,6 @@ class Problem(c.Structure):
 
 class CPiece(c.Structure):
     _fields_ = [("offset", U64), ("length", U64), ("count", U64), ("fault", Problem)]
-
-
-class Row(c.Structure):
-    _fields_ = [
-        ("offset", U64),
-        ("block_offset", U64),
-        ("block_length", U64),
-        ("type_length", U32),
-        ("date_length", U32),
-        ("id_length", U32),
-        ("target_length", U32),
-        ("is_truncated", U32),
-    ]
 
 
 class Span(c.Structure):
@@ -85,7 +86,7 @@ class HttpHead(NamedTuple):
     status: int
     minor: int
     reason: bytes
-    fields: List[Field]
+    fields: Fields
     body: Tuple[int, int]
 
 
@@ -107,11 +108,11 @@ def _calls() -> Any:
         "close": (None, [POINTER]),
         "count": (SIZE, [POINTER]),
         "length": (SIZE, [POINTER]),
-        "row_at": (SIZE, [POINTER, SIZE, c.POINTER(Row), POINTER, SIZE, problem]),
+        "rows": (SIZE, [POINTER, SIZE, POINTER, SIZE, POINTER, SIZE, problem]),
+        "fields": (SIZE, [POINTER, SIZE, POINTER, SIZE, POINTER, SIZE, problem]),
         "verdict_at": (U32, [POINTER, SIZE, problem]),
         "stated_verdict_at": (U32, [POINTER, SIZE, problem]),
         "payload_verdict_at": (U32, [POINTER, SIZE, problem]),
-        "field_at": (c.c_bool, [POINTER, SIZE, SIZE, c.POINTER(CField), problem]),
         "http_at": (c.c_bool, [POINTER, SIZE, c.POINTER(CHttp), problem]),
         "http_field_at": (c.c_bool, [POINTER, SIZE, SIZE, c.POINTER(CField), problem]),
         "captures": (SIZE, [POINTER, c.c_char_p, SIZE, c.POINTER(U64), SIZE, problem]),
@@ -181,11 +182,13 @@ def error_of(problem: Problem, answer: Optional[Answer] = None, sent: int = 0) -
         return NotMade(text, code)
     if code == WRITE_FAILED or sent:
         return WriteFailed(text, code, sent)
-    return {NO_RECORD: NoRecord, CHANGED: Changed}.get(code, WarcError)(text, code)
+    kinds: Dict[int, Type[WarcError]] = {NO_RECORD: NoRecord, CHANGED: Changed, BAD_DATE: BadDate}
+    return kinds.get(code, WarcError)(text, code)
 
 
-def fault_of(problem: Problem) -> Optional[Refused]:
-    """The exception for a fault, if there is one."""
+def fault_of(problem: Problem, begin: int = 0) -> Optional[Refused]:
+    """The exception for a fault, if there is one, in bytes that begin at an offset."""
+    problem.number += begin
     return Refused(problem_text(problem), problem.code, problem.number) if problem.code else None
 
 
@@ -213,6 +216,18 @@ class Lent:
         self._take()
 
 
+def text_of(value: bytes) -> str:
+    """Bytes as a text: UTF-8, with `surrogateescape` for other bytes."""
+    return value.decode("utf-8", "surrogateescape")
+
+
+def lines_of(held: bytes) -> List[str]:
+    """The lines of bytes, each of which ends with a line feed."""
+    if held.isascii():
+        return held.decode("ascii").split("\n")[:-1]
+    return [text_of(line) for line in held.split(b"\n")[:-1]]
+
+
 def _field_bytes(field: CField) -> Field:
     return c.string_at(field.name, field.name_length), c.string_at(field.value, field.value_length)
 
@@ -224,7 +239,15 @@ class Opened:
         self.lent = lent
         self.lock = threading.RLock()
         self.fault: Optional[Refused] = None
-        self._texts = c.create_string_buffer(65536)
+        self._lines = c.create_string_buffer(MOST_LINES)
+        self._rows = c.create_string_buffer(ROW.size * MANY)
+        self._sizes = (U32 * (2 * MANY))()
+        self._sizes_seen = memoryview(self._sizes).cast("B").cast("I")
+        # The fields that the last call gave, those of the records from this position on, and the index of each head's
+        # first name.
+        self._first = 0
+        self._fields: Fields = []
+        self._begins: List[int] = [0]
         self._at: Optional[int] = None
         at, fault, problem = POINTER(), Problem(), Problem()
         bytes_of = (c.byref(at), lent.address, lent.length)
@@ -242,6 +265,11 @@ class Opened:
         if self._at is None:
             raise Closed("the archive is closed")
         return self._at
+
+    def require_open(self) -> None:
+        """Raises Closed if it is closed."""
+        with self.lock:
+            self._open()
 
     @property
     def is_open(self) -> bool:
@@ -261,6 +289,7 @@ class Opened:
                 self.lent.take_again()
                 return False
             lib.warc_close(self._at)
+            self._fields, self._begins = [], [0]
             self._at = self.lent.owner = None
             return True
 
@@ -271,6 +300,7 @@ class Opened:
             if not lib.warc_grow(self._open(), lent.address, lent.length, c.byref(problem)):
                 raise error_of(problem)
             old, self.lent, self.fault = self.lent, lent, None
+            self._fields, self._begins = [], [0]
             return old
 
     def slice(self, offset: int, length: int) -> memoryview:
@@ -284,33 +314,39 @@ class Opened:
         with self.lock:
             return int(lib.warc_count(self._open()))
 
+    def require(self, position: int) -> None:
+        """Raises NoRecord if no record has a position."""
+        count = self.count()
+        if not 0 <= position < count:
+            raise NoRecord(problem_text(Problem(NO_RECORD)), NO_RECORD, position, count)
+
     def length(self) -> int:
         """How many bytes they have."""
         with self.lock:
             return int(lib.warc_length(self._open()))
 
-    def row(self, position: int) -> Tuple[Row, List[bytes]]:
-        """What is kept of a record, and its type, date, id and target."""
-        problem, row = Problem(), Row()
+    def rows(self, position: int, most: int) -> List[Known]:
+        """What is kept of the records from a position on: of at least one, unless there are no more."""
+        problem = Problem()
         with self.lock:
-            at, room = self._open(), len(self._texts)
-            length = lib.warc_row_at(at, position, c.byref(row), self._texts, room, c.byref(problem))
-            text = c.string_at(self._texts, length)
+            at, room = self._open(), min(most, MANY)
+            count = lib.warc_rows(at, position, self._rows, room, self._lines, MOST_LINES, c.byref(problem))
+            rows = list(ROW.iter_unpack(self._rows.raw[: ROW.size * count]))
+            size = sum([row[3] + row[4] + row[5] + row[6] + 4 for row in rows])
+            lines = iter(lines_of(c.string_at(self._lines, size)))
         if problem.code:
             raise error_of(problem)
-        texts, begin = [], 0
-        for size in (row.type_length, row.date_length, row.id_length, row.target_length):
-            texts.append(text[begin : begin + size])
-            begin += size
-        return row, texts
+        return [
+            (row[0], row[1], row[2], row[7], kind, date, identity, target)
+            for row, kind, date, identity, target in zip(rows, lines, lines, lines, lines)
+        ]
 
     def _verdict(self, call: Any, position: int) -> int:
-        """The verdict that a call gives on a record. No record has a position that a size_t doesn't hold."""
+        """The verdict that a call gives on a record."""
         problem = Problem()
         with self.lock:
             archive = self._open()
-            if not 0 <= position < 1 << 64:
-                raise NoRecord("E1 NoRecord", NO_RECORD)
+            self.require(position)
             verdict = int(call(archive, position, c.byref(problem)))
         if problem.code:
             raise error_of(problem)
@@ -328,19 +364,38 @@ class Opened:
         """How the payload of a record compares with its digest: 0 good, 1 bad, 2 none is stated, then reasons."""
         return self._verdict(lib.warc_payload_verdict_at, position)
 
-    def _fields(self, call: Any, position: int) -> Iterator[Field]:
-        """The fields that a call gives. The caller holds the lock."""
+    def _http_fields(self, position: int) -> Iterator[Field]:
+        """The fields of the HTTP head of a record. The caller holds the lock."""
         field, problem, place = CField(), Problem(), 0
-        while call(self._open(), position, place, c.byref(field), c.byref(problem)):
+        while lib.warc_http_field_at(self._open(), position, place, c.byref(field), c.byref(problem)):
             yield _field_bytes(field)
             place += 1
         if problem.code:
             raise error_of(problem)
 
-    def fields(self, position: int) -> List[Field]:
-        """The fields of a record's head."""
+    def fields(self, position: int) -> Fields:
+        """The fields of a record's head. Those of the next records are read with them where that was so before."""
         with self.lock:
-            return list(self._fields(lib.warc_field_at, position))
+            self._open()
+            at = position - self._first
+            if not 0 <= at < len(self._begins) - 1:
+                is_next = 0 <= at < len(self._begins) - 1 + MANY
+                self._read_heads(position, MANY if is_next else 1)
+                at = 0
+            return self._fields[self._begins[at] : self._begins[at + 1]]
+
+    def _read_heads(self, position: int, most: int) -> None:
+        """Reads the fields of the records from a position on, of at least one. The caller holds the lock."""
+        problem = Problem()
+        room = (self._sizes, most, self._lines, MOST_LINES)
+        count = lib.warc_fields(self._open(), position, *room, c.byref(problem))
+        if problem.code:
+            raise error_of(problem)
+        self.require(position)
+        sizes = self._sizes_seen[: 2 * count].tolist()
+        begins = list(accumulate([2 * number for number in sizes[::2]], initial=0))
+        self._fields = lines_of(c.string_at(self._lines, sum(sizes[1::2])))
+        self._first, self._begins = position, begins
 
     def http(self, position: int) -> Optional[HttpHead]:
         """What the HTTP head of a record's block says, if it has one."""
@@ -352,7 +407,7 @@ class Opened:
             if not is_there:
                 raise error_of(problem)
             reason = c.string_at(http.reason, http.reason_length)
-            fields = list(self._fields(lib.warc_http_field_at, position))
+            fields = [text_of(part) for pair in self._http_fields(position) for part in pair]
         return HttpHead(http.status, http.minor, reason, fields, (http.body.offset, http.body.length))
 
     def _located(self, ask: Any) -> Tuple[Answer, Spans]:
@@ -370,7 +425,10 @@ class Opened:
 
     def replay(self, uri: bytes, date: bytes) -> Tuple[Answer, Spans]:
         """The body for a URI as of a date."""
-        return self._located(lambda at, *rest: lib.warc_replay(at, uri, len(uri), date, len(date), *rest))
+        try:
+            return self._located(lambda at, *rest: lib.warc_replay(at, uri, len(uri), date, len(date), *rest))
+        except BadDate as error:
+            raise BadDate(error.text, error.code, date) from None
 
     def body_at(self, position: int) -> Tuple[Answer, Spans]:
         """The body that the capture at a position gives."""

@@ -1,6 +1,8 @@
 """What goes wrong, as exceptions."""
 from typing import Optional
 
+DATE_FORMS = "YYYY, YYYY-MM, YYYY-MM-DD, YYYY-MM-DDThh:mmZ or YYYY-MM-DDThh:mm:ssZ"
+
 
 class WarcError(Exception):
     """What the library reports. `text` is what the program `warc` prints for it.
@@ -28,12 +30,14 @@ class Refused(WarcError):
 class CompressedError(WarcError):
     """The file is compressed, and damaged or torn at `offset`: that of a member, in the compressed file.
 
-    Its cause is what zlib or the module for zstd says, or an EOFError where the file ends too early. It is raised for
-    zstd, too, where Python has no module for it; the cause is then an ImportError.
+    `length` is the number of damaged bytes, in a piece of a file; it is None where nothing was read after `offset`. Its
+    cause is what zlib or the module for zstd says, or an EOFError where the file ends too early. It is raised for zstd,
+    too, where Python has no module for it; the cause is then an ImportError.
     """
 
-    def __init__(self, text: str, offset: int) -> None:
+    def __init__(self, text: str, offset: int, length: Optional[int] = None) -> None:
         super().__init__(text, offset=offset)
+        self.length = length
 
 
 class Changed(WarcError):
@@ -64,7 +68,22 @@ class Undecodable(WarcError, ValueError):
 
 
 class NoRecord(WarcError, IndexError):
-    """There is no record at the position: E1 NoRecord."""
+    """There is no record at the position: E1 NoRecord. The message says the position, where it is known."""
+
+    def __init__(self, text: str, code: int = 0, position: Optional[int] = None, count: int = 0) -> None:
+        super().__init__(text, code)
+        if position is not None:
+            self.args = (f"{text}: no record has the position {position}, of {count}",)
+
+
+class BadDate(WarcError, ValueError):
+    """A text is no date. The message has the text, and the forms of a date."""
+
+    def __init__(self, text: str, code: int = 0, date: Optional[bytes] = None) -> None:
+        super().__init__(text, code)
+        if date is not None:
+            named = repr(date.decode("utf-8", "surrogateescape"))
+            self.args = (f"{text} {named}: a date is {DATE_FORMS}",)
 
 
 class Closed(WarcError, ValueError):

@@ -4,7 +4,8 @@ import os
 import signal
 import tempfile
 import uuid as uuids
-from datetime import datetime, timezone
+from datetime import date as Day, datetime, timezone
+from operator import index
 from typing import Any, Callable, Iterable, Optional, Union
 
 from . import _library as library
@@ -12,21 +13,45 @@ from ._problems import WriteFailed
 
 Bytes = Union[bytes, memoryview]
 Text = Union[str, bytes]
+Date = Union[Text, datetime, Day]
 Output = Any  # a binary file object, or the number of a file descriptor
 PIECE = 1 << 20
 
 
-def bytes_of(text: Text) -> bytes:
-    """A text as bytes: UTF-8, with the bytes that `surrogateescape` stands for."""
-    return text.encode("utf-8", "surrogateescape") if isinstance(text, str) else bytes(memoryview(text))
+def bytes_of(text: Text, what: str) -> bytes:
+    """A text as bytes: UTF-8, with the bytes that `surrogateescape` stands for. TypeError says what isn't one."""
+    if isinstance(text, str):
+        return text.encode("utf-8", "surrogateescape")
+    if not isinstance(text, (bytes, bytearray, memoryview)):
+        raise TypeError(f"{what} is a text or bytes, not {text!r}")
+    return bytes(text)
 
 
-def date_of(date: Union[Text, datetime]) -> bytes:
-    """A date as bytes. A datetime without a time zone is read as UTC."""
-    if not isinstance(date, datetime):
-        return bytes_of(date)
-    moment = date.astimezone(timezone.utc) if date.tzinfo else date
-    return moment.strftime(f"{moment.year:04}-%m-%dT%H:%M:%S.%fZ").encode("ascii")
+def date_of(date: Date) -> bytes:
+    """A date as bytes. A datetime without a time zone is read as UTC, and a day as its first instant."""
+    if isinstance(date, datetime):
+        moment = date.astimezone(timezone.utc) if date.tzinfo else date
+        return moment.strftime(f"{moment.year:04}-%m-%dT%H:%M:%S.%fZ").encode("ascii")
+    if isinstance(date, Day):
+        return date.isoformat().encode("ascii")
+    return bytes_of(date, "a date is a datetime, a day, or")
+
+
+def integer_of(number: Any, what: str) -> int:
+    """A number as Python's sequences take it. TypeError says what isn't one."""
+    try:
+        return index(number)
+    except TypeError:
+        raise TypeError(f"{what} is an integer, not {number!r}") from None
+
+
+def buffer_of(data: Any, what: str) -> Any:
+    """An object whose bytes can be lent. TypeError says what isn't one."""
+    try:
+        memoryview(data).release()
+    except TypeError:
+        raise TypeError(f"{what}, not {data!r}") from None
+    return data
 
 
 def _descriptor(out: Output) -> Optional[int]:
@@ -121,21 +146,29 @@ def make(
     out: Output,
     kind: str,
     uri: Text,
-    date: Union[Text, datetime],
+    date: Date,
     media_type: Text,
     block: Any,
     *,
-    uuid: Optional[Text] = None,
+    uuid: Union[Text, uuids.UUID, None] = None,
 ) -> None:
     """Writes one record of WARC/1.1 to a binary file, with the digest of its block.
 
-    `kind` is "resource", "metadata" or "conversion"; `date` a text or a datetime, which is read as UTC if it has no
-    time zone; `block` bytes; `uuid` that of its id, a random one if it is left out. Raises NotMade with M1 to M5 if no
-    record can be made of these, and then nothing is written; WriteFailed, whose `sent` is how many bytes went out, if a
-    write fails. Nothing is synced.
+    `kind` is "resource", "metadata" or "conversion"; `date` a text, a day (`datetime.date`), or a datetime, which is
+    read as UTC if it has no time zone; `block` bytes; `uuid` that of its id, a text or a `uuid.UUID`, a random one if
+    it is left out. Raises NotMade with M1 to M5 if no record can be made of these, and then nothing is written;
+    WriteFailed, whose `sent` is how many bytes went out, if a write fails. Nothing is synced.
     """
-    texts = (bytes_of(kind), bytes_of(uri), date_of(date), bytes_of(uuid or str(uuids.uuid4())), bytes_of(media_type))
-    lent = library.Lent(block)
+    own = uuids.uuid4() if uuid is None else uuid
+    identity = str(own) if isinstance(own, uuids.UUID) else own
+    texts = (
+        bytes_of(kind, "a kind"),
+        bytes_of(uri, "a URI"),
+        date_of(date),
+        bytes_of(identity, "a UUID"),
+        bytes_of(media_type, "a media type"),
+    )
+    lent = library.Lent(buffer_of(block, "a block is bytes"))
     try:
         write_to(out, lambda file: library.make(file, texts, lent))
     finally:
