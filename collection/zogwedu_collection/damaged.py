@@ -5,26 +5,30 @@ from __future__ import annotations
 import dataclasses
 import errno
 import functools
+import itertools
 import os
 import subprocess
 import threading
-from typing import IO, Generator, List, Optional
+from typing import IO, Callable, Generator, Iterator, List, Optional
 
 from .program import said
 from .texts import counted, last_line
-from .unpack import PIECE
+from .unpack import PIECE, members_in, spans_of
 
 MOST_OF_MESSAGE = 4096
 # The seconds that a look for good records may take at least, and the bytes of a file for which it may take one more.
 LEAST_SECONDS = 60
 LEAST_SPEED = 1 << 20
+# The most runs of good members of a damaged file: the program is run over each.
+MOST_RUNS = 1000
 # The exit statuses by which the program says that it read all, without damage and with some.
 READ_ALL = (0, 2)
 
 
 @dataclasses.dataclass
 class Pieces:
-    """The good records of a file and their bytes, and the damages between them and theirs."""
+    """The good records of a file and their bytes, and the damages between them and theirs. The damages of a compressed
+    file are those of its members, whose bytes are compressed, and those of what the good members hold."""
 
     good_records: int = 0
     good_bytes: int = 0
@@ -42,6 +46,11 @@ class Pieces:
             self.damages += 1
         else:
             raise ValueError("neither records nor damage")
+
+    def add_all(self, other: Pieces) -> None:
+        """Adds the pieces of another part."""
+        for name, value in dataclasses.asdict(other).items():
+            setattr(self, name, getattr(self, name) + value)
 
     def told(self) -> str:
         """A few words about them."""
@@ -129,3 +138,21 @@ def counted_pieces(warc: str, file: IO[bytes]) -> Pieces:
 def good_records(warc: str, file: IO[bytes], seconds: Optional[float] = None) -> Generator[bytes, None, None]:
     """The bytes of all good records of a file, in pieces. TooSlow at their end where that takes more seconds."""
     return output_of([warc, "salvage", "--all", "-"], file, seconds)
+
+
+def good_of_members(
+    warc: str, file: IO[bytes], kept: Callable[[Iterator[bytes]], IO[bytes]], pieces: Pieces
+) -> Generator[bytes, None, None]:
+    """The bytes of all good records in the good members of a file that gzip wrote, in pieces, which are counted. Each
+    run of members is read by itself, so that no record has bytes of both sides of a damage: `kept` writes what it
+    holds to a file. TooSlow where there are too many runs, or one takes too long."""
+    spans = list(itertools.islice(spans_of(file), 2 * MOST_RUNS + 1))
+    if len(spans) > 2 * MOST_RUNS:
+        raise TooSlow("its members have %d damages and more" % MOST_RUNS)
+    for span in spans:
+        if span.why is not None:
+            pieces.add_all(Pieces(damages=1, damaged=span.length))
+            continue
+        with kept(members_in(file, span)) as run:
+            pieces.add_all(counted_pieces(warc, run))
+            yield from good_records(warc, run, patience_for(run))

@@ -1,5 +1,6 @@
 """Compressed files: what compressed them, as their first bytes say, what they hold, and whether they are damaged. zlib
-and python3-zstandard judge the bytes, or where that isn't there the program zstd, and nothing else does."""
+and python3-zstandard judge the bytes, or where that isn't there the program zstd, and nothing else does. How members of
+gzip follow each other is in the Python package's module of members."""
 from __future__ import annotations
 
 import errno
@@ -8,13 +9,16 @@ import importlib
 import os
 import subprocess
 import tempfile
-import zlib
-from typing import IO, Any, Iterator, Optional
+from typing import IO, TYPE_CHECKING, Any, Dict, Iterator, Optional
 
 from .space import Full, Room
 
+if TYPE_CHECKING:
+    from zogwedu import _members
+else:
+    from . import _members
+
 PIECE = 1 << 20
-GZIP = 31  # zlib's word for a member with the head and the foot of gzip
 NO_ROOM = (errno.ENOSPC, errno.EDQUOT, errno.EFBIG)
 # The first bytes of what gzip and zstd write, as shell/zwarc has them.
 OF_GZIP = b"\x1f\x8b"
@@ -29,12 +33,17 @@ MOST_WINDOW = 128 << 20
 ZSTD_PIECE = 1 << 10
 # The exit status by which zstd says that the bytes are at fault, and what it calls them.
 WRONG_BYTES = 1
+# What is wrong with a file whose members aren't wrong by themselves.
+MEMBER_FAULTS: Dict[type, str] = {
+    EOFError: "the file ends in a member",
+    ValueError: "zero bytes, and then others",
+}
 STDIN = "/*stdin*\\"
 
 
 class Damaged(Exception):
     """The compressed file is damaged, perhaps after a known number of bytes: those of the members before, which are
-    whole."""
+    whole, and of zero bytes after them."""
 
     def __init__(self, why: str, after: Optional[int] = None) -> None:
         super().__init__("damaged%s: %s" % ("" if after is None else " after %d bytes" % after, why))
@@ -49,7 +58,7 @@ def pieces_of(file: IO[bytes]) -> Optional[Iterator[bytes]]:
     its name."""
     beginning = os.pread(file.fileno(), len(OF_ZSTD), 0)
     if beginning.startswith(OF_GZIP):
-        return iter(Members(file))
+        return members_of(file)
     is_skipped = beginning[1:] == OF_SKIPPED and beginning[0] & 0xF0 == SKIPPED
     return frames_of(file, beginning) if beginning == OF_ZSTD or is_skipped else None
 
@@ -153,49 +162,41 @@ def judge_zstd(status: int, message: str) -> None:
     raise OSError(errno.EIO, "zstd was ended by signal %d" % -status if status < 0 else "zstd: " + why)
 
 
-class Members:
-    """Gives what the members of a file hold that gzip wrote, in pieces."""
+def members_of(file: IO[bytes]) -> Iterator[bytes]:
+    """What the members of a file hold that gzip wrote, in pieces."""
+    file.seek(0)
+    try:
+        yield from _members.Members(iter(functools.partial(file.read, PIECE), b""), _members.GZIP)
+    except _members.Damaged as error:
+        raise Damaged(MEMBER_FAULTS.get(type(error.why)) or reason_of(error.why), error.offset) from None
 
-    def __init__(self, file: IO[bytes]) -> None:
-        self.file = file
-        self.data = b""
-        self.taken = 0
-        self.whole = 0
 
-    def __iter__(self) -> Iterator[bytes]:
-        self.file.seek(0)
-        yield from self.member()
-        while self.has_more():
-            yield from self.member()
+def is_of_gzip(file: IO[bytes]) -> bool:
+    """Whether a file begins as gzip writes one."""
+    return os.pread(file.fileno(), len(OF_GZIP), 0) == OF_GZIP
 
-    def member(self) -> Iterator[bytes]:
-        """What one member holds."""
-        unpacker = zlib.decompressobj(GZIP)
-        while not unpacker.eof:
-            data = self.data or self.file.read(PIECE)
-            try:
-                piece = unpacker.decompress(data, PIECE)
-            except zlib.error as error:
-                why = str(error).partition("decompressing data: ")[2] or str(error)
-                raise Damaged(why, self.whole) from None
-            if not (data or piece or unpacker.eof):
-                raise Damaged("the file ends in a member", self.whole)
-            self.data = unpacker.unused_data if unpacker.eof else unpacker.unconsumed_tail
-            self.taken += len(data) - len(self.data)
-            yield piece
-        self.whole = self.taken
 
-    def has_more(self) -> bool:
-        """Whether another member follows. Zero bytes after the last one are padding."""
-        is_padded = False
-        while True:
-            self.data = self.data or self.file.read(PIECE)
-            rest = self.data.lstrip(b"\0")
-            if not self.data or (rest and not is_padded and len(rest) == len(self.data)):
-                return bool(self.data)
-            if rest:
-                raise Damaged("zero bytes, and then others", self.whole)
-            is_padded, self.data = True, b""
+def spans_of(file: IO[bytes]) -> Iterator[_members.Span]:
+    """The runs of good members of a file that gzip wrote, and the damages between them."""
+    return iter(_members.Spans(functools.partial(read_at, file), os.fstat(file.fileno()).st_size))
+
+
+def members_in(file: IO[bytes], span: _members.Span) -> Iterator[bytes]:
+    """What a run of good members holds, in pieces. Damaged where the file changed meanwhile."""
+    try:
+        yield from _members.Members(_members.pieces_of(functools.partial(read_at, file), span), _members.GZIP)
+    except _members.Damaged as error:
+        raise Damaged(reason_of(error.why), span.offset + error.offset) from None
+
+
+def read_at(file: IO[bytes], count: int, offset: int) -> bytes:
+    """Bytes of a file at an offset."""
+    return os.pread(file.fileno(), count, offset)
+
+
+def reason_of(error: Exception) -> str:
+    """What zlib found, in its own words."""
+    return str(error).partition("decompressing data: ")[2] or str(error)
 
 
 def write_all(out: IO[bytes], piece: bytes) -> None:

@@ -13,7 +13,7 @@ import threading
 import types
 import unittest
 import zlib
-from typing import Any, Callable, Dict, Iterator, List, Tuple, Type, Union
+from typing import Any, Callable, Dict, Iterator, List, Optional, Tuple, Type, Union
 from unittest import mock
 
 import zogwedu
@@ -289,6 +289,197 @@ class Damaged(InFolder):
             with self.assertRaises(OSError) as raised:
                 zogwedu.Archive.open(Failing(self.whole[:count]))
             self.assertEqual(raised.exception.errno, 5)
+
+
+class GoodMembers(InFolder):
+    """The members on both sides of a damage, and no other bytes."""
+
+    def setUp(self) -> None:
+        super().setUp()
+        self.records = records()
+        self.members = [gzip.compress(record) for record in self.records]
+        self.lengths = [len(member) for member in self.members]
+
+    def salvaged(self, data: bytes) -> Tuple[bytes, List[Tuple[Optional[int], Optional[int]]]]:
+        """What is written of a file, and the place and the length in it of each damage of its members."""
+        found = []
+        for source in (self.file(data), io.BytesIO(data), Slow(data)):
+            out = io.BytesIO()
+            zogwedu.salvage(source, out)
+            faults = [it.fault for it in zogwedu.pieces(self.file(data))]
+            places = [(it.offset, it.length) for it in faults if isinstance(it, zogwedu.CompressedError)]
+            found.append((out.getvalue(), places))
+        self.assertEqual(found[0], found[1])
+        self.assertEqual(found[0], found[2])
+        return found[0]
+
+    def test_one_bad_byte(self) -> None:
+        """All records but one are there, wherever the byte is."""
+        begin = sum(self.lengths[:5])
+        wanted = b"".join(self.records[:5] + self.records[6:])
+        for place in (0, 1, 2, 3, 12, 60, self.lengths[5] - 8, self.lengths[5] - 4, self.lengths[5] - 1):
+            with self.subTest(place=place):
+                changed = bytearray(b"".join(self.members))
+                changed[begin + place] ^= 0xE0
+                self.assertEqual(self.salvaged(bytes(changed)), (wanted, [(begin, self.lengths[5])]))
+
+    def test_the_first_member_and_the_last(self) -> None:
+        whole = b"".join(self.members)
+        first = bytearray(whole)
+        first[20] ^= 0xFF
+        self.assertEqual(self.salvaged(bytes(first)), (b"".join(self.records[1:]), [(0, self.lengths[0])]))
+        last = len(whole) - self.lengths[-1]
+        wanted = b"".join(self.records[:-1])
+        for cut in (1, 8, self.lengths[-1] - 1):
+            self.assertEqual(self.salvaged(whole[:-cut]), (wanted, [(last, self.lengths[-1] - cut)]))
+
+    def test_other_bytes_between_members_and_after_them(self) -> None:
+        for rest in (b"x", b"rubbish\n", b"\x1f", b"\x1f\x8b\x08", b"\0\0x", b"\0" * 5000 + b"x", b"\n\0\0"):
+            length = self.lengths[0]
+            with self.subTest(rest=rest[:9]):
+                end = self.salvaged(self.members[0] + rest)
+                self.assertEqual(end, (self.records[0], [(length, len(rest))]))
+                both = self.salvaged(self.members[0] + rest + self.members[1])
+                self.assertEqual(both, (b"".join(self.records[:2]), [(length, len(rest))]))
+        for zeros in (1, 4096, 9000):
+            data = b"".join(self.members[:2]) + bytes(zeros)
+            self.assertEqual(self.salvaged(data), (b"".join(self.records[:2]), []))
+
+    def test_no_record_has_bytes_of_both_sides(self) -> None:
+        """A record that is cut by a damage isn't closed by the bytes after it, even if they fit."""
+        head, block = b"\r\n".join(self.records[0].split(b"\r\n")[:8]), self.records[1]
+        lines = [line for line in head.split(b"\r\n") if not line.startswith((b"Content-Length", b"WARC-Block"))]
+        torn = b"\r\n".join([*lines, b"Content-Length: %d" % (len(block) - 4), b"", b""])
+        data = gzip.compress(torn) + b"x" + self.members[1] + self.members[2]
+        self.assertEqual(len(zogwedu.Archive(torn + block + self.records[2])), 2)
+        self.assertEqual(self.salvaged(data)[0], block + self.records[2])
+        pieces = zogwedu.pieces(io.BytesIO(data))
+        self.assertEqual([(it.offset, it.count) for it in pieces], [(0, 0), (len(torn), 0), (len(torn), 2)])
+        fault = zogwedu.pieces(io.BytesIO(self.members[0] + b"x" + gzip.compress(block + b"damage")))[-1].fault
+        assert fault is not None
+        self.assertEqual(fault.text, f"F1 Version at {len(self.records[0]) + len(block)}")
+
+    def test_the_command(self) -> None:
+        """It writes a new file, and names the damage with its place in the compressed file."""
+        data, out = b"".join(self.members[:2]) + b"rubbish" + b"".join(self.members[2:]), f"{self.folder}/out.warc"
+        words = [sys.executable, "-m", "zogwedu", "salvage", self.file(data), out]
+        done = subprocess.run(words, capture_output=True, text=True, check=False)
+        begin, place = sum(map(len, self.records[:2])), sum(self.lengths[:2])
+        said = f"zogwedu: damage {begin} 0 damaged gzip at {place}: incorrect header check, 7 compressed bytes\n"
+        self.assertEqual((done.returncode, done.stderr), (2, said))
+        self.assertEqual((contents(out), done.stdout), (contents(CRAWL), f"18 records, {len(contents(CRAWL))} bytes\n"))
+        self.assertEqual(subprocess.run(words, capture_output=True, check=False).returncode, 3)
+        words[-2:] = [CRAWL, f"{self.folder}/good.warc"]
+        self.assertEqual(subprocess.run(words, capture_output=True, check=False).returncode, 0)
+
+    def test_a_member_in_the_data_of_another(self) -> None:
+        """It is found only where the outer one is damaged; what the outer one holds is read once if it isn't."""
+        outer = self.records[0] + self.members[1] + self.members[2]
+        for level in (0, 9):
+            packed = gzip.compress(outer, level)
+            self.assertEqual(self.salvaged(packed + b"x")[1], [(len(packed), 1)])
+        packed = gzip.compress(outer, 0)[:-1] + b"x"
+        self.assertEqual(self.salvaged(packed)[0], b"".join(self.records[1:3]))
+
+    def test_heads_that_say_much(self) -> None:
+        """A member is found whatever its head says, if that isn't much. A name without an end is none."""
+        bad = self.members[0][:-1]
+        self.assertEqual(self.salvaged(bad + with_fields(self.records[1]))[0], self.records[1])
+        for flags in (b"\4", b"\x08", b"\x10", b"\x1f"):
+            head = b"\x1f\x8b\x08" + flags + b"\0\0\0\0\0\3" + b"\xff\xff" + b"n" * 70_000
+            self.assertEqual(self.salvaged(bad + head + self.members[1])[0], self.records[1])
+
+    def test_another_member_is_no_record(self) -> None:
+        """After a damage a member counts that begins as a record; without one any does."""
+        other = gzip.compress(b"no record")
+        data = self.members[0] + b"x" + other + self.members[1]
+        self.assertEqual(self.salvaged(data)[1], [(self.lengths[0], 1 + len(other))])
+        self.assertEqual(self.salvaged(self.members[0] + other + b"x")[1], [(self.lengths[0] + len(other), 1)])
+
+
+class Counting:
+    """Inflates, and counts the bytes that it is given."""
+
+    given = 0
+
+    def __init__(self) -> None:
+        self.own = zlib.decompressobj(zlib.MAX_WBITS | 16)
+
+    def decompress(self, data: Any, *most: int) -> bytes:
+        Counting.given += len(data)
+        return self.own.decompress(data, *most)
+
+    def __getattr__(self, name: str) -> Any:
+        return getattr(self.own, name)
+
+
+def block_of(data: bytes, length: int) -> bytes:
+    """The beginning of a block of deflate that is stored: it has this length, and isn't the last."""
+    return b"\0" + length.to_bytes(2, "little") + (0xFFFF - length).to_bytes(2, "little") + data
+
+
+def late_failures(heads: int, tail: int) -> bytes:
+    """Heads of members each of which begins as a record does, and fails at the end of the last of `tail` blocks."""
+    unit = 32
+    found = b""
+    for number in range(heads):
+        length = heads * unit - number * unit - 15
+        found += (b"\x1f\x8b\x08\0\0\0\0\0\0\3" + block_of(b"WARC/", length)).ljust(unit, b"a")
+    return found + block_of(b"b" * 65000, 65000) * tail
+
+
+class Attacks(unittest.TestCase):
+    """What zlib is given grows with the file and no faster, whatever that holds."""
+
+    GOOD = gzip.compress(b"WARC/")
+    # For each byte of the file: what is inflated, what the failed tries may inflate, and the beginnings that are tried.
+    MOST = 2 + 2 * _members.MOST_TRIED + _members.MOST_OF_BEGINNING
+
+    def spans(self, middle: bytes) -> List[_members.Span]:
+        """The spans of a file with this between good members."""
+        data = self.GOOD + middle + self.GOOD * 2
+        Counting.given = 0
+        with mock.patch.object(_members, "GZIP", _members.GZIP._replace(begin=Counting)):
+            found = list(_members.Spans(lambda count, offset: data[offset : offset + count], len(data)))
+        self.per_byte = Counting.given / len(data)
+        return found
+
+    def test_heads_and_nothing_else(self) -> None:
+        for head in (
+            b"\x1f\x8b\x08",
+            b"\x1f\x8b\x08\0",
+            b"\x1f\x8b\x08\x08",
+            b"\x1f\x8b\x08\4" + bytes(6) + b"\xff\xff",
+        ):
+            for length in (1 << 16, 1 << 18):
+                middle = head * (length // len(head))
+                found = self.spans(middle)
+                places = [(it.offset, it.length) for it in found]
+                end = len(self.GOOD) + len(middle)
+                self.assertEqual(places[1:], [(len(self.GOOD), len(middle)), (end, 2 * len(self.GOOD))])
+                self.assertLess(self.per_byte, self.MOST / len(head) + 10)
+
+    def test_members_that_fail_late(self) -> None:
+        """Without a bound a thousand of them would inflate all of the file."""
+        for tail in (8, 32):
+            found = self.spans(late_failures(1000, tail) + b"rubbish")
+            self.assertEqual((len(found), found[-1].length), (3, 2 * len(self.GOOD)))
+            self.assertLess(self.per_byte, 2 + 2 * _members.MOST_TRIED + 1)
+
+    def test_a_damage_after_each_member(self) -> None:
+        for unit in (self.GOOD + b"x", self.GOOD + b"\0x", self.GOOD + self.GOOD[:-1]):
+            found = self.spans(unit * 1000)
+            self.assertEqual(sum(it.length for it in found if it.why is None), 1003 * len(self.GOOD))
+            self.assertLess(self.per_byte, 2 * self.MOST)
+        self.spans((self.GOOD + b"\x1f\x8b\x08\4" + bytes(6) + b"\xff\xff") * 5000)
+        self.assertLess(self.per_byte, 2 * self.MOST)
+
+    def test_a_member_that_never_ends(self) -> None:
+        """It is inflated step by step, and nothing of it is kept."""
+        packed = zlib.compressobj(9, zlib.DEFLATED, zlib.MAX_WBITS | 16)
+        large = packed.compress(b"WARC/") + packed.compress(bytes(30_000_000)) + packed.flush(zlib.Z_FULL_FLUSH)
+        found = self.spans(large)
+        self.assertEqual([it.why is None for it in found], [True, False, True])
 
 
 class Growing(InFolder):

@@ -444,7 +444,7 @@ class Heads(unittest.TestCase):
         self.assertIn("warc-type", headers)
         for absent in ("X-B", "\u212a", 5):
             self.assertNotIn(absent, headers)
-            self.assertIsNone(headers.get(absent))  # type: ignore[call-overload]
+            self.assertIsNone(headers.get(absent))  # type: ignore[arg-type]
         with self.assertRaises(KeyError):
             headers["X-B"]
         self.assertEqual(headers, record.headers)
@@ -882,13 +882,9 @@ class Pieces(unittest.TestCase):
         packed = gzip.compress(self.FIRST + b"damage" + self.THIRD)
         self.assertEqual([count for _, _, count, _ in self.seen(io.BytesIO(packed))], [1, 0, 1])
         self.assertEqual(self.salvaged(io.BytesIO(packed))[0], self.FIRST + self.THIRD)
-        out = io.BytesIO()
-        for torn in (packed[:-1], packed + b"x"):
-            with self.assertRaises(zogwedu.CompressedError):
-                zogwedu.pieces(io.BytesIO(torn))
-            with self.assertRaises(zogwedu.CompressedError):
-                zogwedu.salvage(io.BytesIO(torn), out)
-        self.assertEqual(out.getvalue(), b"")
+        self.assertEqual(self.seen(io.BytesIO(packed[:-1])), [(0, 0, 0, "damaged gzip at 0: it isn't whole")])
+        self.assertEqual(self.salvaged(io.BytesIO(packed[:-1]))[0], b"")
+        self.assertEqual(self.salvaged(io.BytesIO(packed + b"x"))[0], self.FIRST + self.THIRD)
 
     def test_outputs_of_any_kind(self) -> None:
         large = stored("HTTP/1.1 200 OK", bytes(range(256)) * 10000, number=4)
@@ -1012,10 +1008,13 @@ class Pieces(unittest.TestCase):
 
     def test_memory_that_runs_out(self) -> None:
         code = (
-            "import io, resource, sys, zogwedu\n"
+            "import ctypes, io, resource, sys, zogwedu\n"
             "source = io.BytesIO(sys.stdin.buffer.read())\n"
+            "malloc = ctypes.CDLL(None).malloc\n"
+            "malloc.argtypes, malloc.restype = [ctypes.c_size_t], ctypes.c_void_p\n"
             "pages = int(open('/proc/self/statm').read().split()[0])\n"
             "resource.setrlimit(resource.RLIMIT_AS, (pages * resource.getpagesize(),) * 2)\n"
+            "while malloc(65536): pass\n"
             "try:\n"
             "    zogwedu.salvage(source, sys.stdout.buffer)\n"
             "except zogwedu.Refused as error:\n"

@@ -19,6 +19,8 @@ import gzip
 import http.server
 import itertools
 import os
+import pty
+import select
 import shutil
 import signal
 import subprocess
@@ -231,6 +233,9 @@ def bad(trials: Trials) -> None:
             judge_bad(trials, with_archive(command, path), None, None)
             judge_bad(trials, with_archive(command, "-"), path, None)
             judge_bad(trials, with_archive(command, "-"), None, data)
+        seen = trials.run(["zwarc", "salvage", "--all", path])
+        is_named = b"'python3 -m zogwedu salvage ARCHIVE OUT'" in seen.message
+        trials.judge((seen.out, seen.status) == (b"", 3) and is_named != ("zstd" in name), (name, "salvage"), seen)
         for command in ONCE:
             seen = trials.run(["zwarc", "--stream", *with_archive(command, path)])
             is_right = seen.status == 3 and b"zwarc: " + path.encode() in seen.message
@@ -320,7 +325,7 @@ def names(trials: Trials) -> None:
         is_right = (seen.out, seen.status) == (b"", 3) and not set(seen.message) & (
             set(range(32)) - {10} | {127, 0x9B, 0xC2}
         )
-        trials.judge(is_right and seen.message.count(b"\n") == 3, ("list", "--", name), seen)
+        trials.judge(is_right and seen.message.count(b"\n") == 4, ("list", "--", name), seen)
 
 
 def other_shells(trials: Trials) -> None:
@@ -437,6 +442,55 @@ def signals(trials: Trials) -> None:
             )
 
 
+def tool(trials: Trials, name: str, text: str) -> None:
+    """Puts a script before the program of its name."""
+    path = f"{trials.bin}/{name}"
+    with open(path, "w", encoding="ascii") as file:
+        file.write(f"#!/bin/sh\n{text}\n")
+    os.chmod(path, 0o755)
+
+
+def read_until(terminal: int, wanted: bytes) -> bytes:
+    """What a terminal gets until it has some bytes, or no more for a minute."""
+    data = b""
+    while wanted not in data and select.select([terminal], [], [], SECONDS)[0]:
+        data += os.read(terminal, 65536)
+    return data
+
+
+def progress(trials: Trials) -> None:
+    """On a terminal a line says how much is decompressed, and nothing of it is left; not with --quiet, or elsewhere."""
+    slept, gate, packed = f"{trials.folder}/slept", f"{trials.folder}/gate", trials.file("slow.gz", b"".join(MEMBERS))
+    os.mkfifo(gate)
+    gzip_path, sleep_path = shutil.which("gzip"), shutil.which("sleep")
+    tool(trials, "gzip", f'{gzip_path} "$@" && : < {gate}')
+    tool(trials, "sleep", f': > {slept}\nexec {sleep_path} "$@"')
+    wanted = trials.run(["warc", "list", trials.file("plain.warc", PLAIN)])
+    ours, theirs = pty.openpty()
+    for words, is_shown in ((["list"], True), (["list", "--quiet"], False)):
+        child = subprocess.Popen(
+            ["zwarc", *words, packed], stdout=subprocess.PIPE, stderr=theirs, env=trials.environment()
+        )
+        data = read_until(ours, b"decompressing: 0 MB") if is_shown else b""
+        with open(gate, "wb"):
+            out = child.communicate(timeout=SECONDS)[0]
+        data += read_until(ours, b"\r\x1b[K") if is_shown and not data.endswith(b"\r\x1b[K") else b""
+        is_right = (out, child.returncode) == (wanted.out, 0) and data.endswith(b"\r\x1b[K") == is_shown
+        trials.judge(is_right and os.path.exists(slept) == is_shown, words, Result(out, data, child.returncode))
+        trials.judge(not select.select([ours], [], [], 0)[0], (*words, "and no more"), Result(out, data, 0))
+        if os.path.exists(slept):
+            os.remove(slept)
+    os.close(theirs)
+    os.close(ours)
+    feeder = threading.Thread(target=lambda: open(gate, "wb").close())
+    feeder.start()
+    seen = trials.run(["zwarc", "list", packed])
+    feeder.join()
+    trials.judge(seen == wanted and not os.path.exists(slept), ("no terminal",), seen)
+    for name in ("gzip", "sleep"):
+        os.remove(f"{trials.bin}/{name}")
+
+
 def closed_output(trials: Trials) -> None:
     """A reader that goes away, and a full disk, are failed writes as ever."""
     text = b"".join(record("metadata", 1, b"") for _ in range(3000))
@@ -536,6 +590,7 @@ KINDS = (
     other_shells,
     no_room,
     signals,
+    progress,
     closed_output,
     crawl,
 )

@@ -152,9 +152,9 @@ def test_each_target_has_a_host(target: str) -> None:
 def test_members_are_taken_apart(blocks: List[bytes], padding: int, piece: int) -> None:
     data = b"".join(gzip.compress(block) for block in blocks)
     with mock.patch.object(unpack, "PIECE", piece):
-        assert b"".join(unpack.Members(io.BytesIO(data + bytes(padding)))) == b"".join(blocks)
-        for end in (b"x", b"\x1f\x8b", bytes(padding) + b"\x1f"):
-            assert damage(data + end) == "damaged after %d bytes" % len(data)
+        assert b"".join(unpack.members_of(io.BytesIO(data + bytes(padding)))) == b"".join(blocks)
+        for zeros, end in ((0, b"x"), (0, b"\x1f\x8b"), (padding, b"\x1f")):
+            assert damage(data + bytes(zeros) + end) == "damaged after %d bytes" % (len(data) + zeros)
 
 
 @SLOW
@@ -168,7 +168,7 @@ def test_cut_members_are_damaged(block: bytes, data: st.DataObject) -> None:
 def damage(data: bytes) -> Optional[str]:
     """What is said of damaged members."""
     try:
-        b"".join(unpack.Members(io.BytesIO(data)))
+        b"".join(unpack.members_of(io.BytesIO(data)))
     except unpack.Damaged as error:
         return str(error).partition(":")[0]
     return None

@@ -1,12 +1,16 @@
-"""python -m zogwedu unpack [--stored] ARCHIVE FOLDER: writes the bodies of an archive as files."""
+"""python -m zogwedu unpack [--stored] ARCHIVE FOLDER: writes the bodies of an archive as files.
+
+python -m zogwedu salvage ARCHIVE OUT: writes all good records of an archive, compressed or not, to a new file.
+"""
 import os
 import sys
-from typing import BinaryIO, List, NamedTuple, Sequence
+from typing import BinaryIO, List, NamedTuple, Sequence, Union
 
-from . import Archive, Body, CompressedError, NoBody, Record, Undecodable, WarcError
+from . import Archive, Body, CompressedError, NoBody, Record, Refused, Undecodable, WarcError, salvage
 from ._library import CODED
 
-USAGE = "usage: python -m zogwedu unpack [--stored] ARCHIVE FOLDER"
+USAGE = """usage: python -m zogwedu unpack [--stored] ARCHIVE FOLDER
+       python -m zogwedu salvage ARCHIVE OUT"""
 CAPTURES = ("response", "resource", "revisit")
 COLUMNS = ("position", "file", "given", "status", "length", "coding", "type", "date", "target", "reason")
 
@@ -96,8 +100,31 @@ def unpack(path: str, folder: str, stored: bool) -> int:
     return count
 
 
+def said_of(fault: Union[Refused, CompressedError, None]) -> str:
+    """What is said of a damage: of compressed bytes its length there, too."""
+    if isinstance(fault, CompressedError):
+        return f"{fault}, {fault.length} compressed bytes"
+    return str(fault)
+
+
+def save(path: str, out: str) -> int:
+    """Writes all good records of an archive to a new file, and says what is left out; answers the exit status."""
+    with open(out, "xb") as file:
+        salvaged = salvage(path, file)
+    for damage in salvaged.damage:
+        print(f"zogwedu: damage {damage.offset} {damage.length} {said_of(damage.fault)}", file=sys.stderr)
+    print(f"{salvaged.records} records, {salvaged.length} bytes")
+    return 2 if salvaged.damage else 0
+
+
 def main(words: List[str]) -> int:
     """Runs the command, and answers the exit status: 0, 2 for an archive that is refused, 3 for anything else."""
+    if words[:1] == ["salvage"] and len(words) == 3:
+        try:
+            return save(words[1], words[2])
+        except (WarcError, OSError) as error:
+            print(f"zogwedu: {error}", file=sys.stderr)
+            return 3
     stored = words[1:2] == ["--stored"]
     rest = words[2:] if stored else words[1:]
     if words[:1] != ["unpack"] or len(rest) != 2:

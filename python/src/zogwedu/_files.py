@@ -1,11 +1,14 @@
 """Files that hold an archive: mapped or read, and decompressed where they are compressed."""
+import enum
+import functools
 import io
 import mmap as mapping
 import os
+import stat
 import tempfile
-from typing import Any, IO, Iterator, NamedTuple, Optional
+from typing import Any, IO, Iterator, List, NamedTuple, Optional, Tuple
 
-from ._members import GZIP, Damaged, Form, Members, zstd
+from ._members import GZIP, Damaged, Form, Members, Spans, pieces_of, zstd
 from ._problems import CompressedError
 
 PIECE = 1 << 20
@@ -13,13 +16,35 @@ MAGICS = {b"\x1f\x8b": "gzip", b"\x28\xb5\x2f\xfd": "zstd"}
 MAGIC_LENGTH = 4
 ZSTD_WINDOW_LOG = 27  # as zstd -dc has it unless it is given more memory
 
+# The numbers of a device and of a file on it.
+Identity = Tuple[int, int]
+
+
+class Upon(enum.Enum):
+    """What is done at a damaged member: it is raised, the bytes end before it, or those of the good members after it
+    follow, if gzip wrote them."""
+
+    RAISE = enum.auto()
+    END = enum.auto()
+    GO_ON = enum.auto()
+
+
+class Gap(NamedTuple):
+    """Damage of a compressed file, and how many bytes the good members before it hold."""
+
+    at: int
+    damage: CompressedError
+
 
 class Contents(NamedTuple):
-    """The bytes of an archive, how they were compressed, and the damage before which they end."""
+    """The bytes of an archive, how they were compressed, the damage before which they end, the regular file that they
+    were read from, and the damages among the members that gave them."""
 
     data: Any
     compressed: Optional[str] = None
     damage: Optional[CompressedError] = None
+    source: Optional[Identity] = None
+    gaps: Tuple[Gap, ...] = ()
 
 
 class _Mapping(mapping.mmap):
@@ -37,25 +62,62 @@ def unmap(data: Any) -> bool:
     return True
 
 
-def read_path(path: str, map_it: bool, front: bool) -> Contents:
-    """The bytes of a file. A damaged member raises CompressedError; with `front` they end before it."""
+def identity_of(file: Any) -> Optional[Identity]:
+    """Which regular file a path, a descriptor or a file object leads to, if it leads to one."""
+    if not hasattr(file, "fileno") and not isinstance(file, (int, str, os.PathLike)):
+        return None
+    try:
+        found = os.stat(file.fileno() if hasattr(file, "fileno") else file)
+    except (OSError, TypeError, ValueError):
+        return None  # opening or writing says what is wrong
+    return (found.st_dev, found.st_ino) if stat.S_ISREG(found.st_mode) else None
+
+
+def refuse_same(source: Optional[Identity], out: Any) -> None:
+    """Refuses an output that is the file which is read."""
+    if source is not None and source == identity_of(out):
+        raise ValueError("the file that is written is the one that is read")
+
+
+def path_of(file: Any, instead: str) -> str:
+    """The path that a caller names. Bytes are taken for those of an archive, and refused with what takes them."""
+    if isinstance(file, (bytes, bytearray, memoryview)):
+        raise TypeError(f"a path is a text, not bytes: {instead} opens the bytes of an archive")
+    path = os.fspath(file)
+    if not isinstance(path, str):
+        raise TypeError(f"a path is a text, not {path!r}")
+    return path
+
+
+def read_path(path: str, map_it: bool, upon: Upon) -> Contents:
+    """The bytes of a file. A damaged member raises CompressedError, unless `upon` says something else."""
     with open(path, "rb") as file:
-        begin = file.read(MAGIC_LENGTH)
-        kind = _kind_of(begin)
-        if kind is not None:
-            return _decompressed(_pieces(file, begin), kind, map_it, front)
-        if map_it and os.fstat(file.fileno()).st_size:
-            return Contents(_mapped(file))
-        if file.seekable():
-            file.seek(0)
-            return Contents(file.read())
-        return Contents(b"".join(_pieces(file, begin)))
+        return _read_file(file, map_it, upon)._replace(source=identity_of(file))
 
 
-def read_object(file: Any, map_it: bool, front: bool) -> Contents:
+def _read_file(file: Any, map_it: bool, upon: Upon) -> Contents:
+    """The bytes of a file that was just opened."""
+    begin = file.read(MAGIC_LENGTH)
+    kind = _kind_of(begin)
+    if kind is not None:
+        return _decompressed(_pieces(file, begin), kind, map_it, upon)
+    if map_it and os.fstat(file.fileno()).st_size:
+        return Contents(_mapped(file))
+    if file.seekable():
+        file.seek(0)
+        return Contents(file.read())
+    return Contents(b"".join(_pieces(file, begin)))
+
+
+def read_object(file: Any, map_it: bool, upon: Upon) -> Contents:
     """The same of a binary file object, from where it is to its end."""
     if isinstance(file, io.TextIOBase):
         raise TypeError("an archive is read from a binary file: sys.stdin.buffer, or open(path, 'rb')")
+    return _read_object(file, map_it, upon)._replace(source=identity_of(file))
+
+
+def _read_object(file: Any, map_it: bool, upon: Upon) -> Contents:
+    """The bytes of a binary file object."""
     begin = b""
     for piece in _pieces(file):
         begin += piece
@@ -63,7 +125,7 @@ def read_object(file: Any, map_it: bool, front: bool) -> Contents:
             break
     kind = _kind_of(begin)
     if kind is not None:
-        return _decompressed(_pieces(file, begin), kind, map_it, front)
+        return _decompressed(_pieces(file, begin), kind, map_it, upon)
     return Contents(b"".join(_pieces(file, begin)))
 
 
@@ -100,17 +162,21 @@ def _form_of(kind: str) -> Form:
         raise CompressedError("unreadable zstd at 0: Python before 3.14 needs the package zstandard", 0) from error
 
 
-def _decompressed(source: Iterator[bytes], kind: str, map_it: bool, front: bool) -> Contents:
+def _decompressed(source: Iterator[bytes], kind: str, map_it: bool, upon: Upon) -> Contents:
     """What a compressed stream holds, by way of a file without a name in TMPDIR, which goes with its last use."""
     form = _form_of(kind)
     with tempfile.TemporaryFile(buffering=0) as out:
-        damage = _decompress(Members(source, form), kind, out)
-        if damage is not None and not front:
+        damage, gaps = None, []
+        if upon is Upon.GO_ON and form is GZIP:
+            gaps = _decompress_good(source, out)
+        else:
+            damage = _decompress(Members(source, form), kind, out)
+        if damage is not None and upon is not Upon.END:
             raise damage
         if map_it and out.seek(0, os.SEEK_END):
-            return Contents(_mapped(out), kind, damage)
+            return Contents(_mapped(out), kind, damage, gaps=tuple(gaps))
         out.seek(0)
-        return Contents(out.read(), kind, damage)
+        return Contents(out.read(), kind, damage, gaps=tuple(gaps))
 
 
 def _decompress(members: Members, kind: str, out: IO[bytes]) -> Optional[CompressedError]:
@@ -120,11 +186,39 @@ def _decompress(members: Members, kind: str, out: IO[bytes]) -> Optional[Compres
             _write(piece, out)
     except Damaged as damaged:
         out.truncate(members.given)
-        why = str(damaged.why).rpartition(": ")[2]
-        error = CompressedError(f"damaged {kind} at {damaged.offset}: {why}", damaged.offset)
-        error.__cause__ = damaged.why
-        return error
+        return _error(kind, damaged.offset, damaged.why)
     return None
+
+
+def _decompress_good(source: Iterator[bytes], out: IO[bytes]) -> List[Gap]:
+    """Writes what the good members of gzip hold, and gives the damages between them.
+
+    A stream is read twice, and from any place, so it is written to a file without a name.
+    """
+    gaps = []
+    with tempfile.TemporaryFile(buffering=0) as packed:
+        for piece in source:
+            _write(piece, packed)
+        read = functools.partial(_read_at, packed)
+        for span in Spans(read, packed.tell()):
+            if span.why is not None:
+                gaps.append(Gap(out.tell(), _error("gzip", span.offset, span.why, span.length)))
+                continue
+            for piece in Members(pieces_of(read, span), GZIP):
+                _write(piece, out)
+    return gaps
+
+
+def _read_at(file: IO[bytes], count: int, offset: int) -> bytes:
+    """Bytes of a file at an offset."""
+    return os.pread(file.fileno(), count, offset)
+
+
+def _error(kind: str, offset: int, why: Exception, length: Optional[int] = None) -> CompressedError:
+    """The error for damage at an offset."""
+    error = CompressedError(f"damaged {kind} at {offset}: {str(why).rpartition(': ')[2]}", offset, length)
+    error.__cause__ = why
+    return error
 
 
 def _write(piece: bytes, out: IO[bytes]) -> None:

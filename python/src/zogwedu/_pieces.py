@@ -1,14 +1,12 @@
 """The pieces of a file: runs of good records, and the damage between them."""
-import io
 import os
-import stat
 from contextlib import contextmanager
 from dataclasses import dataclass
-from typing import Any, Iterator, List, Optional, Tuple, TYPE_CHECKING, Union
+from typing import Any, Iterator, List, Optional, Sequence, Tuple, TYPE_CHECKING, Union
 
 from . import _library as library
-from ._files import Contents, read_object, read_path, unmap
-from ._problems import Refused
+from ._files import Contents, Gap, Upon, identity_of, path_of, read_object, read_path, refuse_same, unmap
+from ._problems import CompressedError, Refused
 from ._writing import Output, write_parts
 
 if TYPE_CHECKING:
@@ -22,12 +20,15 @@ class Piece:
     `offset` and `length` are those of its bytes. A run has `count` records, at least one, and `fault` is None. Damage
     has none, and `fault` is the Refused that says why no good record begins with its first byte; the offset of that may
     be beyond the damage.
+
+    Offsets are those of the uncompressed bytes. Damage of a compressed file has none of these: its `length` is 0, and
+    `fault` is a CompressedError, whose `offset` and `length` are those in the compressed file.
     """
 
     offset: int
     length: int
     count: int
-    fault: Optional[Refused]
+    fault: Union[Refused, CompressedError, None]
 
 
 @dataclass(frozen=True)
@@ -45,12 +46,14 @@ def pieces(file: Union["Path", Any], *, mmap: bool = True) -> List[Piece]:
     They follow one another without gap or overlap from the first byte to the last. An archive is one piece, and a file
     without bytes has none. The bytes of all runs, joined, are an archive.
 
-    `file` is a path or a binary file object, which is read and decompressed as by `Archive.open`. Raises
-    CompressedError if a member is damaged or torn: then nothing is known of what it holds. Raises Refused with F14
-    Memory if memory runs out in the library, and MemoryError if it runs out in Python.
+    `file` is a path or a binary file object, which is read and decompressed as by `Archive.open`. Of one that gzip
+    wrote the good members are read; what lies between them is damage, and no record has bytes of both sides. After a
+    damaged member the next one is where a head of gzip is whose member is good and begins as a record does. Raises
+    CompressedError if a frame of zstd is damaged or torn. Raises Refused with F14 Memory if memory runs out in the
+    library, and MemoryError if it runs out in Python.
     """
-    with _lent(file, mmap) as lent:
-        return _found(lent)
+    with _lent(file, mmap) as (lent, gaps):
+        return _found(lent, gaps)
 
 
 def salvage(file: Union["Path", Any], out: Output, *, mmap: bool = True) -> Salvaged:
@@ -66,9 +69,9 @@ def salvage(file: Union["Path", Any], out: Output, *, mmap: bool = True) -> Salv
     A path is mapped: if another program changes the file while this runs, what is written may not be what was judged,
     and a read that fails kills the process by SIGBUS. `mmap=False` reads the file into memory first, all of it.
     """
-    _refuse_same(file, out)
-    with _lent(file, mmap) as lent:
-        found = _found(lent)
+    refuse_same(identity_of(file), out)
+    with _lent(file, mmap) as (lent, gaps):
+        found = _found(lent, gaps)
         runs = [piece for piece in found if piece.fault is None]
         write_parts(out, (lent.bytes[run.offset : run.offset + run.length] for run in runs))
     damage = [piece for piece in found if piece.fault is not None]
@@ -76,11 +79,12 @@ def salvage(file: Union["Path", Any], out: Output, *, mmap: bool = True) -> Salv
 
 
 @contextmanager
-def _lent(file: Union["Path", Any], map_it: bool) -> Iterator[library.Lent]:
-    """The bytes of a file, for as long as they are used."""
-    lent = library.Lent(_contents(file, map_it).data)
+def _lent(file: Union["Path", Any], map_it: bool) -> Iterator[Tuple[library.Lent, Sequence[Gap]]]:
+    """The bytes of a file, for as long as they are used, and the damages of the members that gave them."""
+    contents = _contents(file, map_it)
+    lent = library.Lent(contents.data)
     try:
-        yield lent
+        yield lent, contents.gaps
     finally:
         data = lent.owner
         lent.give_back()
@@ -90,27 +94,29 @@ def _lent(file: Union["Path", Any], map_it: bool) -> Iterator[library.Lent]:
 def _contents(file: Union["Path", Any], map_it: bool) -> Contents:
     """The bytes of a path, or of a file object to its end."""
     if hasattr(file, "read"):
-        return read_object(file, map_it, front=False)
-    return read_path(os.fspath(file), map_it, front=False)
+        return read_object(file, map_it, Upon.GO_ON)
+    return read_path(path_of(file, "io.BytesIO(data)"), map_it, Upon.GO_ON)
 
 
-def _found(lent: library.Lent) -> List[Piece]:
-    """The pieces of bytes."""
-    return [Piece(it.offset, it.length, it.count, library.fault_of(it.fault)) for it in library.pieces(lent)]
+def _found(lent: library.Lent, gaps: Sequence[Gap]) -> List[Piece]:
+    """The pieces of bytes. What lies on both sides of a gap never belonged together, so each side is asked for."""
+    found, begin = [], 0
+    for gap in gaps:
+        found += _found_between(lent, begin, gap.at)
+        found.append(Piece(gap.at, 0, 0, gap.damage))
+        begin = gap.at
+    return found + _found_between(lent, begin, lent.length)
 
 
-def _refuse_same(file: Union["Path", Any], out: Output) -> None:
-    """Refuses an output that is the file which is read."""
-    read, written = _identity(file), _identity(out)
-    if read is not None and read == written:
-        raise ValueError("the file that is written is the one that is read")
-
-
-def _identity(file: Any) -> Optional[Tuple[int, int]]:
-    """Which regular file a path, a descriptor or a file object leads to, if it leads to one."""
+def _found_between(lent: library.Lent, begin: int, end: int) -> List[Piece]:
+    """The pieces of the bytes between two offsets."""
+    part = library.Lent(lent.bytes[begin:end])
     try:
-        target = file.fileno() if hasattr(file, "fileno") else file
-        found = os.stat(target)
-    except (OSError, TypeError, ValueError, io.UnsupportedOperation):
-        return None  # opening or writing says what is wrong
-    return (found.st_dev, found.st_ino) if stat.S_ISREG(found.st_mode) else None
+        return [
+            Piece(begin + it.offset, it.length, it.count, library.fault_of(it.fault, begin))
+            for it in library.pieces(part)
+        ]
+    finally:
+        view = part.owner
+        part.give_back()
+        view.release()
