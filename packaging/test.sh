@@ -5,7 +5,7 @@
 set -euo pipefail
 here=$(dirname "$(readlink -f "${BASH_SOURCE[0]}")")
 bash "$here/../tools/need.sh" lintian:lintian man:man-db dpkg-buildpackage:dpkg-dev dh:debhelper dh_python3:dh-python \
-    gcc:gcc pkg-config:pkgconf
+    gcc:gcc pkg-config:pkgconf systemd-analyze:systemd
 folder=$(mktemp -d)
 trap 'rm -rf "$folder"' EXIT
 
@@ -22,6 +22,12 @@ for page in $(dpkg --listfiles zogwedu | sed -n 's|^/usr/share/man/man\(.\)/\(.*
         exit 1
     fi
 done
+systemd-analyze verify --man=no /lib/systemd/system/warc-collection* > "$folder/units" 2>&1 || status=$?
+if [ "${status:-0}" != 0 ] || [ -s "$folder/units" ]; then
+    echo "systemd doesn't take the units" >&2
+    cat "$folder/units" >&2
+    exit 1
+fi
 # The packages are for Debian's own programs, so another python3 that comes first in PATH doesn't find the module.
 for name in program python library; do
     for user in root nobody; do
