@@ -6,8 +6,9 @@ from typing import List, Optional, Tuple
 
 from .catalogue import Catalogue
 from .compared import who
+from .messages import ERROR, INFO, MESSAGES, WARNING
 from .states import ALARMING, STATES, as_list
-from .texts import Stored, now, stored_path
+from .texts import Stored, escaped, now, stored_path
 
 # An acknowledged state rings again when it is another one, is there for another reason, or the file has changed.
 HOLDS = (
@@ -57,6 +58,22 @@ def states_in(text: str) -> Tuple[str, ...]:
     if wrong or not states:
         raise ValueError("no state that can be wrong: %s" % text)
     return states
+
+
+def log_state(state: str, path: Stored, detail: str) -> None:
+    """A line for the log about the state of a file."""
+    level = ERROR if state in ALARMING else INFO if state in ("good", "grown") else WARNING
+    MESSAGES.note(": ".join(filter(None, ("%s %s" % (state, escaped(path)), escaped(detail)))), level)
+
+
+def log_changes(catalogue: Catalogue, run: int) -> None:
+    """Lines for the log about the files whose states a run changed without reading them."""
+    query = (
+        "SELECT files.state, path, files.detail FROM changes JOIN files USING (file) WHERE changes.run = ?"
+        " AND NOT EXISTS (SELECT 1 FROM checks WHERE checks.file = changes.file AND checks.run = changes.run)"
+    )
+    for state, path, detail in catalogue.rows(query, (run,)):
+        log_state(state, path, detail or "")
 
 
 def looks(catalogue: Catalogue, more: str = "", order: str = "files.state, path") -> List[Look]:

@@ -11,7 +11,7 @@ import urllib.parse
 from typing import Any, Dict, Iterator, List, Mapping, Optional, Sequence, Tuple
 
 from .disk import Stamp, is_on_local_disk
-from .states import READ, as_list
+from .states import DAMAGED, READ, as_list
 from .texts import Stored, Trouble, say, shown, stored_path
 
 VERSION = 5
@@ -51,6 +51,8 @@ TABLES = {
     " size_now BIGINT, modified_now BIGINT, records_now BIGINT, sha256_now TEXT",
     "acknowledged": "file BIGINT PRIMARY KEY, state TEXT, detail TEXT, size BIGINT, modified BIGINT, who TEXT,"
     " acknowledged_on TEXT, note TEXT",
+    "stated": "file BIGINT, algorithm TEXT, manifest TEXT, digest TEXT, stated_on TEXT, found TEXT, accepted TEXT,"
+    " PRIMARY KEY (file, algorithm, manifest)",
     "records": "file BIGINT, position BIGINT, at_offset BIGINT, length BIGINT, kind TEXT, date TEXT, id TEXT,"
     " target TEXT, hash TEXT, PRIMARY KEY (file, position)",
     "captures": "file BIGINT, position BIGINT, date TEXT, instant TEXT, kind TEXT, given BIGINT, status BIGINT,"
@@ -66,6 +68,8 @@ OF_A_FILE = ("records", "captures", "digests", "payloads", "findings", "years", 
 INDEXES = (
     "captures_by_target ON captures (target, instant)",
     "records_by_id ON records (lower(trim(id, '<>')))",
+    # Those few with spaces within the brackets, which belong to no id.
+    "records_of_odd_ids ON records (lower(trim(id, '<> \t'))) WHERE trim(id, '<>') <> trim(id, '<> \t')",
     "records_of_series ON records (target) WHERE lower(kind) = 'continuation'",
 )
 # Each file that is loaded asks for what was found of it before.
@@ -114,6 +118,8 @@ TO_VERSION_5 = (
     "ALTER TABLE readings ADD COLUMN is_hashed BIGINT",
     "UPDATE readings SET found_sha256 = (SELECT sha256 FROM files WHERE files.file = readings.file"
     " AND (files.size, files.modified) IS (readings.size, readings.modified))",
+    # It knew nothing of the good members of a damaged file, which is read once more.
+    "UPDATE files SET changed = NULL WHERE state = 'gunzip'",
 )
 
 
@@ -150,7 +156,10 @@ class Known:
 
 
 # Whether the rows of a file are those of its last reading, and how many of the bytes that were read are damaged.
-ABOUT_ROWS = "coalesce(damaged, 0), state IN (%s) OR (state = 'refused' AND readings.run IS files.run)" % as_list(READ)
+ABOUT_ROWS = "coalesce(damaged, 0), state IN (%s) OR (state IN (%s) AND readings.run IS files.run)" % (
+    as_list(READ),
+    as_list(DAMAGED),
+)
 KNOWN = (
     "SELECT files.file, path, state, detail, readings.run, read_on, readings.size, readings.modified, readings.changed,"
     " readings.inode, readings.seen, readings.records, bytes, %s FROM files LEFT JOIN readings USING (file) WHERE "

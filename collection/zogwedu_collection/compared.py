@@ -6,13 +6,13 @@ from __future__ import annotations
 import dataclasses
 import getpass
 import os
-from typing import Any, Iterator, List, Optional, Sequence, Set, Tuple
+from typing import Any, Iterator, Optional, Sequence, Set, Tuple
 
 from .catalogue import OF_A_FILE, Catalogue
 from .job import Outcome
 from .lines import RecordRow, Sums, digest_rows, record_rows
 from .parts import Parts
-from .states import READ
+from .states import DAMAGED, READ
 from .texts import counted, now, stored_path
 
 BEFORE = (
@@ -118,7 +118,7 @@ def compare(catalogue: Catalogue, file: int, sha256: Optional[str], parts: Parts
     whether its records are those of before."""
     if outcome.has_rows():
         found = difference(catalogue, file, parts)
-    elif outcome.state == "refused" and outcome.pieces is not None:
+    elif outcome.state in DAMAGED and outcome.pieces is not None:
         count = catalogue.one("SELECT count(*) FROM records WHERE file = ?", (file,))[0]
         found = Difference(count, count)
     else:
@@ -150,24 +150,26 @@ def accept(catalogue: Catalogue, path: str) -> bool:
     query = "SELECT file, state, detail, run FROM files WHERE path = ?"
     with catalogue.transaction():
         row = catalogue.one(query, (stored_path(path),))
-        readings = [] if row is None else both_readings(catalogue, row[0])
-        if row is None or row[1] not in UNACCEPTED or len(readings) != 2:
+        if row is None or row[1] not in UNACCEPTED:
             return False
         file, state, detail, run = row
+        before, beside = reading_of(catalogue, file), reading_of(catalogue, -file)
+        if beside is None:
+            return False
         names = [name.replace("found_", "") for name in OF_BOTH]
         columns = ", ".join("%s_%s" % (name, when) for when in ("before", "now") for name in names)
         catalogue.base.execute(
             "INSERT INTO accepted (file, %s, %s) VALUES (%s)" % (KEPT, columns, ", ".join("?" * 16)),
-            (file, now(), who(), run, state, detail, *readings[0], *readings[1]),
+            (file, now(), who(), run, state, detail, *(before or [None] * len(OF_BOTH)), *beside),
         )
+        catalogue.base.execute("UPDATE stated SET accepted = found WHERE file = ? AND found <> digest", (file,))
         put_in_place(catalogue, file)
     return True
 
 
-def both_readings(catalogue: Catalogue, file: int) -> List[Tuple[Any, ...]]:
-    """The reading of a file, and the one beside it, if there is one."""
-    query = "SELECT %s FROM readings WHERE file IN (?, ?) ORDER BY file DESC" % ", ".join(OF_BOTH)
-    return catalogue.rows(query, (file, -file))
+def reading_of(catalogue: Catalogue, file: int) -> Any:
+    """The reading of a file, or the one beside it, which has its number with a minus sign."""
+    return catalogue.one("SELECT %s FROM readings WHERE file = ?" % ", ".join(OF_BOTH), (file,))
 
 
 def drop_beside(catalogue: Catalogue, file: int) -> None:
@@ -184,7 +186,7 @@ def put_in_place(catalogue: Catalogue, file: int) -> None:
     state, detail, records, sha256 = catalogue.one(
         "SELECT found_state, found_detail, records, found_sha256 FROM readings WHERE file = ?", (file,)
     )
-    assert state in READ or state == "refused"
+    assert state in (*READ, *DAMAGED)
     catalogue.base.execute(
         "UPDATE files SET state = ?, detail = ?, records = ?, sha256 = coalesce(?, sha256) WHERE file = ?",
         (state, detail, records, sha256, file),

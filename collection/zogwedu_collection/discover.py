@@ -4,15 +4,18 @@ from __future__ import annotations
 import collections
 import dataclasses
 import errno
+import functools
 import itertools
 import os
-from typing import Dict, Iterable, Iterator, List, Optional, Sequence, Set, Tuple
+from typing import Callable, Dict, Iterable, Iterator, List, Optional, Sequence, Set, Tuple
 
 from .catalogue import Catalogue, Run
 from .disk import Stamp, is_regular, stamp_of
+from .job import Item
+from .manifest import BadLine, algorithms_stated, note_stated, read_manifest
 from .states import TRIED_AGAIN
-from .texts import counted, real_path, say, shown, stored_path
-from .watched import LIST, NOT_THERE, Watched
+from .texts import counted, inform, real_path, say, shown, stored_path
+from .watched import LIST, MANIFEST, NAMING, NOT_THERE, Watched
 
 SUFFIXES = (b".warc", b".warc.gz", b".warc.zst")
 # What the system says of a file that isn't there. Of any other error nothing follows.
@@ -29,11 +32,14 @@ UNWATCHED = "no folder and no list of the collection has it: forget it, or run i
 @dataclasses.dataclass
 class Found:
     """The files of a collection with what the system says of each (None for one that isn't there), what couldn't be
-    read and why, and the names that nothing has, with the list of each."""
+    read and why, the names that nothing has, with the list of each, the checksums that each manifest states, and the
+    files that lists name, with the list of each."""
 
     files: Dict[str, Optional[Stamp]] = dataclasses.field(default_factory=dict)
     unread: Dict[str, str] = dataclasses.field(default_factory=dict)
     missing: Dict[str, str] = dataclasses.field(default_factory=dict)
+    stated: Dict[str, Dict[Tuple[str, str], str]] = dataclasses.field(default_factory=dict)
+    listed: Dict[str, str] = dataclasses.field(default_factory=dict)
 
     def add(self, name: str, is_asked_for: bool, listed_in: Optional[str] = None) -> None:
         """Adds a file. A name that is no regular file's is left out: reading a pipe or a device may never end."""
@@ -71,7 +77,7 @@ def files_below(folder: str, top: Sequence[str], found: Found) -> Iterator[str]:
         for path in (os.path.join(at, name) for name in folders):
             if os.path.islink(path) and not is_below(os.path.realpath(path), top):
                 say("%s: a link to a folder; it isn't entered, unless it is named" % shown(path))
-        yield from (os.path.join(at, name) for name in sorted(names) if os.fsencode(name).lower().endswith(SUFFIXES))
+        yield from (os.path.join(at, name) for name in sorted(names) if is_archive(name))
 
 
 def listed_files(path: str, folder: str, found: Found) -> List[str]:
@@ -86,15 +92,37 @@ def listed_files(path: str, folder: str, found: Found) -> List[str]:
     return [os.path.abspath(os.path.join(folder, os.fsdecode(name))) for name in names if name]
 
 
+def stated_in(path: str, found: Found) -> Dict[Tuple[str, str], str]:
+    """The checksums that a manifest states. Where a line of it is bad, it states nothing, and what it stated in an
+    earlier run stays."""
+    try:
+        found.stated[path] = read_manifest(path)
+    except OSError as error:
+        found.note(error)
+    except BadLine as error:
+        found.unread[path] = str(error)
+        say("%s: %s" % (shown(path), error))
+    return found.stated.get(path, {})
+
+
 def all_listed(whole: Sequence[Watched], found: Found) -> Dict[str, str]:
-    """The files that lists name, of all that is watched, with the list of each."""
-    lists = [it for it in whole if it.kind == LIST]
-    return {name: it.path for it in lists for name in listed_files(it.path, it.given_in, found)}
+    """The files that lists name, of all that is watched, with the list of each. Of a manifest they are the archives."""
+    names = {name: it.path for it in whole if it.kind == LIST for name in listed_files(it.path, it.given_in, found)}
+    for it in whole:
+        if it.kind == MANIFEST:
+            archives = (name for name, _ in stated_in(it.path, found) if is_archive(name))
+            names.update((name, it.path) for name in archives if name not in names)
+    return names
+
+
+def is_archive(path: str) -> bool:
+    """Whether a name is that of an archive."""
+    return os.fsencode(path).lower().endswith(SUFFIXES)
 
 
 def plain_paths(whole: Sequence[Watched]) -> List[str]:
     """The folders and files of all that is watched."""
-    return [it.path for it in whole if it.kind != LIST]
+    return [it.path for it in whole if it.kind not in NAMING]
 
 
 def found_files(whole: Sequence[Watched]) -> Found:
@@ -106,8 +134,12 @@ def found_files(whole: Sequence[Watched]) -> Found:
     named = dict.fromkeys(path for path in paths if not os.path.isdir(path))
     for name in itertools.chain(below, named):
         found.add(name, name in named)
-    for name, listed_in in all_listed(whole, found).items():
-        found.add(name, name in named, listed_in)
+    found.listed = all_listed(whole, found)
+    for name, listed_in in found.listed.items():
+        if listed_in not in found.stated:
+            found.add(name, name in named, listed_in)
+        elif name not in found.files:
+            found.add(name, False)
     return found
 
 
@@ -143,17 +175,14 @@ def listed(catalogue: Catalogue) -> Dict[str, Listed]:
 
 def note_changes(catalogue: Catalogue, run: int, found: Found, whole: Sequence[Watched], may_be_missing: bool) -> None:
     """Adds new files to the catalogue, and marks those that aren't there any more, that nothing has any more, or that
-    are back."""
+    are back. A file that a manifest names and that was never there is one that isn't there any more."""
     known, paths = listed(catalogue), plain_paths(whole)
     found.missing = {name: listed_in for name, listed_in in found.missing.items() if name not in known}
-    number = catalogue.one("SELECT coalesce(max(file), 0) FROM files")[0]
-    new = [path for path, stamp in found.files.items() if stamp is not None and path not in known]
-    catalogue.base.executemany(
-        "INSERT INTO files (file, path, state, detail) VALUES (?, ?, 'unread', '')",
-        ((number + place, stored_path(path)) for place, path in enumerate(new, 1)),
-    )
+    awaited = {name for stated in found.stated.values() for name, _ in stated if name in found.files}
+    new = [path for path, stamp in found.files.items() if (stamp or path in awaited) and path not in known]
+    known.update((it.path, it) for it in add_new(catalogue, new))
     lost = [it for it in known.values() if it.state != "gone" and is_lost(it.path, found, paths)]
-    kept: Set[str] = set() if may_be_missing else too_many(lost, known, found, paths, new)
+    kept: Set[str] = set() if may_be_missing else too_many(lost, known, found, groups(found, whole), new)
     gone = {it.path for it in lost} - kept
     for it in known.values():
         if it.path in gone:
@@ -164,17 +193,45 @@ def note_changes(catalogue: Catalogue, run: int, found: Found, whole: Sequence[W
             mark(catalogue, run, it, "unread", UNWATCHED)
 
 
+def add_new(catalogue: Catalogue, paths: Sequence[str]) -> List[Listed]:
+    """Adds files to the catalogue."""
+    number = catalogue.one("SELECT coalesce(max(file), 0) FROM files")[0] + 1
+    new = [Listed(number + place, path, "unread", "", None, None, None) for place, path in enumerate(paths)]
+    catalogue.base.executemany(
+        "INSERT INTO files (file, path, state, detail) VALUES (?, ?, 'unread', '')",
+        ((it.file, stored_path(it.path)) for it in new),
+    )
+    return new
+
+
+Group = Tuple[str, Callable[[str], bool]]
+
+
+def groups(found: Found, whole: Sequence[Watched]) -> List[Group]:
+    """What is on one disk, as it seems: a folder, or what a list names. Each with what says whether a file is in it."""
+    made: List[Group] = [(path, functools.partial(is_in, path)) for path in plain_paths(whole)]
+    lists: Dict[str, Set[str]] = collections.defaultdict(set)
+    for name, listed_in in found.listed.items():
+        lists[listed_in].add(name)
+    return made + [(path, names.__contains__) for path, names in lists.items()]
+
+
+def is_in(folder: str, path: str) -> bool:
+    return is_below(path, [folder])
+
+
 def too_many(
-    lost: Sequence[Listed], known: Dict[str, Listed], found: Found, paths: Sequence[str], new: Sequence[str]
+    lost: Sequence[Listed], known: Dict[str, Listed], found: Found, parts: Sequence[Group], new: Sequence[str]
 ) -> Set[str]:
-    """The files whose states stay, since more than a tenth of a folder's files aren't there: that is a mount which is
-    missing rather than files which were removed. A file that seems to have been moved isn't one of them."""
-    moved = {(os.path.basename(path), size_of(found, path)) for path in new}
+    """The files whose states stay, since more than a tenth of the files of a folder or a list aren't there: that is a
+    mount which is missing rather than files which were removed. A file that seems to have been moved isn't one of
+    them."""
+    moved = {(os.path.basename(path), size_of(found, path)) for path in new if found.files[path] is not None}
     away = [it for it in lost if (os.path.basename(it.path), it.stamp and it.stamp.size) not in moved]
     kept: Set[str] = set()
-    for folder in paths:
-        here = [it.path for it in away if is_below(it.path, [folder])]
-        count = sum(it.state != "gone" and is_below(it.path, [folder]) for it in known.values())
+    for folder, has in parts:
+        here = [it.path for it in away if has(it.path)]
+        count = sum(it.state != "gone" and has(it.path) for it in known.values())
         if len(here) > MOST_GONE and MOST_PART * len(here) > count:
             found.unread[folder] = "%d of its %s aren't there: see --allow-missing" % (
                 len(here),
@@ -231,13 +288,23 @@ def is_unwatched(path: str, found: Found, whole: Sequence[Watched]) -> bool:
     file that no run looks at would be good for ever."""
     if path in found.files or is_below(path, found.unread) or is_below(path, plain_paths(whole)):
         return False
-    return not any(it.kind == LIST and it.path in found.unread for it in whole)
+    return not any(it.kind in NAMING and it.path in found.unread for it in whole)
 
 
-def files_to_do(catalogue: Catalogue, run: Run, found: Found, is_digested: bool) -> List[Tuple[int, str]]:
+def note_manifests(catalogue: Catalogue, found: Found) -> None:
+    """Keeps the checksums that the manifests state now."""
+    for path, stated in found.stated.items():
+        others = note_stated(catalogue, path, stated)
+        if others:
+            inform("%s: %s of files that aren't archives" % (shown(path), counted(others, "checksum")))
+
+
+def files_to_do(catalogue: Catalogue, run: Run, found: Found, is_digested: bool) -> List[Item]:
     """The files that are new, changed or not read yet, or in a run over all files those that it has not done; where the
-    digests of whole files are kept, also those without one. Largest first, with their sizes."""
-    chosen: List[Tuple[int, str]] = []
+    digests of whole files are kept, also those without one, and those with a checksum that wasn't compared. Largest
+    first."""
+    chosen: List[Item] = []
+    stated = algorithms_stated(catalogue)
     query = "SELECT size, modified, changed, inode, seen, file, path, state, run, sha256, due FROM files"
     for *seen, file, path, state, last, sha256, due in catalogue.rows(query):
         stamp = found.files.get(real_path(path))
@@ -246,24 +313,26 @@ def files_to_do(catalogue: Catalogue, run: Run, found: Found, is_digested: bool)
         is_same = None not in seen[:4] and Stamp(*seen).is_of(stamp)
         is_done = is_same and last == run.number and state not in ("unread", "gone")
         is_known = is_same and state not in TRIED_AGAIN and (not is_digested or sha256 is not None)
-        is_known = is_known and due != run.number
+        algorithms, is_compared = stated.get(file, ((), True))
+        is_known = is_known and due != run.number and is_compared
         if is_same and state == "grown" and last != run.number:
             # It is said once that a file has grown.
             catalogue.base.execute("UPDATE files SET state = 'good', detail = '' WHERE file = ?", (file,))
         if not is_done and (run.scope == "all" or not is_known):
-            chosen.append((-stamp.size, real_path(path)))
-    return [(-size, path) for size, path in sorted(chosen)]
+            wanted = sorted({*algorithms, *(("sha256",) if is_digested else ())})
+            chosen.append(Item(stamp.size, real_path(path), wanted))
+    return sorted(chosen, key=lambda item: (-item.size, item.path))
 
 
-def batches(files: Sequence[Tuple[int, str]], batch: Optional[int], seconds: float) -> List[List[str]]:
+def batches(files: Sequence[Item], batch: Optional[int], seconds: float) -> List[List[Item]]:
     """The files of each job: so many, or as many as take some seconds."""
-    jobs: List[List[str]] = []
+    jobs: List[List[Item]] = []
     left = 0.0
-    for size, path in files:
-        cost = FILE_SECONDS + size / BYTES_A_SECOND
+    for item in files:
+        cost = FILE_SECONDS + item.size / BYTES_A_SECOND
         if not jobs or (len(jobs[-1]) >= batch if batch else left < cost):
             jobs.append([])
             left = seconds
-        jobs[-1].append(path)
+        jobs[-1].append(item)
         left -= cost
     return jobs

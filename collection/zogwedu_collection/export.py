@@ -21,6 +21,7 @@ TEXT_KEYS = {
     "counts": "run, file, md5(name)",
     "years": "file, md5(year), md5(kind)",
     "hosts": "file, md5(host)",
+    "stated": "file, md5(algorithm), md5(manifest)",
 }
 INDEXES = (
     "captures_by_target ON captures (md5(target), instant)",

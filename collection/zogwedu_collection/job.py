@@ -9,17 +9,17 @@ import os
 import socket
 import subprocess
 import time
-from typing import Any, Dict, IO, List, Optional, Sequence, Tuple
+from typing import Any, Dict, IO, Iterator, List, NamedTuple, Optional, Sequence, Tuple
 
-from .damaged import Pieces, TooSlow, counted_pieces, good_records, patience_for
+from .damaged import Pieces, TooSlow, counted_pieces, good_of_members, good_records, patience_for
 from .disk import Stamp, open_regular, open_stamp, reason_of, stamp_of, temporary_folder
 from .pace import Pace
 from .parts import SURVEY, Parts, Tally
 from .program import Settings, said
-from .space import Room
-from .states import READ
+from .space import Full, Room
+from .states import DAMAGED, READ
 from .texts import counted
-from .unpack import PIECE, Damaged, Unsupported, pieces_of, unpacked, write_all
+from .unpack import PIECE, Damaged, Unsupported, is_of_gzip, pieces_of, unpacked, write_all
 
 # The words of each command, by the name of what it writes, and the statuses with which it is done.
 COMMANDS = {
@@ -42,6 +42,14 @@ DONE = {
 IN_ORDER = ("list", "fixity", "check", "summary")
 
 
+class Item(NamedTuple):
+    """A file that is to be read: its size in bytes, and the algorithms of the digests that are wanted of all of it."""
+
+    size: int
+    path: str
+    algorithms: Sequence[str] = ()
+
+
 @dataclasses.dataclass
 class Outcome:
     """What came of a job."""
@@ -53,15 +61,20 @@ class Outcome:
     host: str = dataclasses.field(default_factory=lambda: os.environ.get("PARALLEL_SSHHOST") or socket.gethostname())
     seconds: float = 0.0
     statuses: Dict[str, Optional[int]] = dataclasses.field(default_factory=dict)
-    sha256: Optional[str] = None
+    digests: Dict[str, str] = dataclasses.field(default_factory=dict)  # of the whole file, by algorithms
     no_bytes: int = 0
-    pieces: Optional[Pieces] = None  # of a refused file, where they are known
+    pieces: Optional[Pieces] = None  # of a damaged file, where they are known
     places: Dict[str, List[int]] = dataclasses.field(default_factory=dict)  # of the parts of what was written
+
+    @property
+    def sha256(self) -> Optional[str]:
+        """The SHA-256 of the whole file, where it was asked for."""
+        return self.digests.get("sha256")
 
     def has_rows(self) -> bool:
         """Whether the commands wrote what is there of a file, or of the good records of a damaged one."""
         return self.state in READ or (
-            self.state == "refused" and self.pieces is not None and self.pieces.good_records > 0
+            self.state in DAMAGED and self.pieces is not None and self.pieces.good_records > 0
         )
 
     def values(self) -> Dict[str, Any]:
@@ -77,7 +90,7 @@ def outcome_of(values: Dict[str, Any]) -> Outcome:
     outcome.pieces = None if pieces is None else Pieces(**pieces)
     # The name of a folder in it may not be UTF-8, and the catalogue keeps text.
     outcome.detail = outcome.detail.encode("utf-8", "backslashreplace").decode("utf-8")
-    if not isinstance(outcome.path, str) or not isinstance(outcome.statuses, dict):
+    if not isinstance(outcome.path, str) or not all(isinstance(it, dict) for it in (outcome.statuses, outcome.digests)):
         raise ValueError("no outcome")
     return outcome
 
@@ -126,14 +139,15 @@ class Source:
         self.room.release()
 
 
-def sha256_of(file: IO[bytes], pace: Pace) -> str:
-    """The SHA-256 of a whole file."""
-    digest = hashlib.sha256()
+def digests_of(file: IO[bytes], algorithms: Sequence[str], pace: Pace) -> Dict[str, str]:
+    """Digests of a whole file, by their algorithms."""
+    digests = {name: hashlib.new(name) for name in algorithms}
     file.seek(0)
-    for piece in iter(lambda: file.read(PIECE), b""):
-        digest.update(piece)
+    for piece in iter(lambda: file.read(PIECE) if digests else b"", b""):
+        for digest in digests.values():
+            digest.update(piece)
         pace.take(len(piece))
-    return digest.hexdigest()
+    return {name: digest.hexdigest() for name, digest in digests.items()}
 
 
 def failure_of(command: str, status: int, message: str) -> Optional[Tuple[str, str]]:
@@ -149,11 +163,12 @@ def failure_of(command: str, status: int, message: str) -> Optional[Tuple[str, s
 class Job:
     """The commands over one file."""
 
-    def __init__(self, settings: Settings, path: str, folder: str, jobs: str) -> None:
+    def __init__(self, settings: Settings, item: Item, folder: str, jobs: str) -> None:
         """`folder` takes what the job writes, and `jobs` is the folder of all jobs of the run."""
         self.settings = settings
         self.path = os.path.join(folder, "part")
-        self.outcome = Outcome(path)
+        self.item = item
+        self.outcome = Outcome(item.path)
         self.pace = Pace(jobs, settings.rate)
         self.room = Room(jobs, settings.unpacked, settings.jobs or os.cpu_count() or 1)
         self.where = temporary_folder(settings.temporary)
@@ -176,15 +191,14 @@ class Job:
 
     def verdict_on(self, file: IO[bytes]) -> Tuple[str, str]:
         """Reads the file. Returns its state and a few words about it."""
-        if self.settings.digest:
-            self.outcome.sha256 = sha256_of(file, self.pace)
-            file.seek(0)
+        self.outcome.digests = digests_of(file, self.item.algorithms, self.pace)
+        file.seek(0)
         try:
             source = Source(file, self.where, self.pace, self.room)
             with contextlib.closing(source):
                 return self.judge(source)
         except Damaged as damage:
-            return "gunzip", str(damage)
+            return self.judge_compressed(file, str(damage))
         except Unsupported as reason:
             return "unsupported", str(reason)
         finally:
@@ -226,6 +240,49 @@ class Job:
             detail += words
         self.outcome.pieces = pieces
         return "refused", detail
+
+    def judge_compressed(self, file: IO[bytes], fault: str) -> Tuple[str, str]:
+        """Counts the pieces of a compressed file that is damaged, and runs the commands over a copy of the good records
+        in its good members. Frames of zstd aren't looked for."""
+        self.room.release()
+        if not is_of_gzip(file):
+            return "gunzip", fault
+        self.pace.take(os.fstat(file.fileno()).st_size)
+        try:
+            return self.judge_members(file, fault)
+        except TooSlow as error:
+            return "gunzip", "%s; its good records aren't known: %s" % (fault, error)
+        finally:
+            self.outcome.statuses = {}
+
+    def judge_members(self, file: IO[bytes], fault: str) -> Tuple[str, str]:
+        """Does that. Damage is raised where the file changed."""
+        pieces = Pieces()
+        try:
+            found = good_of_members(self.settings.warc, file, self.kept, pieces)
+            copy = unpacked(found, self.where, self.room)
+        except Full:
+            copy = None
+        if copy is None:
+            return "no-room", "%s; %s" % (fault, self.no_room("copy its good records to"))
+        with copy:
+            detail = "%s; %s" % (fault, pieces.told())
+            if not pieces.damages:
+                return "failed", detail + ", so it changed, or its disk fails"
+            if pieces.good_records:
+                state, words = self.judge_copy(Source(copy, self.where, Pace("", None), self.room), pieces)
+                if state != "refused":
+                    return state, words
+                detail += words
+        self.outcome.pieces = pieces
+        return "gunzip", detail
+
+    def kept(self, pieces: Iterator[bytes]) -> IO[bytes]:
+        """What is unpacked, in a file without a name. Full where there is no room."""
+        out = unpacked(pieces, self.where, self.room)
+        if out is None:
+            raise Full
+        return out
 
     def judge_copy(self, copy: Source, pieces: Pieces) -> Tuple[str, str]:
         """Runs the commands over a copy of the good records of a file, which has what was counted."""

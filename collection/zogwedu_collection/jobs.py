@@ -2,32 +2,25 @@
 renaming."""
 from __future__ import annotations
 
-import contextlib
 import dataclasses
 import json
 import os
 import shutil
-import signal
 import tempfile
-import traceback
-from typing import IO, Any, Dict, List, NoReturn, Optional, Sequence
+from typing import IO, Any, Dict, List, Sequence
 
 from .disk import made_folder, put_folder, temporary_folder
-from .job import Job, Outcome
+from .job import Item, Outcome
+from .processes import ended, lifeline_in
 from .program import Settings, check_program
 from .texts import Trouble, shown
 from .unpack import NO_ROOM, PIECE
 
-GRACE_SECONDS = 5.0
 # Where the files of a job begin, and how many they are. Each line is as long as any other.
 LINE = b"%016d %08d\n"
 
 
-class TookTooLong(Exception):
-    """The time of a job is over."""
-
-
-def write_jobs(folder: str, settings: Settings, jobs: Sequence[Sequence[str]]) -> None:
+def write_jobs(folder: str, settings: Settings, jobs: Sequence[Sequence[Item]]) -> None:
     """Writes a list of jobs, each of which is some files. It gets its name when all of it is on the disk. A line of
     `jobs` says where the files of a job are in `files`, and is as long as any other, so that a job reads no more than
     its own."""
@@ -37,9 +30,9 @@ def write_jobs(folder: str, settings: Settings, jobs: Sequence[Sequence[str]]) -
     with open(os.path.join(made, "settings"), "w", encoding="ascii") as out:
         json.dump(dataclasses.asdict(settings), out)
     with open(os.path.join(made, "jobs"), "wb") as lines, open(os.path.join(made, "files"), "wb") as files:
-        for paths in jobs:
-            lines.write(LINE % (files.tell(), len(paths)))
-            files.writelines(json.dumps(path).encode("ascii") + b"\n" for path in paths)
+        for items in jobs:
+            lines.write(LINE % (files.tell(), len(items)))
+            files.writelines(json.dumps(item).encode("ascii") + b"\n" for item in items)
     put_folder(made, folder)
 
 
@@ -48,20 +41,20 @@ def count_of_jobs(folder: str) -> int:
     return os.path.getsize(os.path.join(folder, "jobs")) // len(LINE % (0, 0))
 
 
-def files_of(folder: str, number: int) -> List[str]:
+def files_of(folder: str, number: int) -> List[Item]:
     """The files of a job, by its number from 1."""
     length = len(LINE % (0, 0))
     with open(os.path.join(folder, "jobs"), "rb") as lines, open(os.path.join(folder, "files"), "rb") as files:
         lines.seek((number - 1) * length)
         at, count = map(int, lines.read(length).split())
         files.seek(at)
-        return [json.loads(files.readline()) for _ in range(count)]
+        return [Item(*json.loads(files.readline())) for _ in range(count)]
 
 
 def all_files(folder: str) -> List[str]:
     """The files of all jobs."""
     with open(os.path.join(folder, "files"), "rb") as files:
-        return [json.loads(line) for line in files]
+        return [Item(*json.loads(line)).path for line in files]
 
 
 def do_jobs(folder: str, numbers: Sequence[int]) -> int:
@@ -77,9 +70,10 @@ def do_jobs(folder: str, numbers: Sequence[int]) -> int:
         raise Trouble("no job %d: the list has 1 to %d" % (wrong[0], count))
     check_program(settings)
     check_room(settings)
+    lifeline = lifeline_in(os.environ)
     for number in numbers:
         if not os.path.exists(os.path.join(folder, "done", str(number))):
-            do_job(settings, folder, number)
+            do_job(settings, folder, number, lifeline)
     return 0
 
 
@@ -93,31 +87,31 @@ def check_room(settings: Settings) -> None:
             raise Trouble("--temporary: %s: %s" % (shown(folder), error.strerror)) from None
 
 
-def do_job(settings: Settings, folder: str, number: int) -> None:
+def do_job(settings: Settings, folder: str, number: int, lifeline: Sequence[int]) -> None:
     """Does a job: what it found of its files is one stream, and a line for each of them."""
     done = os.path.join(folder, "done", str(number))
     own = made_folder("%d." % number, os.path.join(folder, "work"))
     try:
         with open(os.path.join(own, "output"), "wb") as output, open(os.path.join(own, "outcomes"), "wb") as outcomes:
-            for path in files_of(folder, number):
-                values = do_file(settings, path, folder, output)
+            for item in files_of(folder, number):
+                values = do_file(settings, item, folder, output, lifeline)
                 outcomes.write(json.dumps(values).encode("ascii") + b"\n")
         put_folder(own, done)
-    except OSError:
+    except BaseException as error:
         shutil.rmtree(own, ignore_errors=True)
-        if not os.path.exists(done):
+        if not (isinstance(error, OSError) and os.path.exists(done)):
             raise
 
 
-def do_file(settings: Settings, path: str, folder: str, output: IO[bytes]) -> Dict[str, Any]:
+def do_file(settings: Settings, item: Item, folder: str, output: IO[bytes], lifeline: Sequence[int]) -> Dict[str, Any]:
     """Does what a job does over one file in a process of its own, which is ended when the time of the file is over.
     Returns the outcome. What the process wrote is added to the stream once it is whole: a process that can't be ended
     may still write."""
     own = made_folder("file.", os.path.join(folder, "work"))
     try:
-        why = ended(settings, path, own, folder)
+        why = ended(settings, item, own, folder, lifeline)
         if why is not None:
-            return Outcome(path, detail=why).values()
+            return Outcome(item.path, detail=why).values()
         with open(os.path.join(own, "outcome"), "rb") as file:
             values: Dict[str, Any] = json.load(file)
         begin = output.tell()
@@ -128,61 +122,3 @@ def do_file(settings: Settings, path: str, folder: str, output: IO[bytes]) -> Di
         return values
     finally:
         shutil.rmtree(own, ignore_errors=True)
-
-
-def ended(settings: Settings, path: str, own: str, folder: str) -> Optional[str]:
-    """Runs the process over a file to its end. Returns why there is no outcome, or None."""
-    child = os.fork()
-    if child == 0:
-        do_and_exit(Job(settings, path, own, folder), own)
-    signal.signal(signal.SIGALRM, ring)
-    try:
-        signal.setitimer(signal.ITIMER_REAL, settings.timeout or 0)
-        status = os.waitpid(child, 0)[1]
-        signal.setitimer(signal.ITIMER_REAL, 0)
-    except TookTooLong:
-        kill(child)
-        return "took too long"
-    except BaseException:
-        kill(child)
-        raise
-    if os.WIFSIGNALED(status):
-        return "the job was ended by signal %d" % os.WTERMSIG(status)
-    if os.WEXITSTATUS(status):
-        return "the job ended with status %d" % os.WEXITSTATUS(status)
-    return None
-
-
-def do_and_exit(job: Job, own: str) -> NoReturn:
-    """What the process over a file does. It has a group of processes of its own, with the program that it runs."""
-    status = 1
-    try:
-        os.setpgid(0, 0)
-        signal.signal(signal.SIGTERM, signal.SIG_DFL)
-        values = job.do().values()
-        with open(os.path.join(own, "outcome"), "wb") as out:
-            out.write(json.dumps(values).encode("ascii"))
-        status = 0
-    except BaseException:  # whatever it is, the process ends here
-        traceback.print_exc()
-    finally:
-        os._exit(status)
-
-
-def ring(_signal: int, _frame: object) -> NoReturn:
-    raise TookTooLong
-
-
-def kill(child: int) -> None:
-    """Ends the processes of a job. One that the system doesn't let end isn't waited for."""
-    signal.setitimer(signal.ITIMER_REAL, 0)
-    for end in (os.killpg, os.kill):
-        with contextlib.suppress(ProcessLookupError):
-            end(child, signal.SIGKILL)
-    try:
-        signal.setitimer(signal.ITIMER_REAL, GRACE_SECONDS)
-        os.waitpid(child, 0)
-    except TookTooLong:
-        return
-    finally:
-        signal.setitimer(signal.ITIMER_REAL, 0)

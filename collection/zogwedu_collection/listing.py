@@ -10,7 +10,7 @@ from .ages import age_lines, is_late, last_end, oldest
 from .alarm import Alarm, acknowledged, looks, recovered, shown_looks
 from .captures import Capture
 from .catalogue import Catalogue
-from .states import STATES
+from .states import DAMAGED, STATES, as_list
 from .texts import Stored, counted, escaped, path_bytes, real_path, shown
 from .watched import FILE, Watched, values_of, watched
 
@@ -41,10 +41,10 @@ def unhashed(catalogue: Catalogue) -> int:
 
 
 def damaged(catalogue: Catalogue) -> Tuple[int, int, int]:
-    """Of the refused files: how many good records they have, how many bytes these have, and how many are damaged."""
+    """Of the damaged files: how many good records they have, how many bytes these have, and how many are damaged."""
     query = (
         "SELECT coalesce(sum(good_records), 0), coalesce(sum(good_bytes), 0), coalesce(sum(damaged), 0)"
-        " FROM checks JOIN files USING (file, run) WHERE files.state = 'refused'"
+        " FROM checks JOIN files USING (file, run) WHERE files.state IN (%s)" % as_list(DAMAGED)
     )
     row = catalogue.one(query)
     return row[0], row[1], row[2]
@@ -77,7 +77,7 @@ def status_text(catalogue: Catalogue, alarm: Alarm) -> Iterator[str]:
     if empty:
         yield "no-bytes\t%d\t%s\n" % (empty, NO_BYTES)
     if bad:
-        about = "bytes of the refused files", counted(records, "good record"), counted(good, "byte")
+        about = "bytes of the damaged files", counted(records, "good record"), counted(good, "byte")
         yield "damaged\t%d\t%s; beside them %s, %s\n" % (bad, *about)
     if unhashed(catalogue):
         yield "unhashed\t%d\t%s\n" % (unhashed(catalogue), UNHASHED)

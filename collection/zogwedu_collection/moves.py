@@ -2,15 +2,16 @@
 from __future__ import annotations
 
 import collections
-from typing import Dict, List, Sequence, Set
+from typing import Dict, List, Sequence, Set, Tuple
 
 from .catalogue import OF_A_FILE, Catalogue
 from .discover import Found, all_listed, is_below, plain_paths
+from .job_folders import drop_logs
 from .states import ABOUT_BYTES, READ, as_list
 from .texts import real_path
 from .watched import end_watch, watched
 
-ABOUT_A_FILE = (*OF_A_FILE, "readings", "checks", "counts", "changes", "accepted", "acknowledged", "files")
+ABOUT_A_FILE = (*OF_A_FILE, "readings", "checks", "counts", "changes", "accepted", "acknowledged", "stated", "files")
 COLUMNS = {"records": "position, at_offset, length, kind, date, id, target", "digests": "position, verdict, id, digest"}
 
 
@@ -26,14 +27,14 @@ def settle_moves(catalogue: Catalogue, run: int) -> None:
 
 def same_files(catalogue: Catalogue, run: int) -> Dict[int, List[int]]:
     """For each file that is new in a run, those that are gone and have its size, its ids and its digests. Where both
-    have the SHA-256 of the whole file it decides."""
+    have the SHA-256 of the whole file it decides. A file of which a list states a checksum has to be where it was."""
     rows = catalogue.rows(
         "SELECT new.file, new.sha256, old.file, old.sha256 FROM changes JOIN files AS new ON new.file = changes.file"
         " JOIN readings AS last ON last.file = new.file"
         " JOIN readings AS earlier ON earlier.size = last.size AND earlier.records = last.records"
         " JOIN files AS old ON old.file = earlier.file WHERE changes.run = ? AND change = 'new'"
         " AND new.state IN (%s) AND old.state = 'gone' AND last.records > 0 AND coalesce(earlier.damaged, 0) = 0"
-        " ORDER BY new.file" % as_list(READ),
+        " AND NOT EXISTS (SELECT 1 FROM stated WHERE stated.file = old.file) ORDER BY new.file" % as_list(READ),
         (run,),
     )
     found: Dict[int, List[int]] = collections.defaultdict(list)
@@ -76,11 +77,11 @@ def join_files(catalogue: Catalogue, run: int, before: int, file: int) -> None:
     )
 
 
-def forget_files(catalogue: Catalogue, paths: Sequence[str]) -> List[str]:
+def forget_files(catalogue: Catalogue, paths: Sequence[str]) -> Tuple[List[str], List[str]]:
     """Ends the watch of these folders and lists, and forgets their files, and other files of these paths or below them
-    that are gone or outside of the collection. Returns those that stay, since the collection has them. Where a list of
-    files can't be read, any file may be in it."""
-    kept = []
+    that are gone or outside of the collection. Returns those that were forgotten, and those that stay, since the
+    collection has them. Where a list of files can't be read, any file may be in it."""
+    forgotten, kept = [], []
     with catalogue.transaction():
         ended = end_watch(catalogue, paths)
         was_listed, lists, whole = set(all_listed(ended, Found())), Found(), watched(catalogue)
@@ -94,7 +95,8 @@ def forget_files(catalogue: Catalogue, paths: Sequence[str]) -> List[str]:
                 kept.append(path)
             else:
                 forget(catalogue, file)
-    return kept
+                forgotten.append(path)
+    return forgotten, kept
 
 
 def forget(catalogue: Catalogue, file: int) -> None:
@@ -116,5 +118,6 @@ def prune(catalogue: Catalogue, keep: int) -> int:
                 last += " UNION " + about_bytes % as_list(ABOUT_BYTES)
             query = "DELETE FROM %s WHERE run <= ? AND (file, run) NOT IN (%s)" % (table, last)
             dropped += catalogue.base.execute(query, (oldest - keep,)).rowcount
+    drop_logs(catalogue, oldest - keep)
     catalogue.patiently("VACUUM")
     return dropped

@@ -18,15 +18,14 @@ MOST_SECONDS = 60
 
 @dataclasses.dataclass(frozen=True)
 class Settings:
-    """How the files are read: by which program, where they are unpacked, in which time (seconds), whether the SHA-256
-    of each whole file is kept, how many bytes all jobs together read in a second, how many the jobs of a machine
-    unpack at once, and how many jobs a machine does at once, where that is known."""
+    """How the files are read: by which program, where they are unpacked, in which time (seconds), how many bytes all
+    jobs together read in a second, how many the jobs of a machine unpack at once, and how many jobs a machine does at
+    once, where that is known."""
 
     warc: str
     version: str
     temporary: Optional[str] = None
     timeout: Optional[float] = None
-    digest: bool = False
     rate: Optional[int] = None
     unpacked: int = Limits.unpacked
     jobs: Optional[int] = None

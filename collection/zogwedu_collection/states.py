@@ -23,8 +23,10 @@ ALARMING = (
     *("altered", "bad", "rotten", "refused", "gunzip"),
     *("gone", "failed", "no-room", "unread"),
 )
-# The rows of such a reading replace those of the one before. So do those of the good records of a refused file.
+# The rows of such a reading replace those of the one before. So do those of the good records of a damaged file.
 READ = ("good", "grown", "findings", "unchecked", "bad")
+# The good records of such a file are read, as far as they are found.
+DAMAGED = ("refused", "gunzip")
 # States that say something of the bytes of a file, and not of the machine that read it.
 ABOUT_BYTES = (*READ, "refused", "gunzip", "no-room", "rotten", "altered")
 TRIED_AGAIN = ("no-room", "failed", "changing", "unsupported", "unread", "gone")

@@ -5,17 +5,19 @@ import contextlib
 import dataclasses
 import json
 import os
-import re
 import shutil
 import sqlite3
-from typing import Any, List, Optional, Sequence, Tuple
+from typing import Any, Iterator, List, Optional, Tuple
 
+from .alarm import log_state
 from .catalogue import OF_A_FILE, Catalogue
 from .compared import UNACCEPTED, compare, drop_beside
 from .disk import Stamp
 from .job import COMMANDS, Outcome, outcome_of
 from .jobs import all_files, files_of
+from .job_folders import drop_folders, folders_of, names_in
 from .lines import Sums, capture_rows, digest_rows, finding_rows, payload_rows, payloads_of, record_rows
+from .manifest import compare_stated
 from .moves import settle_moves
 from .parts import Parts
 from .states import ABOUT_BYTES, as_list
@@ -79,26 +81,19 @@ def before_job(catalogue: Catalogue, path: str) -> Before:
     return Before(file, size, modified, sha256, bool(has_reading), read_sha256, rotten)
 
 
-def take_in_all(catalogue: Catalogue, is_last: bool = True) -> int:
-    """Takes in what the jobs of the last run left in its folders. Returns the number of jobs left. `is_last`: no job is
-    under way any more, so that the folders are removed."""
-    last, left = catalogue.last_run(), 0
-    for name in os.listdir(catalogue.jobs):
-        folder = os.path.join(catalogue.jobs, name)
-        is_open = last is not None and last.ended is None and re.fullmatch(r"%d-\d+" % last.number, name)
-        if last is not None and is_open:
-            left = end_run(catalogue, last.number, folder)
-        if is_last or left == 0:
-            shutil.rmtree(folder, ignore_errors=True)
+def take_in_all(catalogue: Catalogue) -> int:
+    """Takes in what the jobs of the last run left in its folders, and ends it where all are done. Returns how many
+    files are left of the newest list, which has all that the lists before it left."""
+    last = catalogue.last_run()
+    folders = [] if last is None or last.ended is not None else folders_of(catalogue, last.number)
+    if last is None or not folders:
+        drop_folders(catalogue, None)
+        return 0
+    for folder in folders[:-1]:
+        take_in(catalogue, last.number, folder)
+    left = end_run(catalogue, last.number, folders[-1])
+    drop_folders(catalogue, last.number if left else None)
     return left
-
-
-def names_in(folder: str) -> List[str]:
-    """The names in a folder; none where it can't be read."""
-    try:
-        return os.listdir(folder)
-    except OSError:
-        return []
 
 
 def end_run(catalogue: Catalogue, run: int, folder: str) -> int:
@@ -106,7 +101,7 @@ def end_run(catalogue: Catalogue, run: int, folder: str) -> int:
     take_in(catalogue, run, folder)
     try:
         paths = all_files(folder)
-    except (OSError, ValueError) as error:
+    except (OSError, ValueError, TypeError) as error:
         say("the list of jobs in %s can't be read: %s" % (shown(folder), error))
         return 1
     query = "SELECT path FROM files JOIN checks USING (file) WHERE checks.run = ? AND files.state <> 'unread'"
@@ -137,24 +132,32 @@ def close_run(catalogue: Catalogue, run: int) -> None:
 
 
 def take_in(catalogue: Catalogue, run: int, folder: str) -> None:
-    """Takes in each job that is done: many in one transaction. What is taken in twice replaces itself."""
+    """Takes in each job that is done."""
+    for _ in taken_in(catalogue, run, folder):
+        pass
+
+
+def taken_in(catalogue: Catalogue, run: int, folder: str) -> Iterator[str]:
+    """Takes in each job that is done: many in one transaction. What is taken in twice replaces itself. Gives the names
+    of the jobs that were taken in."""
     names = names_in(os.path.join(folder, "done"))
     while names:
-        drop_all(folder, take_in_some(catalogue, run, folder, names))
-
-
-def drop_all(folder: str, names: Sequence[str]) -> None:
-    for name in names:
-        drop(folder, name)
+        for name in take_in_some(catalogue, run, folder, names):
+            drop(folder, name)
+            yield name
 
 
 def take_in_some(catalogue: Catalogue, run: int, folder: str, names: List[str]) -> List[str]:
     """Takes in the last of these jobs, and takes them from the list. Returns them."""
-    taken, rows = [], 0
+    taken: List[str] = []
+    found: List[Outcome] = []
+    rows = 0
     with catalogue.transaction():
         while names and rows < MOST_ROWS:
             taken.append(names.pop())
-            rows += take_in_job(catalogue, run, folder, taken[-1])
+            rows += take_in_job(catalogue, run, folder, taken[-1], found)
+    for outcome in found:
+        log_state(outcome.state, stored_path(outcome.path), outcome.detail)
     return taken
 
 
@@ -167,18 +170,21 @@ def drop(folder: str, name: str) -> None:
     shutil.rmtree(away, ignore_errors=True)
 
 
-def take_in_job(catalogue: Catalogue, run: int, folder: str, name: str) -> int:
-    """Takes in what a job found. Returns the number of rows. What isn't whole is left out, and its files are unread."""
+def take_in_job(catalogue: Catalogue, run: int, folder: str, name: str, taken: List[Outcome]) -> int:
+    """Takes in what a job found, and adds it to what was taken in. Returns the number of rows. What isn't whole is left
+    out, and its files are unread."""
     try:
-        paths = files_of(folder, int(name))
-    except (OSError, ValueError):
+        paths = [item.path for item in files_of(folder, int(name))]
+    except (OSError, ValueError, TypeError):
         paths = []
     try:
         with catalogue.savepoint():
             found = outcomes_in(os.path.join(folder, "done", name))
             if [outcome.path for outcome in found] != paths:
                 raise ValueError("the outcomes of its %d files aren't there" % len(paths))
-            return sum(load_file(catalogue, run, outcome, parts_of(folder, name, outcome)) for outcome in found)
+            rows = sum(load_file(catalogue, run, outcome, parts_of(folder, name, outcome)) for outcome in found)
+        taken += found
+        return rows
     except NOT_WHOLE as error:
         why = error or type(error).__name__
         say("what job %s left isn't whole, and its files are to be read again: %s" % (name, why))
@@ -233,9 +239,10 @@ def load_file(catalogue: Catalogue, run: int, outcome: Outcome, parts: Parts) ->
     judged(before, outcome)
     is_compared = before.has_reading and outcome.state != "rotten"
     is_same = is_compared and compare(catalogue, before.file, before.read_sha256, parts, outcome)
+    is_misstated = compare_stated(catalogue, before.file, outcome)
     put_check(catalogue, run, before.file, outcome)
     is_partly_read = outcome.state == "no-room" and outcome.statuses.get("summary") == 0 and not before.has_reading
-    rows, is_new = 0, outcome.state in UNACCEPTED and before.has_reading
+    rows, is_new = 0, outcome.state in UNACCEPTED and (before.has_reading or is_misstated)
     if has_rows or outcome.state == "altered":
         drop_beside(catalogue, before.file)
     if stamp is not None and (is_partly_read or (has_rows and (is_new or outcome.state != "rotten"))):

@@ -1,11 +1,12 @@
-"""Texts: how a file's name is kept, how it is shown, and lines for standard error."""
+"""Texts: how a file's name is kept, and how it is shown. What is said to people goes by `messages`."""
 from __future__ import annotations
 
 import os
-import sys
 import time
 import unicodedata
 from typing import Union
+
+from .messages import inform as inform, say as say
 
 Stored = Union[str, bytes]
 # Control characters, and those that change the direction of a line, break it, or can't be seen.
@@ -19,14 +20,6 @@ class Trouble(Exception):
     def __init__(self, line: str, status: int = 3) -> None:
         super().__init__(line)
         self.status = status
-
-
-def say(line: str) -> None:
-    """A line on standard error. Where it can't be written there is nobody to say so to."""
-    try:
-        print("warc-collection: " + line, file=sys.stderr, flush=True)
-    except (OSError, ValueError):
-        return
 
 
 def decoded(value: bytes) -> Stored:

@@ -6,17 +6,20 @@ import os
 from typing import Any, Dict, List, Mapping, Optional, Sequence
 
 from .catalogue import Catalogue
+from .states import as_list
 from .texts import now, real_path, stored_path
 
-FOLDER, FILE, LIST = "folder", "file", "list"
+FOLDER, FILE, LIST, MANIFEST = "folder", "file", "list", "manifest"
+# What names files: a list of names, and one of checksums.
+NAMING = (LIST, MANIFEST)
 COLUMNS = "path, kind, given_in, added, read_on, trouble"
 NOT_THERE = "wasn't there"
 
 
 @dataclasses.dataclass(frozen=True)
 class Watched:
-    """A folder, a file or a list of files. `given_in` is the folder that relative names of a list are meant from, and
-    `trouble` says what kept the last run from reading all of it."""
+    """A folder, a file, a list of files or one of checksums. `given_in` is the folder that relative names of a list of
+    files are meant from, and `trouble` says what kept the last run from reading all of it."""
 
     path: str
     kind: str
@@ -32,12 +35,13 @@ def watched(catalogue: Catalogue) -> List[Watched]:
     return [Watched(real_path(row[0]), row[1], real_path(row[2]), *row[3:]) for row in rows]
 
 
-def watch(catalogue: Catalogue, paths: Sequence[str], lists: Sequence[str]) -> None:
+def watch(catalogue: Catalogue, paths: Sequence[str], lists: Sequence[str], manifests: Sequence[str]) -> None:
     """Adds to what is watched. What was watched before stays: a folder that isn't watched any more would be good for
     ever."""
     here = os.getcwd()
     named = [(os.path.abspath(path), kind_of(path)) for path in paths]
-    for path, kind in [*named, *((os.path.abspath(path), LIST) for path in lists)]:
+    named += [(os.path.abspath(path), kind) for kind, them in zip(NAMING, (lists, manifests)) for path in them]
+    for path, kind in named:
         add(catalogue, Watched(path, kind, here, now()))
 
 
@@ -49,21 +53,21 @@ def kind_of(path: str) -> str:
 def add(catalogue: Catalogue, it: Watched) -> None:
     """Adds a folder, a file or a list. A list that is named again has its relative names from the new place."""
     path, given_in = stored_path(it.path), stored_path(it.given_in)
-    is_list = it.kind == LIST
-    here = "path = ? AND (kind = '%s') = ?" % LIST
-    known = catalogue.one("SELECT 1 FROM watched WHERE " + here, (path, is_list))
+    here = "path = ? AND CASE WHEN kind IN (%s) THEN kind ELSE '' END = ?" % as_list(NAMING)
+    kind = it.kind if it.kind in NAMING else ""
+    known = catalogue.one("SELECT 1 FROM watched WHERE " + here, (path, kind))
     if known is None:
         values = (path, it.kind, given_in, it.added, it.read_on, it.trouble)
         catalogue.base.execute("INSERT INTO watched (%s) VALUES (?, ?, ?, ?, ?, ?)" % COLUMNS, values)
     else:
-        catalogue.base.execute("UPDATE watched SET given_in = ? WHERE " + here, (given_in, path, is_list))
+        catalogue.base.execute("UPDATE watched SET given_in = ? WHERE " + here, (given_in, path, kind))
 
 
 def note_reading(catalogue: Catalogue, troubles: Mapping[str, str]) -> None:
     """Notes which were read in this run, and what kept others from it. A folder is read if all below it is."""
     for it in watched(catalogue):
         trouble = trouble_of(it.path, troubles)
-        kind = it.kind if it.kind == LIST or not os.path.exists(it.path) else kind_of(it.path)
+        kind = it.kind if it.kind in NAMING or not os.path.exists(it.path) else kind_of(it.path)
         catalogue.base.execute(
             "UPDATE watched SET kind = ?, trouble = ?, read_on = ? WHERE path = ? AND kind = ?",
             (kind, trouble, it.read_on if trouble else now(), stored_path(it.path), it.kind),
@@ -83,6 +87,8 @@ def end_watch(catalogue: Catalogue, paths: Sequence[str]) -> List[Watched]:
     ended = [it for it in watched(catalogue) if it.path in paths and not (it.kind == FILE and os.path.exists(it.path))]
     for it in ended:
         catalogue.base.execute("DELETE FROM watched WHERE path = ? AND kind = ?", (stored_path(it.path), it.kind))
+        if it.kind == MANIFEST:
+            catalogue.base.execute("DELETE FROM stated WHERE manifest = ?", (stored_path(it.path),))
     return ended
 
 

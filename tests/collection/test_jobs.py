@@ -2,10 +2,13 @@
 from __future__ import annotations
 
 import os
-from typing import List
+import signal
+import subprocess
+import time
+from typing import Callable, List
 
 import pytest
-from conftest import Collection, record, to_read
+from conftest import Collection, record, script, to_read
 
 
 def plan(collection: Collection, count: int, *words: str) -> str:
@@ -74,3 +77,79 @@ def test_a_torn_job_is_left_out(collection: Collection, name: str, left: int) ->
 def test_one_job_needs_no_parallel(collection: Collection) -> None:
     collection.put("disk/a.warc", record(1))
     assert collection.night("disk", env={"PATH": collection.path("nothing")}).returncode == 0
+
+
+def pids(folder: str) -> List[int]:
+    """The processes that wrote their numbers into a folder."""
+    return [int(name) for name in os.listdir(folder)]
+
+
+def is_running(pid: int) -> bool:
+    """Whether a process is there and isn't a dead one that nobody has waited for."""
+    try:
+        with open("/proc/%d/stat" % pid, encoding="ascii") as file:
+            return file.read().rpartition(")")[2].split()[0] != "Z"
+    except OSError:
+        return False
+
+
+def wait_until(what: Callable[[], bool]) -> bool:
+    end = time.monotonic() + 60
+    while not what() and time.monotonic() < end:
+        time.sleep(0.05)
+    return what()
+
+
+def slow_program(collection: Collection) -> str:
+    """A program that takes ten minutes over a file. Each writes its number into the folder `there`."""
+    there = collection.path("there")
+    os.makedirs(there)
+    text = '[ "$1" = --version ] || { : > %s/$$; exec sleep 600; }\nexec %s "$@"\n' % (there, collection.warc)
+    return script(collection.path("slow"), text)
+
+
+def has_ended(collection: Collection) -> bool:
+    """Waits until none of these programs runs any more. Those that still do are ended here."""
+    found = pids(collection.path("there"))
+    is_over = wait_until(lambda: not any(map(is_running, found)))
+    for pid in filter(is_running, found):
+        os.kill(pid, signal.SIGKILL)
+    return is_over
+
+
+def children_of(pid: int) -> List[int]:
+    with open("/proc/%d/task/%d/children" % (pid, pid), encoding="ascii") as file:
+        return list(map(int, file.read().split()))
+
+
+@pytest.mark.parametrize("files, is_parallel_killed", [(1, False), (3, False), (3, True)])
+def test_no_job_outlives_a_run_that_is_killed(collection: Collection, files: int, is_parallel_killed: bool) -> None:
+    """Neither where one job is done without GNU parallel, nor where that does several, nor where it is killed too."""
+    for number in range(files):
+        collection.put("disk/%d.warc" % number, record(number))
+    words = ["--jobs", "2", "--batch", "1", "--warc", slow_program(collection), collection.path("disk")]
+    words, there = collection.words("run", *words), collection.path("there")
+    with subprocess.Popen(words, stdout=subprocess.DEVNULL, stderr=subprocess.DEVNULL) as child:
+        assert wait_until(lambda: len(pids(there)) == min(files, 2))
+        for pid in [*(children_of(child.pid) if is_parallel_killed else []), child.pid]:
+            os.kill(pid, signal.SIGKILL)
+    assert has_ended(collection)
+    assert len(pids(there)) == min(files, 2), "no more jobs are begun"
+    assert collection.night().returncode == 0
+    assert os.listdir(collection.path("catalogue/jobs")) == []
+
+
+def test_no_program_outlives_a_job_that_is_killed(collection: Collection) -> None:
+    """As GNU parallel kills one that doesn't end in time."""
+    jobs = plan(collection, 1, "--warc", slow_program(collection))
+    with subprocess.Popen(collection.words("job", jobs, "1"), stderr=subprocess.DEVNULL) as child:
+        assert wait_until(lambda: bool(pids(collection.path("there"))))
+        child.kill()
+    assert has_ended(collection)
+
+
+def test_a_number_that_is_no_pipe_ends_nothing(collection: Collection) -> None:
+    """A task of a scheduler may have the variable of another run."""
+    jobs = plan(collection, 1)
+    for value in ("0 1", "999 1", "x", "", "-1 -1", "9" * 30 + " 1"):
+        assert collection.run("job", jobs, "1", env={"WARC_COLLECTION_LIFELINE": value}).returncode == 0

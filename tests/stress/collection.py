@@ -28,16 +28,15 @@ import tempfile
 import threading
 import time
 import zlib
-from typing import Callable, Dict, Iterator, List, Optional, Set, Tuple
+from typing import Callable, Dict, Iterator, List, Optional, Tuple
 
-from collection_trial import HERE, MOST_SECONDS, TOP, Trial, put, put_script, to_read
+from collection_trial import HERE, MOST_SECONDS, TABLES, TOP, Trial, contents, path_of, put, put_script, to_read
 
 sys.path.insert(0, os.path.join(os.path.dirname(HERE), "reference"))
 import generate  # noqa: E402
 import warc_reference  # noqa: E402
 
 HOSTS = ("warc-stress-a", "warc-stress-b")
-TABLES = ("records", "captures", "digests", "payloads", "findings", "years", "hosts")
 IMAGE = b"\x89PNG\r\n\x1a\n" + bytes(range(256)) * 4
 NO_BYTES = b"sha1:3I42H3S6NNFQ2MSVX7XZKYAYSCX5QBYJ"
 # root without the right to open each file
@@ -359,7 +358,8 @@ def odd_requests(trial: Trial, _archives: str) -> None:
     trial.judge(done.returncode == 3 and b"gone" not in done.stdout, "a folder that is missing", done.stdout)
     os.rename(moved, folder)
     done = trial.run("odd-base", "run")
-    trial.judge(done.returncode in (0, 1) and to_read(done) == 0, "the folder is back", done.stderr)
+    is_right = (done.returncode, to_read(done)) == (3, 0) and b"wasn't there" not in done.stdout
+    trial.judge(is_right, "the folder is back, and the file that the list names isn't there", done.stdout)
     slow = put_script(trial.path("slow"), '[ "$1" = --version ] && exec %s --version\nsleep 100\n' % trial.warc)
     done = trial.run("odd-base", "run", "--warc", slow, "--timeout", "1", "--all")
     trial.judge(b"failed\t2\t" in done.stdout and b"took too long" in done.stdout, "--timeout", done.stdout)
@@ -591,23 +591,6 @@ class Reader(threading.Thread):
             base.execute("SELECT count(*) FROM files").fetchone()
             self.times += 1
             self.is_over.wait(2)
-
-
-def path_of(stored: object) -> bytes:
-    """A path that the catalogue keeps: text, or bytes that aren't UTF-8."""
-    return stored if isinstance(stored, bytes) else str(stored).encode("utf-8")
-
-
-def contents(trial: Trial, catalogue: str) -> Dict[str, Set[Tuple[object, ...]]]:
-    """All that a catalogue holds of its files, by their paths and without the runs."""
-    queries = {table: "SELECT path, %s.* FROM %s JOIN files USING (file)" % (table, table) for table in TABLES}
-    found = {table: {(row[0], *row[2:]) for row in trial.ask(catalogue, query)} for table, query in queries.items()}
-    about = "path, state, detail, size, modified, changed, inode, records"
-    found["files"] = set(trial.ask(catalogue, "SELECT %s FROM files" % about))
-    about = "readings.size, readings.modified, readings.changed, readings.inode, readings.records, good, unchecked, bad"
-    about += ", payloads_good, payloads_unchecked, payloads_bad"
-    found["readings"] = set(trial.ask(catalogue, "SELECT path, %s FROM readings JOIN files USING (file)" % about))
-    return found
 
 
 def disturbed(trial: Trial, archives: str, words: List[str], hosts: List[Host], disk: str, count: int) -> None:

@@ -9,6 +9,7 @@ and the undoing of codings where `make python` wasn't run.
 """
 from __future__ import annotations
 
+import collections
 import contextlib
 import glob
 import gzip
@@ -25,8 +26,9 @@ import string
 import subprocess
 import sys
 import tempfile
+import threading
 import time
-from typing import Callable, Dict, Iterator, List, Tuple
+from typing import Callable, Counter, Dict, Iterator, List, Tuple
 
 from collection_trial import TOP, Trial, put, put_script, record, running_with, to_read
 
@@ -117,7 +119,7 @@ def damaged_members(trial: Trial) -> None:
     bytes_of = {
         "padded": (two + bytes(5000), "good"),
         "garbage": (two + b"garbage", "damaged after %d bytes" % len(two)),
-        "after-padding": (two + bytes(10) + b"x", "damaged after %d bytes" % len(two)),
+        "after-padding": (two + bytes(10) + b"x", "damaged after %d bytes" % (len(two) + 10)),
         "cut": (two[:-9], "damaged after %d bytes" % len(one)),
         "short": (two[:9], "damaged after 0 bytes"),
         "flipped": (one + bytes([two[len(one)]]) + two[len(one) + 1 : -8] + b"12345678", "damaged after %d" % len(one)),
@@ -319,6 +321,7 @@ def run_beside_replay(trial: Trial) -> None:
     is_right = (done.returncode, done.stdout) == (3, b"") and b"changed since" in done.stderr
     trial.judge(is_right, "a run meanwhile", done.stdout + done.stderr + read(trial.path("said")))
     trial.run("c", "run")
+    trial.run("c", "accept", path)
     done = trial.run("c", "replay", URI.decode(), "9999")
     trial.judge(done.stdout == b"far", "afterwards", done.stdout + done.stderr)
 
@@ -1101,12 +1104,19 @@ def joined_damaged_files(trial: Trial) -> None:
 
 
 def later_damage(trial: Trial) -> None:
-    """A file that is damaged later has the rows of its good records, and without any those of its last good reading;
-    where it can't be read any more, the marks say both."""
+    """A file that is damaged later is altered. Once it is accepted it has the rows of its good records; where it can't
+    be read any more, the marks say both. Where nothing of it is good it is altered, and nothing can be accepted."""
     path = put(trial.path("archives", "a.warc"), page(1) + page(2, b"after the damage", AFTER))
     trial.run("c", "run", trial.path("archives"))
     put(path, DAMAGE + page(2, b"after the damage", AFTER))
     trial.run("c", "run")
+    is_right = trial.states("c") == {"a.warc": "altered"} and "; refused: F1 Version at 0" in trial.detail("c")
+    trial.judge(is_right, "a damaged file", trial.detail("c"))
+    done = trial.run("c", "find", AFTER.decode())
+    is_right = (done.returncode, done.stdout) == (1, b"") and b"a.warc (altered" in done.stderr
+    trial.judge(is_right, "no answer from it", done.stdout + done.stderr)
+    done = trial.run("c", "accept", path)
+    trial.judge(done.returncode == 0 and trial.states("c") == {"a.warc": "refused"}, "accepted", done.stderr)
     trial.judge(trial.count("c", "captures") == trial.count("c", "records") == 1, "its rows")
     done = trial.run("c", "find", URI.decode())
     trial.judge(done.returncode == 1 and b"may have it" in done.stderr, "what was lost", done.stderr)
@@ -1116,13 +1126,13 @@ def later_damage(trial: Trial) -> None:
     trial.judge(b"\tdamaged, read on 2" in done.stdout, "no permission", done.stdout)
     os.chmod(path, 0o644)
     put(path, DAMAGE * 9)
-    done = trial.run("c", "run")
-    is_right = trial.states("c") == {"a.warc": "refused"} and "0 good records, 0 bytes; 1 damage" in trial.detail("c")
-    trial.judge(is_right, "no good record", done.stdout)
-    done = trial.run("c", "find", AFTER.decode())
-    trial.judge(b"\tdamaged, read on 2" in done.stdout, "rows of before", done.stdout)
+    trial.run("c", "run")
+    is_right = trial.states("c") == {"a.warc": "altered"} and "0 good records, 0 bytes; 1 damage" in trial.detail("c")
+    trial.judge(is_right, "no good record", trial.detail("c"))
+    done = trial.run("c", "accept", path)
+    trial.judge(done.returncode == 1 and b"no new reading" in done.stderr, "nothing to accept", done.stderr)
     done = trial.run("c", "replay", AFTER.decode(), "9999")
-    trial.judge((done.returncode, done.stdout) == (3, b"") and b"changed since" in done.stderr, "replay", done.stderr)
+    trial.judge((done.returncode, done.stdout) == (1, b"") and b"may have it" in done.stderr, "replay", done.stderr)
     put(path, page(2, b"after the damage", AFTER))
     done = trial.run("c", "run")
     found = trial.run("c", "find", AFTER.decode()).stdout
@@ -1352,10 +1362,10 @@ def rot_beside_failures(trial: Trial) -> None:
     before = os.stat(path)
     put(path, data.replace(b"abc", b"axc"))
     os.utime(path, ns=(before.st_atime_ns, before.st_mtime_ns))
-    trial.run("c", "run", "--digest")
+    trial.run("c", "run", "--all", "--digest")
     trial.judge(trial.states("c")["a.warc"] == "rotten", "other bytes", trial.states("c"))
     os.chmod(path, 0)
-    trial.run("c", "run", before=LESS)
+    trial.run("c", "run", "--all", before=LESS)
     trial.judge(trial.states("c")["a.warc"] == "failed", "no permission", trial.states("c"))
     os.chmod(path, 0o644)
     trial.run("c", "run")
@@ -1367,7 +1377,7 @@ def rot_beside_failures(trial: Trial) -> None:
     trial.judge(trial.states("c")["a.warc"] == "rotten", "back again", trial.states("c"))
     for _ in range(3):
         os.chmod(path, 0)
-        trial.run("c", "run", before=LESS)
+        trial.run("c", "run", "--all", before=LESS)
     trial.run("c", "prune", "--keep", "1")
     os.chmod(path, 0o644)
     trial.run("c", "run")
@@ -1588,6 +1598,164 @@ def older_catalogue(trial: Trial) -> None:
 
 
 Part = Callable[[Trial], None]
+# A whole night
+
+
+def night_files(trial: Trial, count: int) -> Dict[str, str]:
+    """Files of all kinds on two disks, of which a fifth were read the night before. Returns the states that they have
+    to have in the end, by their names."""
+    kinds = ("good", "unchecked", "bad", "refused", "gunzip", "findings")
+    states = {}
+    for number in range(count):
+        kind = kinds[number % 50] if number % 50 < len(kinds) else "good"
+        name = "%04d-%s%s" % (number, kind, ".warc.gz" if kind == "gunzip" or number % 7 == 0 else ".warc")
+        states[name] = kind
+        put(trial.path("real", "disk%d" % (1 + number % 2), name), of_kind(kind, number, name.endswith(".gz")))
+        if number == count // 5:
+            mount_disks(trial)
+            done = trial.run("c", "run", *disks_of(trial))
+            trial.judge(done.returncode == 1, "the night before", done.stderr)
+    return {**states, **changed_files(trial, states, count // 5)}
+
+
+def of_kind(kind: str, number: int, is_compressed: bool) -> bytes:
+    """A file that has a state, with a page of its own."""
+    target = b"http://a.example/%d" % number
+    digest = {"unchecked": "-", "bad": "sha1:" + "A" * 32}.get(kind, "")
+    data = record("resource", number, DATE, target, b"page %d" % number, **({"block_digest": digest} if digest else {}))
+    data += data if kind == "findings" else b"garbage" if kind == "refused" else b""
+    packed_data = gzip.compress(data) if is_compressed else data
+    return packed_data[:-4] if kind == "gunzip" else packed_data
+
+
+def disks_of(trial: Trial) -> List[str]:
+    return [trial.path("disk%d" % disk) for disk in (1, 2)]
+
+
+def is_mounted(path: str) -> bool:
+    """Whether something is mounted at a path, also another folder of the same disk."""
+    with open("/proc/self/mounts", encoding="utf-8") as file:
+        return any(line.split(" ")[1] == path for line in file)
+
+
+def mount_disks(trial: Trial) -> None:
+    """Mounts the disks, as far as they aren't."""
+    for path in disks_of(trial):
+        os.makedirs(path, exist_ok=True)
+        if not is_mounted(path):
+            subprocess.run(["mount", "--bind", trial.path("real", os.path.basename(path)), path], check=True)
+
+
+def changed_files(trial: Trial, states: Dict[str, str], count: int) -> Dict[str, str]:
+    """Changes some of the files that were read. Returns their states."""
+    good = [name for name in sorted(states)[:count] if states[name] == "good" and not name.endswith(".gz")]
+    altered, cut, grown, gone = good[:4]
+    at = {name: trial.path("real", "disk%d" % (1 + int(name[:4]) % 2), name) for name in good[:4]}
+    put(at[altered], page(5, b"other", b"http://other.example/"))
+    put(at[cut], b"")
+    put(at[grown], read(at[grown]) + page(6, b"more", b"http://a.example/more"))
+    os.unlink(at[gone])
+    return {altered: "altered", cut: "altered", grown: "grown", gone: "gone"}
+
+
+class Asker(threading.Thread):
+    """A reader who asks all the time for a page that was read the night before, and knows the answer."""
+
+    def __init__(self, trial: Trial, number: int) -> None:
+        super().__init__(daemon=True)
+        self.words = trial.words("c", "find", "http://a.example/%d" % number)
+        self.is_over = threading.Event()
+        self.answers: Counter[Tuple[int, int]] = collections.Counter()
+        self.slowest = 0.0
+
+    def run(self) -> None:
+        while not self.is_over.is_set():
+            began = time.monotonic()
+            done = subprocess.run(self.words, capture_output=True, check=False)
+            self.slowest = max(self.slowest, time.monotonic() - began)
+            self.answers[done.returncode, done.stdout.count(b"\n")] += 1
+
+
+def files_done(trial: Trial, run: int) -> int:
+    """How many files a run has read by now."""
+    try:
+        return int(str(trial.ask("c", "SELECT count(*) FROM checks WHERE run = ?", run)[0][0]))
+    except sqlite3.OperationalError:
+        return 0
+
+
+def when_done(trial: Trial, child: subprocess.Popen[bytes], run: int, wanted: int) -> None:
+    """Waits until a run has read some files."""
+    while child.poll() is None and files_done(trial, run) < wanted:
+        time.sleep(0.05)
+    trial.judge(child.poll() is None, "the run is under way at %d files" % wanted)
+
+
+@contextlib.contextmanager
+def begun(trial: Trial) -> Iterator[subprocess.Popen[bytes]]:
+    """A run that was begun, and that is killed in the end if it isn't at its own. A job is few files, so that much is
+    under way."""
+    words = trial.words("c", "run", "--batch", "5")
+    with subprocess.Popen(words, stdin=subprocess.DEVNULL, stdout=subprocess.DEVNULL, stderr=subprocess.PIPE) as child:
+        try:
+            yield child
+        finally:
+            child.kill()
+
+
+def disturbed(trial: Trial, count: int) -> None:
+    """The night: it is killed, its disk is full, and a disk is lost while it is read and missing in the next run."""
+    with begun(trial) as child:
+        when_done(trial, child, 2, count // 5)
+    filler = trial.path("c", "filler")
+    with contextlib.suppress(OSError), open(filler, "wb", buffering=0) as out:
+        while True:
+            out.write(bytes(1 << 16))
+    done = trial.run("c", "run", "--batch", "5")
+    is_right = done.returncode == 3 and (b"full" in done.stderr or b"No space left" in done.stderr)
+    trial.judge(is_right, "a full disk", done.stderr)
+    os.unlink(filler)
+    with begun(trial) as child:
+        when_done(trial, child, 2, 3 * count // 5)
+        subprocess.run(["umount", "--lazy", trial.path("disk2")], check=True)
+        message = child.communicate()[1]
+    trial.judge(child.returncode in (1, 3), "a disk that is lost", message)
+    before = trial.states("c")
+    done = trial.run("c", "run")
+    trial.judge(done.returncode == 3 and b"see --allow-missing" in done.stderr, "the disk is missing", done.stderr)
+    trial.judge(trial.states("c") == before, "states stay", set(trial.states("c").items()) ^ set(before.items()))
+    mount_disks(trial)
+
+
+def whole_night(trial: Trial) -> None:
+    """A night of 2,000 files (or STRESS_NIGHT) with kill -9, a full disk, a lost mount and a reader who asks all the
+    time. In the end each file has its state, and the reader had the right answer each time."""
+    count = int(os.environ.get("STRESS_NIGHT", "2000"))
+    with small_disk(trial.path("c"), "%dk" % (40 * count + 20_000)):
+        try:
+            wanted = night_files(trial, count)
+            first = next(int(name[:4]) for name in sorted(wanted)[6:] if wanted[name] == "good" and "gz" not in name)
+            reader = Asker(trial, first)
+            reader.start()
+            disturbed(trial, count)
+            done = trial.run("c", "run")
+            reader.is_over.set()
+            reader.join()
+        finally:
+            for path in filter(is_mounted, disks_of(trial)):
+                subprocess.run(["umount", "--lazy", path], check=True)
+        trial.judge(done.returncode == 1, "the last run", done.stderr)
+        found = trial.states("c")
+        found = {
+            name: "grown" if wanted[name] == "grown" and state == "good" else state for name, state in found.items()
+        }
+        trial.judge(found == wanted, "the states", sorted(set(found.items()) ^ set(wanted.items()))[:12])
+        trial.judge(list(reader.answers) == [(0, 1)], "the reader", reader.answers)
+        once = trial.ask("c", "SELECT file, position FROM captures GROUP BY file, position HAVING count(*) > 1")
+        trial.judge(once == [] and trial.count("c", "records") >= count, "nothing is lost or counted twice", once)
+    print("%d answers, the slowest after %.1f s" % (sum(reader.answers.values()), reader.slowest))
+
+
 PARTS: List[Part] = [
     *(
         no_room,
@@ -1646,6 +1814,7 @@ PARTS: List[Part] = [
         rot_beside_failures,
         older_catalogue,
     ),
+    whole_night,
 ]
 
 

@@ -10,11 +10,13 @@ import sqlite3
 import subprocess
 import sys
 import time
-from typing import Counter, Dict, Iterator, List, Optional, Sequence, Tuple
+from typing import Counter, Dict, Iterator, List, Optional, Sequence, Set, Tuple
 
 HERE = os.path.dirname(os.path.abspath(__file__))
 TOP = os.path.dirname(os.path.dirname(HERE))
 MOST_SECONDS = 3600
+# What a catalogue has of each file.
+TABLES = ("records", "captures", "digests", "payloads", "findings", "years", "hosts")
 PROGRAM_COMMANDS = ("run", "plan", "replay", "find")
 Done = subprocess.CompletedProcess
 
@@ -152,6 +154,23 @@ class Trial:
     def detail(self, catalogue: str) -> str:
         """What is said of the files."""
         return " ".join(str(row[0]) for row in self.ask(catalogue, "SELECT detail FROM files ORDER BY path"))
+
+
+def path_of(stored: object) -> bytes:
+    """A path that the catalogue keeps: text, or bytes that aren't UTF-8."""
+    return stored if isinstance(stored, bytes) else str(stored).encode("utf-8")
+
+
+def contents(trial: Trial, catalogue: str) -> Dict[str, Set[Tuple[object, ...]]]:
+    """All that a catalogue holds of its files, by their paths and without the runs."""
+    queries = {table: "SELECT path, %s.* FROM %s JOIN files USING (file)" % (table, table) for table in TABLES}
+    found = {table: {(row[0], *row[2:]) for row in trial.ask(catalogue, query)} for table, query in queries.items()}
+    about = "path, state, detail, size, modified, changed, inode, records"
+    found["files"] = set(trial.ask(catalogue, "SELECT %s FROM files" % about))
+    about = "readings.size, readings.modified, readings.changed, readings.inode, readings.records, good, unchecked, bad"
+    about += ", payloads_good, payloads_unchecked, payloads_bad"
+    found["readings"] = set(trial.ask(catalogue, "SELECT path, %s FROM readings JOIN files USING (file)" % about))
+    return found
 
 
 def to_read(done: Done[bytes]) -> Optional[int]:
