@@ -4,7 +4,8 @@
 Usage: serve.py WARC [REQUESTS]
 
 20 files, one of them compressed, have 500 captures each of 10,000 bytes, in a catalogue of 1,000,000 captures. After a
-pass over all of them, wrk asks for captures that are drawn evenly, 100 a second for a minute; then, as fast as it can,
+pass over all of them, wrk asks for captures that are drawn evenly, 100 a second for a minute; then so again beside
+2,000 idle connections and 200 readers of a body of 8 MB who take a little of it each second; then, as fast as it can,
 until REQUESTS (100,000 if left out) were answered. Prints how long the first answer of each file takes, which opens the
 file, the latencies, and the memory of the server before and after. PYTHONPATH has to hold the package that
 `make python` makes.
@@ -15,11 +16,14 @@ import gzip
 import http.client
 import os
 import re
+import resource
+import socket
 import sqlite3
 import statistics
 import subprocess
 import sys
 import tempfile
+import threading
 import time
 from collections.abc import Iterator
 
@@ -30,6 +34,11 @@ FILES, EACH, SIZE = 20, 500, 10_000
 CATALOGUED = 1_000_000
 CONNECTIONS, RATE = 10, 100
 SECONDS = 60
+IDLE, SLOW, LARGE = 2_000, 200, 8_000_000
+# Connections of each address, and how many bytes a slow reader takes in a second.
+OF_ADDRESS, TAKEN = 40, 2_000
+# Less than the time after which the server closes an idle connection.
+IDLE_SECONDS = 30
 LIMITS = ["--archives", "32", "--unpacked", "1G"]
 HEAD = b"HTTP/1.1 200 OK\r\nContent-Type: text/plain\r\n\r\n"
 # Captures are one second apart from here on, as `crawl_record` has them.
@@ -66,6 +75,20 @@ def write_files(folder: str) -> None:
         is_packed = file == FILES - 1
         with open(f"{folder}/{file}.warc" + ".gz" * is_packed, "wb") as out:
             out.write(gzip.compress(data) if is_packed else data)
+
+
+def large_path(number: int) -> str:
+    """The path of a large capture, of which there is one in a file."""
+    digits = time.strftime("%Y%m%d%H%M%S", time.gmtime(BEGINNING + FILES * EACH + number))
+    return f"/memento/{digits}/http://s.example/large{number}"
+
+
+def write_large(folder: str) -> None:
+    """Files of a large capture each."""
+    for number in range(FILES):
+        data = HEAD + b"y" * LARGE
+        with open(f"{folder}/large{number}.warc", "wb") as out:
+            out.write(crawl_record("response", FILES * EACH + number, f"http://s.example/large{number}", data))
 
 
 def other_captures() -> Iterator[tuple[object, ...]]:
@@ -111,9 +134,65 @@ def load(folder: str, port: int, seconds: int, pause: int) -> tuple[int, str]:
     return int(found[1]), text
 
 
+class Crowd:
+    """Idle connections and slow readers, from many addresses of this machine."""
+
+    def __init__(self, port: int) -> None:
+        self.port = port
+        self.is_over = threading.Event()
+        self.idle = [self.connected(number) for number in range(IDLE)]
+        self.slow = [self.connected(IDLE + number) for number in range(SLOW)]
+        for number, connection in enumerate(self.slow):
+            path = large_path(number % FILES)
+            connection.sendall(f"GET {path} HTTP/1.1\r\nHost: 127.0.0.1\r\n\r\n".encode())
+        for connection in self.slow:  # all of them have begun
+            if not connection.recv(TAKEN).startswith(b"HTTP/1.1 200 "):
+                sys.exit("a slow reader has no answer")
+        self.thread = threading.Thread(target=self.read, daemon=True)
+        self.thread.start()
+
+    def connected(self, number: int) -> socket.socket:
+        """A connection from the address that is a number's."""
+        connection = socket.socket()
+        connection.setsockopt(socket.SOL_SOCKET, socket.SO_RCVBUF, 4096)
+        connection.bind((f"127.0.1.{1 + number // OF_ADDRESS}", 0))
+        connection.connect(("127.0.0.1", self.port))
+        return connection
+
+    def read(self) -> None:
+        """Takes a little of each body each second."""
+        while not self.is_over.wait(1):
+            for connection in self.slow:
+                if not connection.recv(TAKEN):
+                    sys.exit("a slow reader was left")
+
+    def close(self) -> None:
+        """Says whether all are still there, and goes away."""
+        self.is_over.set()
+        self.thread.join()
+        for connection in self.idle:
+            connection.setblocking(False)
+            try:
+                sys.exit(f"an idle connection was closed: {connection.recv(1)!r}")
+            except BlockingIOError:
+                connection.close()
+        for connection in self.slow:
+            connection.close()
+
+
+def beside_a_crowd(folder: str, port: int) -> str:
+    """The figures of 100 a second beside idle connections and slow readers."""
+    begun = time.perf_counter()
+    crowd = Crowd(port)
+    print(f"{IDLE} idle connections and {SLOW} slow readers: {time.perf_counter() - begun:.1f} s to connect")
+    text = figures(load(folder, port, IDLE_SECONDS, CONNECTIONS * 1000 // RATE)[1])
+    crowd.close()
+    return text
+
+
 def figures(text: str) -> str:
     """The latencies and the rate that wrk prints."""
-    parts = re.findall(r"(50|75|90|99)%\s+(\S+)", text)
+    parts = re.findall(r"^\s*(50|75|90|99)%\s+(\S+)", text, re.MULTILINE)
     rate = re.search(r"Requests/sec:\s+(\S+)", text)
     return ", ".join(f"{part}% {value}" for part, value in parts) + f"; {rate[1] if rate else '?'} requests a second"
 
@@ -136,6 +215,7 @@ def measure(folder: str, server: subprocess.Popen[bytes], port: int, wanted: int
     warm = [timed(port, path_of(number)) for number in range(FILES * EACH)]
     print(f"one pass, one after another: median {statistics.median(warm):.1f} ms; {memory(server.pid)}", flush=True)
     print("100 a second:", figures(load(folder, port, SECONDS, CONNECTIONS * 1000 // RATE)[1]), flush=True)
+    print("100 a second beside them:", beside_a_crowd(folder, port), flush=True)
     answered, text = 0, ""
     while answered < wanted:
         count, text = load(folder, port, 20, 0)
@@ -147,10 +227,12 @@ def measure(folder: str, server: subprocess.Popen[bytes], port: int, wanted: int
 def main() -> None:
     warc = os.path.abspath(sys.argv[1])
     wanted = int((sys.argv[2:] or ["100000"])[0])
+    resource.setrlimit(resource.RLIMIT_NOFILE, (IDLE + SLOW + 500, resource.getrlimit(resource.RLIMIT_NOFILE)[1]))
     with tempfile.TemporaryDirectory(prefix="warc-bench-") as folder:
         program, catalogue = f"{folder}/warc-collection", f"{folder}/catalogue"
         subprocess.run([sys.executable, f"{TOP}/tools/make_collection.py", program], check=True)
         write_files(f"{folder}/disk")
+        write_large(f"{folder}/disk")
         words = [program, "-c", catalogue]
         subprocess.run([*words, "run", "--quiet", "--warc", warc, f"{folder}/disk"], check=True)
         fill(catalogue)

@@ -3,8 +3,10 @@
 
 Usage: make_collection.py FILE
 
-The reading room that it serves is made of scripts of page/, of DOMPurify and of pako, of Debian's packages
-node-dompurify and node-pako. Where these aren't installed, the file has no room, and a line says so.
+The reading room that it serves is made of scripts of page/, of DOMPurify, pako and css-tree, of Debian's packages
+node-dompurify, node-pako and node-css-tree. Where these aren't installed, the file has no room, and a line says so. The
+server is waitress, of Debian's package python3-waitress. Where that isn't installed, the file has no server, and a line
+says so.
 """
 from __future__ import annotations
 
@@ -14,15 +16,20 @@ import sys
 import zipapp
 import zipfile
 
-from build_page import INFLATER, INFLATER_LICENCE, NO_INFLATER, PURIFIER, debian, inflater, joined, numbers, purifier
-from build_page import quoted
+from build_page import INFLATER, INFLATER_LICENCE, NO_INFLATER, NO_TOKENIZER, PURIFIER, TOKENIZER, TOKENIZER_LICENCE
+from build_page import debian, inflater, joined, numbers, purifier, quoted, tokenizer
 from shared import TOP, read
 
 SOURCE = f"{TOP}/collection"
 # Python's archives begin in 1980: no file has a time of its own.
 BEGINNING = (1980, 1, 1, 0, 0, 0)
 SUFFIXES = (".py", ".css", ".html")
+SERVER = "/usr/lib/python3/dist-packages/waitress"
+SERVER_LICENCE = "/usr/share/doc/python3-waitress/copyright"
+# It is for the command line of waitress, which isn't used.
+LEFT_OUT = ("runner.py", "__main__.py")
 ROOM = "zogwedu_collection/room"
+MEMBERS = "_members.py"
 # Those of zogwedu.html that don't need the module, and the one that asks the server.
 SCRIPTS = (
     *("shared.js", "elements.js", "members.js", "words.js", "stored.js", "nodes.js", "allowed.js", "style.js"),
@@ -32,32 +39,51 @@ ABOUT_ROOM = """/* The script holds DOMPurify, (c) Cure53 and other contributors
 {}
 It also holds the files of pako that inflate, as Debian has them, under the Zlib licence and the MIT (Expat) licence:
 {}
+It also holds the tokenizer of css-tree, as Debian has it, under the MIT (Expat) licence:
+{}
 */
 """
 
 
 def members() -> list[tuple[str, bytes]]:
-    """The files of the package, with their names below collection/, and those of the room."""
+    """The files of the package, with their names below collection/, those of the room, and the Python package's module
+    of members."""
     found = [os.path.join(at, name) for at, _, names in os.walk(SOURCE) for name in names]
     names = [os.path.relpath(path, SOURCE) for path in found if path.endswith(SUFFIXES)]
-    return sorted([*((name, content(name)) for name in names), *room()])
+    of_python = (f"zogwedu_collection/{MEMBERS}", read(f"python/src/zogwedu/{MEMBERS}").encode())
+    return sorted([*((name, content(name)) for name in names), of_python, *room(), *server()])
 
 
 def content(name: str) -> bytes:
     """The bytes of a file of the package."""
-    with open(os.path.join(SOURCE, name), "rb") as file:
-        return file.read()
+    return bytes_of(os.path.join(SOURCE, name))
 
 
 def room() -> list[tuple[str, bytes]]:
     """The script and the style of the reading room; none where a part isn't installed."""
-    if not os.path.exists(PURIFIER) or not os.path.exists(INFLATER):
-        print("made without the reading room: node-dompurify or node-pako isn't installed", file=sys.stderr)
+    if not all(map(os.path.exists, (PURIFIER, INFLATER, TOKENIZER))):
+        print("made without the reading room: node-dompurify, node-pako or node-css-tree isn't there", file=sys.stderr)
         return []
-    licences = read("LICENSE-APACHE"), debian(INFLATER_LICENCE, NO_INFLATER, "Expat", r"\*/")
-    about = ABOUT_ROOM.format(*licences)
-    script = f"{about}'use strict';\nconst NUMBERS = {quoted(numbers())};\n{purifier()}{inflater()}{joined(SCRIPTS)}"
+    licences = (INFLATER_LICENCE, NO_INFLATER), (TOKENIZER_LICENCE, NO_TOKENIZER)
+    about = ABOUT_ROOM.format(read("LICENSE-APACHE"), *(debian(*it, "Expat", r"\*/") for it in licences))
+    parts = f"{purifier()}{inflater()}{tokenizer()}"
+    script = f"{about}'use strict';\nconst NUMBERS = {quoted(numbers())};\n{parts}{joined(SCRIPTS)}"
     return [(f"{ROOM}.js", script.encode()), (f"{ROOM}.css", read("page/page.css").encode())]
+
+
+def server() -> list[tuple[str, bytes]]:
+    """The files of waitress, with their licence; none where it isn't installed."""
+    if not os.path.isdir(SERVER):
+        print("made without the server: python3-waitress isn't installed", file=sys.stderr)
+        return []
+    names = [name for name in os.listdir(SERVER) if name.endswith(".py") and name not in LEFT_OUT]
+    paths = {f"waitress/{name}": f"{SERVER}/{name}" for name in names}
+    return [(name, bytes_of(path)) for name, path in {**paths, "waitress/copyright": SERVER_LICENCE}.items()]
+
+
+def bytes_of(path: str) -> bytes:
+    with open(path, "rb") as file:
+        return file.read()
 
 
 def packed() -> io.BytesIO:

@@ -4,3 +4,10 @@ The program `warc` reads each file; GNU parallel spreads the files over cores an
 This package only puts them together. It has no rule of the format: what a record is, what is wrong with it and what a
 capture gives, the program says. docs/COLLECTIONS.md describes each command.
 """
+import os
+
+# How members of gzip follow each other is read by a module of the Python package. The one file that is made of this
+# package has it beside the others; in a checkout it is where it belongs.
+PYTHON_PACKAGE = os.path.join(os.path.dirname(os.path.abspath(__file__)), "..", "..", "python", "src", "zogwedu")
+if os.path.isdir(PYTHON_PACKAGE):
+    __path__.append(PYTHON_PACKAGE)

@@ -9,13 +9,15 @@ import signal
 import sqlite3
 import sys
 import traceback
-from typing import Callable, NoReturn, Union
+from typing import Callable, NoReturn, Optional, Union
 
 from . import __doc__ as about_all
 from .ages import seconds_in
 from .alarm import states_in
+from .configuration import PATH, configured
 from .jobs import do_jobs
 from .limits import Limits, count_of
+from .messages import ERROR, INFO, MESSAGES
 from .space import full_folders
 from .texts import Trouble, say, shown
 
@@ -23,6 +25,7 @@ Options = argparse.Namespace
 KEPT_RUNS = 10
 MOST_SECONDS = 10**9
 LISTEN = "127.0.0.1:8080"
+CATALOGUE = "WARC_CATALOGUE"
 
 
 def do(options: Options) -> int:
@@ -52,6 +55,8 @@ def add_run_options(parser: argparse.ArgumentParser) -> None:
     )
     names = "a file that names files, a name a line or ended by a zero byte"
     add("--files", action="append", default=[], metavar="LIST", help=names)
+    manifest = "checksums that files have to have, as sha256sum and md5sum write them, or a manifest of BagIt"
+    add("--manifest", action="append", default=[], metavar="FILE", help=manifest)
     add("--all", action="store_true", help="reads all files, and not only new and changed ones")
     add(
         "--timeout",
@@ -104,15 +109,31 @@ def add_machines(parser: argparse.ArgumentParser) -> None:
     hosts = "machines that see the same files, as GNU parallel takes them: 4/host1,host2; : is this one"
     add("--sshlogin", action="append", default=[], metavar="HOSTS", help=hosts)
     add("--sshloginfile", action="append", default=[], metavar="FILE", help="a file with a machine a line")
-    add("--quiet", action="store_true", help="no progress bar")
+
+
+def add_output(parser: argparse.ArgumentParser, what: str) -> None:
+    """The options that say what is printed and logged."""
+    add = parser.add_argument
+    parser.set_defaults(form="text")
+    add("--quiet", action="store_true", help="prints nothing where all is well")
+    log = "adds a line for each file and its state to a file, or to the system's log (syslog)"
+    add("--log", metavar="FILE|syslog", help=log)
+    add("--json", dest="form", action="store_const", const="json", help="prints %s as JSON" % what)
+
+
+def add_metrics(parser: argparse.ArgumentParser) -> None:
+    metrics = "writes numbers for the textfile collector of Prometheus's node exporter"
+    parser.add_argument("--metrics", metavar="FILE", help=metrics)
 
 
 def command_line() -> argparse.ArgumentParser:
     about = (about_all or "").split("\n\n")[0]
     parser = argparse.ArgumentParser(prog="warc-collection", description=about)
     folder = "the folder of the catalogue; without it $WARC_CATALOGUE, or the folder catalogue here"
-    default = os.environ.get("WARC_CATALOGUE", "catalogue")
+    default = os.environ.get(CATALOGUE, "catalogue")
     parser.add_argument("-c", "--catalogue", metavar="FOLDER", default=default, help=folder)
+    configuration = "says what options say, in a section for each command; %s without it, if it is there" % PATH
+    parser.add_argument("--configuration", metavar="FILE", help=configuration)
     commands = parser.add_subparsers(dest="command", required=True, metavar="COMMAND")
 
     def command(name: str, what: str) -> argparse.ArgumentParser:
@@ -122,17 +143,25 @@ def command_line() -> argparse.ArgumentParser:
     add_run_options(made)
     add_machines(made)
     add_alarm(made)
-    add_run_options(command("plan", "writes the list of jobs, and prints the folder that holds it"))
+    add_output(made, "the states, and the files that need a look,")
+    add_metrics(made)
+    made = command("plan", "writes the list of jobs, and prints the folder that holds it")
+    add_run_options(made)
+    add_output(made, "what is to be done")
     made = command("job", "does jobs of a list, by their numbers from 1")
     made.add_argument("jobs_folder", metavar="JOBS")
     made.add_argument("numbers", nargs="*", type=int, metavar="NUMBER")
-    add_alarm(command("load", "takes in what jobs found"))
+    made = command("load", "takes in what jobs found")
+    add_alarm(made)
+    add_output(made, "the states, and the files that need a look,")
+    add_metrics(made)
     made = command("status", "prints how many files are in each state, and those that need a look")
     add_forms(made, "the files that need a look,")
     age = "ends with 1 too if the last run ended longer ago, as 36h or 2d"
     add_alarm(made)
     made.add_argument("--new", action="store_true", help="prints what is otherwise than after the run before, alone")
     made.add_argument("--max-age", type=seconds_in, metavar="TIME", help=age)
+    add_metrics(made)
     add_questions(command)
     add_upkeep(command)
     return parser
@@ -147,11 +176,15 @@ def add_questions(command: Command) -> None:
     add_request(made)
     made.add_argument("date", metavar="DATE", nargs="?")
     add_forms(made, "a line for each capture,")
+    add_access(made)
     made = command("replay", "writes the body that was captured of a URI, as of a date")
     add_request(made)
     made.add_argument("date", metavar="DATE")
     add_codings(made)
     add_server(command("serve", "serves the collection to browsers and to Memento clients, for reading alone"))
+    made = command("access", "says which line of the access rules decides for a URI")
+    made.add_argument("--access", metavar="FILE", required=True, help="the file with the rules")
+    made.add_argument("uri", metavar="URI")
 
 
 def add_server(parser: argparse.ArgumentParser) -> None:
@@ -165,7 +198,21 @@ def add_server(parser: argparse.ArgumentParser) -> None:
     add("--unpacked", type=count_of, metavar="BYTES", default=Limits.unpacked, help=unpacked)
     requests = "requests at work at once, %d without it" % Limits.requests
     add("--requests", type=count_of, metavar="N", default=Limits.requests, help=requests)
+    names = "by which names readers ask it; the address where it listens and localhost without it"
+    add("--host", nargs="+", action="extend", default=[], metavar="NAME", help=names)
+    add("--base-url", metavar="URL", help="what its links begin with; http:// and the name that was asked without it")
+    proxy = "a proxy alone asks it, and says by X-Forwarded-For, -Host and -Proto who asks what"
+    add("--behind-proxy", action="store_true", help=proxy)
+    add("--paths", action="store_true", help="answers have the paths of files, and not their names alone")
+    add_access(parser)
+    on_site = "the networks of readers on site, as 192.0.2.0/24"
+    add("--onsite", nargs="+", action="extend", default=[], metavar="NETWORK", help=on_site)
+    add("--log", metavar="FILE", help="a line for each answer; no log without it")
     add_program_options(parser)
+
+
+def add_access(parser: argparse.ArgumentParser) -> None:
+    parser.add_argument("--access", metavar="FILE", help="the file that says who may see what")
 
 
 def add_codings(parser: argparse.ArgumentParser) -> None:
@@ -190,7 +237,9 @@ def add_upkeep(command: Command) -> None:
     made.add_argument("path", metavar="FILE")
     add_forms(made, "in its place the files that need a look,")
     made = command("export", "writes the tables as text, and a script for PostgreSQL's psql")
-    made.add_argument("folder", metavar="FOLDER")
+    made.add_argument("folder", metavar="FOLDER", nargs="?")
+    sums = "writes the SHA-256 of each file that is known, as sha256sum does"
+    made.add_argument("--manifest", metavar="FILE", help=sums)
     made = command("accept", "takes what is in altered files now for what has to be in them")
     made.add_argument("paths", nargs="+", metavar="FILE")
     made = command("acknowledge", "silences the states of files, until they change")
@@ -198,9 +247,11 @@ def add_upkeep(command: Command) -> None:
     made.add_argument("--note", default="", metavar="TEXT", help="why, for the report")
     made = command("forget", "ends the watch of folders, and forgets files that were removed on purpose")
     made.add_argument("paths", nargs="+", metavar="PATH", help="a file, or a folder with all below it")
+    add_output(made, "the files that were forgotten and those that stay")
     made = command("prune", "drops what earlier runs found of single files")
     keep = "how many runs are kept, %d without it" % KEPT_RUNS
     made.add_argument("--keep", type=int, default=KEPT_RUNS, metavar="RUNS", help=keep)
+    add_output(made, "the number of rows that were dropped")
 
 
 def interrupt(_signal: int, _frame: object) -> NoReturn:
@@ -210,22 +261,32 @@ def interrupt(_signal: int, _frame: object) -> NoReturn:
 def done(options: Options) -> int:
     """Does a command. Whatever goes wrong is a sentence and status 3, since 1 and 2 mean something else."""
     try:
+        MESSAGES.is_quiet = getattr(options, "quiet", False)
+        open_log(getattr(options, "log", None))
         status = do(options)
         sys.stdout.flush()
         return status
     except Trouble as trouble:
-        say(str(trouble))
+        MESSAGES.say(str(trouble), ERROR)
         return trouble.status
     except KeyboardInterrupt:
         say("stopped")
     except BrokenPipeError:
         pass
     except (OSError, sqlite3.Error, MemoryError) as error:
-        say(sentence(error, options.catalogue))
+        MESSAGES.say(sentence(error, options.catalogue), ERROR)
     except Exception as error:  # a fault of this program
         say("%s: %s" % (type(error).__name__, error))
         traceback.print_exc()
     return 3
+
+
+def open_log(where: Optional[str]) -> None:
+    """Opens the log, if one is asked for."""
+    if where is not None:
+        from .log import opened_log  # here, since the module for it takes time, and jobs do without
+
+        MESSAGES.log = opened_log(where)
 
 
 def sentence(error: Union[OSError, sqlite3.Error, MemoryError], folder: str) -> str:
@@ -253,7 +314,15 @@ def main() -> int:
         if isinstance(stream, io.TextIOWrapper):
             stream.reconfigure(errors="backslashreplace")
     end_when_told()
-    status = done(command_line().parse_args())
+    try:
+        elsewhere = {"catalogue"} if CATALOGUE in os.environ else set()
+        options = configured(command_line, elsewhere, None)
+    except Trouble as trouble:
+        say(str(trouble))
+        return trouble.status
+    status = done(options)
+    MESSAGES.note("%s ended with status %d" % (options.command, status), ERROR if status else INFO)
+    MESSAGES.end(status)
     close_output()
     return status
 

@@ -2,10 +2,14 @@
 from __future__ import annotations
 
 import argparse
+import contextlib
+import functools
+import json
 import os
 import sys
-from typing import List, Sequence
+from typing import Any, Dict, Iterator, List, Optional, Sequence
 
+from .access import read_access
 from .ages import is_late
 from .alarm import Alarm, acknowledge, rings
 from .captures import Request, chosen_captures, warn_of_unknown
@@ -13,15 +17,20 @@ from .catalogue import Catalogue
 from .compared import accept
 from .decode import Decoder
 from .export import export
+from .hosts import site_for
 from .limits import Limits
 from .listing import capture_line, is_partly_unread, put, status_pieces
+from .manifest import told_unknown, write_manifest
+from .metrics import check_metrics, write_metrics
 from .moves import forget_files, prune
 from .program import usable_program
 from .replay import Answer, Replayer, settled, without_troubled, write_body
 from .report import write_report
 from .runs import SECONDS_A_FAR_JOB, SECONDS_A_JOB, Asked, Machines, do_run, load, make_plan
 from .states import ALARMING, STATES
-from .texts import Trouble, counted, say, shown
+from .texts import Trouble, counted, escaped, inform, say, shown, stored_path
+from .timemaps import Seen
+from .watched import watched
 
 Options = argparse.Namespace
 
@@ -31,7 +40,7 @@ def asked(options: Options) -> Asked:
     how = options.within, options.rate, options.allow_missing, options.unpacked
     is_far = getattr(options, "sshlogin", None) or getattr(options, "sshloginfile", None)
     seconds = SECONDS_A_FAR_JOB if is_far else SECONDS_A_JOB
-    return Asked(*words, *how, getattr(options, "jobs", None), options.batch, seconds)
+    return Asked(*words, *how, getattr(options, "jobs", None), options.batch, seconds, options.manifest)
 
 
 def alarm_of(options: Options) -> Alarm:
@@ -39,13 +48,30 @@ def alarm_of(options: Options) -> Alarm:
     return Alarm(states, getattr(options, "new", False), getattr(options, "max_age", None))
 
 
-def print_status(catalogue: Catalogue, alarm: Alarm, form: str = "text") -> int:
-    """Prints how the collection is, and a line for each file that needs a look. Returns the status."""
-    for piece in status_pieces(catalogue, form, alarm):
-        put(piece)
-    if is_partly_unread(catalogue):
-        return 3
-    return 1 if rings(catalogue, alarm) or is_late(catalogue, alarm.max_age) else 0
+def print_status(catalogue: Catalogue, options: Options, alarm: Alarm, is_partly: bool = False) -> int:
+    """Prints how the collection is, and a line for each file that needs a look; with --quiet nothing where all is well.
+    Returns the status."""
+    is_bad = rings(catalogue, alarm) or is_late(catalogue, alarm.max_age)
+    status = 3 if is_partly or is_partly_unread(catalogue) else int(is_bad)
+    if status or not getattr(options, "quiet", False):
+        for piece in status_pieces(catalogue, options.form, alarm):
+            put(piece)
+    return status
+
+
+def print_values(options: Options, values: Dict[str, Any]) -> None:
+    """Prints what a command did, where JSON is asked for."""
+    if options.form == "json":
+        put(json.dumps(values, indent=1) + "\n")
+
+
+@contextlib.contextmanager
+def measured(catalogue: Catalogue, path: Optional[str]) -> Iterator[None]:
+    """Writes the metrics after a command, however it ends."""
+    try:
+        yield
+    finally:
+        write_metrics(catalogue, path)
 
 
 def write_own_report(catalogue: Catalogue) -> None:
@@ -53,33 +79,41 @@ def write_own_report(catalogue: Catalogue) -> None:
 
 
 def run_command(options: Options) -> int:
+    check_metrics(options.metrics)
     catalogue = Catalogue(options.catalogue, is_made=True)
-    machines = Machines(options.sshlogin, options.sshloginfile, options.jobs, options.quiet)
-    with catalogue.locked():
+    machines = Machines(options.sshlogin, options.sshloginfile, options.jobs)
+    with catalogue.locked(), measured(catalogue, options.metrics):
         plan = do_run(catalogue, asked(options), machines)
         write_own_report(catalogue)
-    status = print_status(catalogue, alarm_of(options))
-    return 3 if plan.is_partly_unread else status
+    return print_status(catalogue, options, alarm_of(options), plan.is_partly_unread)
 
 
 def plan_command(options: Options) -> int:
     catalogue = Catalogue(options.catalogue, is_made=True)
     with catalogue.locked():
         plan = make_plan(catalogue, asked(options))
-    put(os.fsencode(plan.folder) + b"\n")
+    about = {"run": plan.run, "folder": plan.folder, "jobs": plan.count, "files": plan.files, "to_read": plan.to_read}
+    troubles = {it.path: it.trouble for it in watched(catalogue) if it.trouble}
+    print_values(options, dict(about, bytes=sum(plan.job_bytes), troubles=troubles))
+    if options.form == "text":
+        put(os.fsencode(plan.folder) + b"\n")
     return 3 if plan.is_partly_unread else 0
 
 
 def load_command(options: Options) -> int:
+    check_metrics(options.metrics)
     catalogue = Catalogue(options.catalogue)
-    with catalogue.locked():
+    with catalogue.locked(), measured(catalogue, options.metrics):
         load(catalogue)
         write_own_report(catalogue)
-    return print_status(catalogue, alarm_of(options))
+    return print_status(catalogue, options, alarm_of(options))
 
 
 def status_command(options: Options) -> int:
-    return print_status(Catalogue(options.catalogue), alarm_of(options), options.form)
+    check_metrics(options.metrics)
+    catalogue = Catalogue(options.catalogue)
+    write_metrics(catalogue, options.metrics)
+    return print_status(catalogue, options, alarm_of(options))
 
 
 def find_command(options: Options) -> int:
@@ -88,11 +122,16 @@ def find_command(options: Options) -> int:
     with catalogue.one_state():
         warn_of_unknown(catalogue, request.target())
         chosen, passed = without_troubled(catalogue, chosen_captures(catalogue, request, warc))
+        seen, target = Seen(read_access(options.access)), request.target()
+        withheld = [seen.withheld(target, it.instant) for it in chosen]
+        listed = [seen.listed(catalogue, it) for it, why in zip(chosen, withheld) if why is None]
     for line in passed:
         say("passed over: " + line)
-    for capture in chosen:
+    for capture in listed:
         put(capture_line(capture, options.form))
-    return 0
+    for line in dict.fromkeys(why.text for why in withheld if why is not None):
+        say(line)
+    return 1 if all(withheld) else 0
 
 
 def replay_command(options: Options) -> int:
@@ -126,16 +165,24 @@ def report_command(options: Options) -> int:
 
 
 def export_command(options: Options) -> int:
-    export(Catalogue(options.catalogue), options.folder)
-    return 0
+    if options.folder is None and options.manifest is None:
+        raise Trouble("export: name a FOLDER, or --manifest FILE", 2)
+    catalogue = Catalogue(options.catalogue)
+    if options.folder is not None:
+        export(catalogue, options.folder)
+    unknown = 0 if options.manifest is None else write_manifest(catalogue, options.manifest)
+    if unknown:
+        say(told_unknown(options.manifest, unknown))
+    return 1 if unknown else 0
 
 
 def forget_command(options: Options) -> int:
     catalogue = Catalogue(options.catalogue)
     with catalogue.locked():
-        kept = forget_files(catalogue, [os.path.abspath(path) for path in options.paths])
+        forgotten, kept = forget_files(catalogue, [os.path.abspath(path) for path in options.paths])
     for path in kept:
         say("%s is in the collection, and isn't gone: not forgotten" % shown(path))
+    print_values(options, {"forgotten": forgotten, "kept": kept})
     return 1 if kept else 0
 
 
@@ -167,15 +214,31 @@ def prune_command(options: Options) -> int:
         raise Trouble("keep at least one run")
     with catalogue.locked():
         dropped = prune(catalogue, options.keep)
-    say("dropped %s" % counted(dropped, "row"))
+    inform("dropped %s" % counted(dropped, "row"))
+    if not options.quiet:
+        print_values(options, {"dropped": dropped})
     return 0
 
 
 def serve_command(options: Options) -> int:
-    from .serve import Place, serve  # here, since others do without the standard library's server
-
+    try:
+        from .serve import Place, address_of, serve  # here, since others do without a server
+    except ImportError as error:
+        raise Trouble("serve needs waitress (python3-waitress): %s" % escaped(str(error))) from None
     limits = Limits(options.archives, options.unpacked, options.requests)
-    return serve(Place(options.listen, options.catalogue, options.warc, options.temporary, limits))
+    address = None if options.listen == "systemd" else address_of(options.listen)[0]
+    site = site_for(address, options.host, options.base_url, options.behind_proxy, options.paths)
+    words = options.listen, options.catalogue, options.warc, options.temporary, limits, site
+    return serve(Place(*words, functools.partial(read_access, options.access, options.onsite), options.log))
+
+
+def access_command(options: Options) -> int:
+    """Prints the line that decides for a URI. The status is 1 if it withholds anything from a reader elsewhere."""
+    rule = read_access(options.access).decide(stored_path(options.uri)).rule
+    put(
+        "no line: allowed\n" if rule is None else "%s:%d\t%s\n" % (shown(options.access), rule.number, shown(rule.text))
+    )
+    return 1 if rule is not None and rule.word != "allow" else 0
 
 
 # The commands by their names.
@@ -187,6 +250,7 @@ COMMANDS = {
     "find": find_command,
     "replay": replay_command,
     "serve": serve_command,
+    "access": access_command,
     "report": report_command,
     "export": export_command,
     "accept": accept_command,

@@ -5,13 +5,13 @@ from __future__ import annotations
 import dataclasses
 import hashlib
 import re
-from typing import Any, Iterator, List, Optional, Sequence, Tuple
+from typing import Any, Callable, Iterator, List, Optional, Sequence, Tuple
 
 from .captures import Capture
 from .catalogue import Catalogue, Known
 from .replay import CODED, DISAGREE, NAMES, Answer, Names, Replayer, bare, check_path, do_agree, place_in
 from .shelf import Shelf
-from .texts import Trouble, escaped
+from .texts import Stored, Trouble, escaped
 
 PIECE = 1 << 20
 # The most bytes of a body from which the transfer codings are undone, since that is done in memory.
@@ -31,6 +31,11 @@ class Lent(Answer):
     at: int = 0
     reader: Optional[Reader] = None
 
+    def own_reader(self) -> Reader:
+        """What reads its bytes."""
+        assert self.reader is not None
+        return self.reader
+
     def fact(self) -> Tuple[Optional[str], str, str, Optional[str]]:
         has_bytes = self.reason is None or self.reason.startswith(CODED)
         digest = self.reader.digest(self) if self.reader is not None and has_bytes else None
@@ -48,6 +53,8 @@ class Content:
     coding: Optional[str]
     location: Optional[str]
     is_decoded: bool = False
+    # Where the parts are in the archive, if they aren't decoded.
+    spans: Tuple[Tuple[int, int], ...] = ()
 
     def length(self) -> int:
         return sum(len(part) for part in self.parts)
@@ -83,10 +90,18 @@ def coding_of(values: Sequence[str]) -> Optional[str]:
 class Reader(Replayer):
     """Gives what captures give. It serves one request."""
 
-    def __init__(self, catalogue: Catalogue, warc: str, shelf: Shelf) -> None:
+    def __init__(
+        self,
+        catalogue: Catalogue,
+        warc: str,
+        shelf: Shelf,
+        judge: Callable[[Stored, str], None] = lambda _target, _instant: None,
+    ) -> None:
+        """Before anything is given of a record, `judge` hears its target and its instant, and may raise."""
         super().__init__(catalogue, warc, shelf.temporary)
         self.shelf = shelf
         self.package = shelf.package
+        self.judge = judge
 
     def body(self, capture: Capture, before: Sequence[int] = ()) -> Answer:
         files = tuple(self.known(file) for file in (*before, capture.file))
@@ -96,14 +111,26 @@ class Reader(Replayer):
             try:
                 body = archive[at].body()
             except self.package.NoBody as reason:
-                file, position = (None, 0) if reason.given is None else place_in(files, reason.given)
+                file, position = self.judged(files, reason.given)
                 return Lent(capture, files, None, None, file, position, "", "", reason.text, at, self)
             except self.package.WarcError as error:
                 raise Trouble("%s: %s" % (escaped(capture.path), escaped(str(error)))) from None
-            file, position = place_in(files, body.given)
+            file, position = self.judged(files, body.given)
             words = body.status or "-", "yes" if body.truncated else "no", len(body)
             about = "status %s truncated %s length %d" % words
             return Lent(capture, files, None, None, file, position, about, "", None, at, self)
+
+    def judged(self, files: Sequence[Known], given: Optional[int]) -> Tuple[Optional[Known], int]:
+        """The record that gives a body, or the reason why there is none, if it may be given: a revisit may lead to a
+        record of another URI."""
+        if given is None:
+            return None, 0
+        file, position = place_in(files, given)
+        query = "SELECT target, instant FROM captures WHERE file = ? AND position = ?"
+        row = self.catalogue.one(query, (file.file, position))
+        if row is not None and row[0] is not None:
+            self.judge(row[0], row[1])
+        return file, position
 
     def named(self, capture: Capture) -> Names:
         with self.shelf.lent([self.known(capture.file)]) as archive:
@@ -142,20 +169,24 @@ class Reader(Replayer):
         if body.undone not in ((), ("chunked",)):
             raise Unfit("the transfer has a coding other than chunked: %s" % " ".join(body.undone))
         record = archive[body.given]
+        spans = () if body.undone else tuple(body.spans)
         if body.status is None:
-            return Content(body.parts, None, media_of(record.headers.get("Content-Type")), None, None)
+            media = media_of(record.headers.get("Content-Type"))
+            return Content(body.parts, None, media, None, None, spans=spans)
         head = record.http.headers
         coding = coding_of(head.get_all("Content-Encoding")) if answer.reason else None
         location = head.get("Location")
         location = None if location is None or len(location) > MOST_LOCATION else location
         media, is_decoded = media_of(head.get("Content-Type")), bool(body.undone)
-        return Content(body.parts, body.status, media, coding, location, is_decoded)
+        return Content(body.parts, body.status, media, coding, location, is_decoded, spans)
 
-    def pieces(self, answer: Lent, content: Content) -> Iterator[bytes]:
-        """The bytes of an answer. Before each piece is given, its files are those that were read."""
+    def pieces(self, answer: Lent, content: Content, first: int, count: int) -> Iterator[bytes]:
+        """Bytes of an answer, from the first on. Before each piece is given, its files are those that were read."""
         for part in content.parts:
-            for at in range(0, len(part), PIECE):
-                piece = bytes(part[at : at + PIECE])
+            begin, end = min(first, len(part)), min(first + count, len(part))
+            first, count = max(first - len(part), 0), count - (end - begin)
+            for at in range(begin, end, PIECE):
+                piece = bytes(part[at : min(at + PIECE, end)])
                 for file in answer.files:
                     check_path(file)
                 yield piece

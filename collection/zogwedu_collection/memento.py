@@ -29,6 +29,8 @@ MOST_LINKS = 16 << 10
 LINK_FORMAT = "application/link-format"
 JSON_FORMAT = "application/json"
 TIMEMAPS = {"link": LINK_FORMAT, "json": JSON_FORMAT}
+# The key of a part of a list: the last capture before it, by its instant, and in JSON by its file and position too.
+PART_KEY = re.compile(r"(\d{23})(?:-(\d{1,18})-(\d{1,18}))?", re.ASCII)
 
 
 class NotOne(ValueError):
@@ -142,8 +144,30 @@ class Around:
 
 
 @dataclasses.dataclass(frozen=True)
+class Part:
+    """A part of a list of captures: its key, which the first part doesn't have, and its first and last instant."""
+
+    key: str
+    first: str
+    last: str
+
+
+@dataclasses.dataclass(frozen=True)
+class Parts:
+    """A part of a list of captures, and those beside it."""
+
+    own: Part
+    before: Optional[Part] = None
+    after: Optional[Part] = None
+
+    def beside(self) -> Iterator[Tuple[str, Part]]:
+        """Those beside it, with their relations to it."""
+        return ((word, it) for word, it in (("prev", self.before), ("next", self.after)) if it is not None)
+
+
+@dataclasses.dataclass(frozen=True)
 class Paths:
-    """The paths of a target below the path of this server."""
+    """The URIs of a target below the URL of this server."""
 
     top: str
     target: Stored
@@ -151,8 +175,10 @@ class Paths:
     def timegate(self) -> str:
         return "%s/timegate/%s" % (self.top, path_of(self.target))
 
-    def timemap(self, form: str = "link") -> str:
-        return "%s/timemap/%s/%s" % (self.top, form, path_of(self.target))
+    def timemap(self, form: str = "link", key: str = "") -> str:
+        """The list of captures, or the part of it that has a key."""
+        part = "%s-after/%s" % (form, key) if key else form
+        return "%s/timemap/%s/%s" % (self.top, part, path_of(self.target))
 
     def memento(self, instant: str) -> str:
         return "%s/memento/%s/%s" % (self.top, digits_of(instant), path_of(self.target))
@@ -203,34 +229,64 @@ def head_links(paths: Paths, around: Optional[Around], chosen: Optional[str], is
 # Lists of captures
 
 
-def link_timemap(paths: Paths, around: Around, instants: Iterable[str]) -> Iterator[str]:
-    """The list of all captures, as RFC 7089, section 5, writes it."""
-    yield link(paths.original(), "original")
-    yield ",\n" + map_link(paths, around, "self")
-    yield ",\n" + link(paths.timegate(), "timegate")
+def key_of(instant: str, *place: int) -> str:
+    """The key of the part that follows a capture."""
+    return "-".join([re.sub("[-:TZ.]", "", instant), *map(str, place)])
+
+
+def key_in(text: str, form: str) -> Tuple[Any, ...]:
+    """The instant that a key of a part means, and of a part in JSON the file and the position."""
+    found = PART_KEY.fullmatch(text)
+    if found is None or (found[2] is None) != (form == "link"):
+        raise NotOne("no part of a list has this key")
+    instant = instants_of(found[1])[0]
+    return (instant,) if form == "link" else (instant, int(found[2]), int(found[3]))
+
+
+def part_link(paths: Paths, part: Part, relation: str) -> str:
+    """The link to a part of the list of all captures."""
+    span = {"from": http_date(part.first), "until": http_date(part.last)}
+    return link(paths.timemap("link", part.key), relation, type=LINK_FORMAT, **span)
+
+
+def link_timemap(paths: Paths, around: Around, parts: Parts, instants: Iterable[str]) -> str:
+    """A part of the list of all captures, as RFC 7089, section 5, writes it. By 5.1.1 it links to those beside it."""
+    lines = [
+        link(paths.original(), "original"),
+        part_link(paths, parts.own, "self"),
+        link(paths.timegate(), "timegate"),
+        *(part_link(paths, part, word + " timemap") for word, part in parts.beside()),
+    ]
     ends = relations(dataclasses.replace(around, before=None, after=None), None)
     for instant in instants:
         words = ends.get(instant, "memento")
-        yield ",\n" + link(paths.memento(instant), words, datetime=http_date(instant))
-    yield "\n"
+        lines.append(link(paths.memento(instant), words, datetime=http_date(instant)))
+    return ",\n".join(lines) + "\n"
 
 
-def json_timemap(paths: Paths, around: Around, captures: Iterable[Tuple[str, Dict[str, Any]]]) -> Iterator[str]:
+def json_timemap(paths: Paths, around: Around, parts: Parts, captures: Iterable[Tuple[str, Dict[str, Any]]]) -> str:
     """The same in JSON, in the form that other archives use, with what the catalogue says of each capture."""
+    mementos: Dict[str, Any] = {}
+    for name, instant in (("first", around.first), ("last", around.last)):
+        mementos[name] = json_memento(paths, instant)
+    mementos["list"] = [{**json_memento(paths, instant), **facts} for instant, facts in captures]
     about = {
         "original_uri": paths.original(),
+        "self": paths.timemap("json", parts.own.key),
+        "from": json_date(parts.own.first),
+        "until": json_date(parts.own.last),
         "timegate_uri": paths.timegate(),
         "timemap_uri": {"link_format": paths.timemap(), "json_format": paths.timemap("json")},
+        **{word: paths.timemap("json", part.key) for word, part in parts.beside()},
+        "mementos": mementos,
     }
-    ends = {name: json_memento(paths, it) for name, it in (("first", around.first), ("last", around.last))}
-    yield json.dumps(about)[:-1] + ', "mementos": ' + json.dumps(ends)[:-1] + ', "list": ['
-    separator = "\n"
-    for instant, facts in captures:
-        yield separator + json.dumps({**json_memento(paths, instant), **facts})
-        separator = ",\n"
-    yield "]}}\n"
+    return json.dumps(about) + "\n"
+
+
+def json_date(instant: str) -> str:
+    return instant[:19] + "Z"
 
 
 def json_memento(paths: Paths, instant: str) -> Dict[str, str]:
     """A capture in JSON."""
-    return {"datetime": instant[:19] + "Z", "uri": paths.memento(instant)}
+    return {"datetime": json_date(instant), "uri": paths.memento(instant)}

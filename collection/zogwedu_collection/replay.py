@@ -30,11 +30,11 @@ from typing import (
 
 from .captures import GIVES, Capture, captures_where
 from .catalogue import Catalogue, Known
-from .damaged import good_records
+from .damaged import Pieces, good_of_members, good_records
 from .disk import Stamp, open_regular, open_stamp, reason_of, stamp_of, temporary_folder
 from .program import instant_of, said
-from .texts import Stored, Trouble, decoded, escaped, real_path, say
-from .unpack import PIECE, Damaged, Unsupported, pieces_of, write_all
+from .texts import Stored, Trouble, decoded, escaped, path_bytes, real_path, say
+from .unpack import PIECE, Damaged, Unsupported, is_of_gzip, pieces_of, write_all
 
 MOST_CANDIDATES = 64
 # The most captures that are asked what they lack, for one that is replayed.
@@ -45,6 +45,7 @@ UNRESOLVED = ("P4", "P5", "P7 Segment G2", "P7 Segment G4")
 NAMES = ("WARC-Refers-To", "WARC-Refers-To-Target-URI", "WARC-Refers-To-Date")
 Names = List[Optional[Stored]]
 Asked = TypeVar("Asked")
+UUID = re.compile(rb"urn:uuid:[0-9a-f]{8}(?:-[0-9a-f]{4}){3}-[0-9a-f]{12}", re.IGNORECASE)
 END_OF_LINE = re.compile(rb"\r\n(?![ \t])")
 FOLD = re.compile(rb"\r\n[ \t]+")
 # The most bytes of a record whose body is decoded.
@@ -112,6 +113,21 @@ def fields_of(head: bytes) -> Iterator[Tuple[bytes, bytes]]:
     for line in END_OF_LINE.split(head)[1:]:
         name, _, rest = line.partition(b":")
         yield name.lower(), FOLD.sub(b" ", rest).strip(b" \t")
+
+
+def ids_like(name: Stored, is_indexed: bool = True) -> Tuple[str, List[bytes]]:
+    """A query for the records with an id, and its values. Those with spaces within their brackets are found if these
+    are indexed, as they are from the next run on. Two ids are the same if their bare texts are the same bytes, or the
+    same UUID in any case, as the program compares them. SQLite's `lower` knows ASCII alone, and so has to Python's."""
+    value = path_bytes(name)
+    lower = value.lower()
+    # Of a valid id, whose bare text has none of these, it takes away what isn't bare text.
+    exactly = "" if UUID.fullmatch(value) else " AND trim(id, '<> \t') = +CAST(? AS TEXT)"
+    query = "SELECT file, position FROM records WHERE %s = +CAST(? AS TEXT)" + exactly
+    odd = "trim(id, '<>') <> trim(id, '<> \t') AND lower(trim(id, '<> \t'))"
+    values = [lower] + ([value] if exactly else [])
+    plain = query % "lower(trim(id, '<>'))"
+    return (plain + " UNION ALL " + query % odd, values + values) if is_indexed else (plain, values)
 
 
 def is_unresolved(reason: Optional[str]) -> bool:
@@ -225,17 +241,31 @@ class Files:
             yield pieces
             return
         with contextlib.ExitStack() as stack:
+            if is_of_gzip(file):
+                found = good_of_members(self.warc, file, self.kept, Pieces())
+                yield stack.enter_context(contextlib.closing(self.counted(known, found)))
+                return
             if pieces is not None:
                 # The program reads at any offset, so a compressed file is unpacked first.
                 file = stack.enter_context(tempfile.TemporaryFile(dir=self.temporary, buffering=0))
                 self.write_pieces(file, pieces)
-            yield stack.enter_context(contextlib.closing(self.good_records(known, file)))
+            yield stack.enter_context(contextlib.closing(self.counted(known, good_records(self.warc, file))))
 
-    def good_records(self, known: Known, file: IO[bytes]) -> Generator[bytes, None, None]:
+    def kept(self, pieces: Iterator[bytes]) -> IO[bytes]:
+        """What is unpacked, in a file without a name."""
+        out = tempfile.TemporaryFile(dir=self.temporary, buffering=0)
+        try:
+            self.write_pieces(out, pieces)
+        except BaseException:
+            out.close()
+            raise
+        return out
+
+    def counted(self, known: Known, found: Generator[bytes, None, None]) -> Generator[bytes, None, None]:
         """The good records of a damaged file, in pieces. They have as many bytes as when it was read: positions would
         mean other records if another version of the program found others."""
         count = 0
-        with contextlib.closing(good_records(self.warc, file)) as pieces:
+        with contextlib.closing(found) as pieces:
             for piece in pieces:
                 count += len(piece)
                 yield piece
@@ -369,8 +399,9 @@ class Replayer:
 
     def with_id(self, name: Stored, where: str, file: int, order: str = "instant DESC") -> List[Capture]:
         """The captures with an id, in a file or in others."""
-        ids = "SELECT file, position FROM records WHERE lower(trim(id, '<>')) = ?"
-        return self.where("(captures.file, position) IN (%s) AND %s" % (ids, where), (name.lower(), file), order)
+        is_indexed = self.catalogue.one("SELECT 1 FROM sqlite_master WHERE name = 'records_of_odd_ids'") is not None
+        query, values = ids_like(name, is_indexed)
+        return self.where("(captures.file, position) IN (%s) AND %s" % (query, where), (*values, file), order)
 
     def where(self, condition: str, values: Sequence[object], order: str = "instant DESC") -> List[Capture]:
         ordered = "%s ORDER BY %s LIMIT %d" % (condition, order, MOST_CANDIDATES)

@@ -1,11 +1,10 @@
 """Answers of the server: a status, fields of a head, and a body."""
 from __future__ import annotations
 
-import contextlib
 import dataclasses
 import http
 import re
-from typing import Iterable, Iterator, List, Tuple
+from typing import Callable, Iterable, List, Tuple
 
 FORBIDS_ALL = "sandbox; default-src 'none'"
 VISIBLE = re.compile(r"[\x20-\x7e]*")
@@ -14,8 +13,10 @@ SAFE: Tuple[Tuple[str, str], ...] = (
     ("X-Content-Type-Options", "nosniff"),
     ("Cross-Origin-Resource-Policy", "same-origin"),
     ("Referrer-Policy", "no-referrer"),
-    ("Cache-Control", "no-store"),
 )
+# Each use of a captured body asks whether it may still be seen.
+ASKED_EACH_TIME = ("Cache-Control", "private, no-cache")
+NEVER_KEPT = ("Cache-Control", "no-store")
 
 
 @dataclasses.dataclass
@@ -26,13 +27,27 @@ class Response:
     headers: Headers
     body: Iterable[bytes] = ()
 
+    def all_headers(self) -> Headers:
+        """The fields of its head, with those of each answer. What isn't said otherwise is kept nowhere."""
+        is_said = any(name == NEVER_KEPT[0] for name, _ in self.headers)
+        return [*self.headers, *SAFE, *(() if is_said else (NEVER_KEPT,))]
+
 
 class Refusal(Exception):
     """A request that gets no more than a status and a sentence."""
 
     def __init__(self, status: int, text: str, *headers: Tuple[str, str]) -> None:
         super().__init__(text)
-        self.response = plain(status, text, *headers)
+        self.status = status
+        self.headers = headers
+
+    @property
+    def response(self) -> Response:
+        return self.renamed(str)
+
+    def renamed(self, change: Callable[[str], str]) -> Response:
+        """The answer, with its sentence changed."""
+        return plain(self.status, change(str(self)), *self.headers)
 
 
 def plain(status: int, text: str, *headers: Tuple[str, str]) -> Response:
@@ -42,23 +57,11 @@ def plain(status: int, text: str, *headers: Tuple[str, str]) -> Response:
     return Response(status, [*own, ("Content-Security-Policy", FORBIDS_ALL), *headers], [body])
 
 
-class Sending:
-    """The pieces of a long body. At its end, or where the one who reads goes away, its archive is given back."""
-
-    def __init__(self, pieces: Iterator[bytes], stack: contextlib.ExitStack) -> None:
-        self.pieces = pieces
-        self.stack = stack
-
-    def __iter__(self) -> Iterator[bytes]:
-        return self.pieces
-
-    def close(self) -> None:
-        self.stack.close()
-
-
 def close(body: Iterable[bytes]) -> None:
-    if isinstance(body, Sending):
-        body.close()
+    """Ends the use of a body."""
+    end = getattr(body, "close", None)
+    if end is not None:
+        end()
 
 
 def phrase(status: int) -> str:

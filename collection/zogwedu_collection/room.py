@@ -1,6 +1,7 @@
 """The reading room over a collection: one page, its script and its style. What they show, the server answers."""
 from __future__ import annotations
 
+import html
 import pkgutil
 import secrets
 from typing import Dict, Tuple
@@ -18,7 +19,7 @@ FILES: Dict[str, Tuple[str, str]] = {
     "/room/room.js": ("room.js", "text/javascript; charset=utf-8"),
     "/room/room.css": ("room.css", "text/css; charset=utf-8"),
 }
-NO_ROOM = "this program was made without the reading room: node-dompurify and node-pako weren't installed"
+NO_ROOM = "this program was made without the reading room, which needs node-dompurify, node-pako and node-css-tree"
 PATHS = "no such path: /timegate/URI, /timemap/link/URI, /timemap/json/URI, /memento/DATE/URI, /"
 
 
@@ -39,7 +40,7 @@ class Pages:
         if path in FILES:
             return answer(FILES[path][1], self.files[path], "default-src 'none'")
         nonce = secrets.token_urlsafe(18)
-        body = self.html.replace("{nonce}", nonce).replace("{top}", top)
+        body = self.html.replace("{nonce}", nonce).replace("{top}", html.escape(top))
         return answer("text/html; charset=utf-8", body.encode("utf-8"), POLICY % nonce)
 
 

@@ -64,7 +64,7 @@ class Shelf:
         """The archive of files, whose bytes are those that were read. It stays open until it is given back."""
         for file in files:
             check_path(file)
-        key = tuple((file.file, file.stamp) for file in files)
+        key = key_of(files)
         held, is_new = self.take(key)
         try:
             if is_new:
@@ -74,6 +74,17 @@ class Shelf:
             with self.changed:
                 held.users -= 1
                 self.changed.notify_all()
+
+    def is_file_itself(self, files: Sequence[Known]) -> bool:
+        """Whether the bytes of an archive that the caller has are those of its file, neither unpacked nor joined."""
+        with self.changed:
+            held = self.held.get(key_of(files))
+            return held is not None and not held.unpacked and len(files) == 1
+
+    def counts(self) -> Tuple[int, int]:
+        """How many archives are open, and how many bytes are unpacked, joined or on their way out."""
+        with self.changed:
+            return len(self.held), self.unpacked
 
     def note_passed(self, lines: Sequence[str]) -> None:
         """Says which files were passed over, each once: who asks again and again fills no log."""
@@ -133,10 +144,25 @@ class Shelf:
             self.changed.notify_all()
 
     def reserve(self, held: Held, count: int) -> None:
-        """Counts bytes before they are unpacked or joined. Archives that nobody uses make room for them."""
+        """Counts bytes before they are unpacked or joined."""
+        self.take_room(count)
+        held.unpacked += count
+
+    def take_room(self, count: int) -> None:
+        """Counts bytes before they are written to a temporary file. Archives that nobody uses make room for them."""
         with self.changed:
             while self.unpacked + count > self.most_unpacked:
                 if not self.drop_idle(True):
                     raise Trouble("more than %d bytes would be unpacked: see --unpacked" % self.most_unpacked)
             self.unpacked += count
-            held.unpacked += count
+
+    def give_room(self, count: int) -> None:
+        """Counts bytes that aren't in a temporary file any more."""
+        with self.changed:
+            self.unpacked -= count
+            self.changed.notify_all()
+
+
+def key_of(files: Sequence[Known]) -> Key:
+    """What an archive is known by: its files, as they were read."""
+    return tuple((file.file, file.stamp) for file in files)

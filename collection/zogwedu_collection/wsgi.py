@@ -9,55 +9,55 @@ from __future__ import annotations
 import contextlib
 import dataclasses
 import functools
-import itertools
 import json
 import os
-import queue
 import re
 import signal
 import sqlite3
 import threading
+import time
 import traceback
-from typing import Any, Callable, Dict, Iterable, Iterator, List, Mapping, NoReturn, Optional, Tuple
+from typing import Any, Callable, Dict, Iterable, Iterator, List, Optional, Set, Tuple
 
-from .captures import Capture, captures_after, captures_as_of, captures_at, end_instant, next_instants, targets_from
-from .captures import unknown_files
+from .access import ALWAYS, Access, Decision, read_access
+from .ages import last_end
+from .bodies import Body, Wanted, has_already, opened_again, spooled, tag_of, wanted_of, within
+from .captures import Capture, captures_as_of, captures_at, end_instant, may_have, unknown_files
 from .catalogue import Catalogue
 from .decode import package_for
+from .desks import Desks, name_of, named
+from .hosts import Site, site_for
 from .lending import Content, Lent, Reader, Unfit
 from .limits import Limits, limits_in
-from .listing import capture_values
 from .memento import TIMEMAPS, Around, NotOne, Paths, digits_of, head_links, http_date, instants_of_http_date
-from .memento import json_timemap, instants_of, link_timemap, path_of, referred, target_in
+from .memento import instants_of, json_timemap, key_in, link_timemap, referred, target_in
+from .near import as_rows, near_captures, targets_below
 from .program import BadDate, instant_of, usable_program
-from .responses import FORBIDS_ALL, SAFE, VISIBLE, Headers, Refusal, Response, Sending, close, moved, phrase, plain
+from .responses import ASKED_EACH_TIME, FORBIDS_ALL, VISIBLE, Headers, Refusal, Response, close, moved, phrase, plain
 from .room import Pages
 from .shelf import PATIENCE_SECONDS, Shelf
 from .texts import Stored, Trouble, escaped, say
+from .timemaps import Listing, Seen
+from .watch import METRICS, Watch
 
 NAMES = ("Archive", "NoBody", "Undecodable", "WarcError")
-# A body of at most so many bytes is read as a whole, and its archive given back, before any of it is sent.
+# A body of at most so many bytes is read as a whole before any of it is sent.
 SMALL = 1 << 20
 MOST_BODY = 4 << 30
-# How much SQLite may do for one request, in parts of 100,000 of its own steps: some six seconds of a
-# processor.
-STEPS = 100_000
-MOST_PARTS = 2_000
-# How many instants are asked for together, and how many lines of a list are sent together.
-AT_ONCE = 5_000
-LINES_AT_ONCE = 500
 # How many targets are found that begin with a text.
 MOST_FOUND = 200
 # A longer text is no date, and the program isn't asked.
 MOST_OF_DATE = 100
-FIRST = "0000"
-LAST = "9999-12-31T23:59:59.999999999Z"
+LAST = ALWAYS
 # What a browser would show or run, and what it says where it would.
-ACTIVE = re.compile(r"html|xml|xsl|svg|multipart|mhtml", re.IGNORECASE)
+ACTIVE = re.compile(r"html|xml|xsl|svg|multipart|mhtml|message/rfc822", re.IGNORECASE)
 SHOWN_BY_BROWSERS = ("document", "iframe", "frame", "embed", "object")
 # Statuses of HTTP that change how an answer is read: they go out as 200.
 CHANGING = (204, 205, 206, 304)
 NOT_FOUND = ("P1", "P2", "P4", "P5")
+UNREAD = "A file that may have it can't be read now."
+DATE_VARIES = ("Vary", "accept-datetime")
+USE_VARIES = ("Vary", "sec-fetch-dest")
 Start = Callable[[str, Headers], Any]
 Environ = Dict[str, Any]
 
@@ -66,265 +66,326 @@ class NoTarget(Exception):
     """The server that runs the application gives no raw target of a request."""
 
 
-def raw_target(environ: Environ) -> str:
-    """The target of a request as it was sent, below the path of this application."""
-    raw = environ.get("REQUEST_URI", environ.get("RAW_URI"))
-    if not isinstance(raw, str):
-        raise NoTarget
-    if not raw.startswith("/"):
-        raw = re.sub(r"^https?://[^/?#]*(?=/)", "", raw, flags=re.IGNORECASE)
-    top = environ.get("SCRIPT_NAME", "")
-    if not raw.startswith(top + "/"):
-        raise Refusal(400, "the target of a request is a path")
-    return raw[len(top) :]
+@dataclasses.dataclass
+class Asking:
+    """A request: its environment, what links begin with, the path of the application, the address of the reader, the
+    rules that hold for it, and the files that were looked up for it."""
+
+    environ: Environ
+    base: str
+    top: str
+    address: str
+    access: Access
+    noted: Set[Stored] = dataclasses.field(default_factory=set)
+
+    def field(self, name: str) -> Optional[str]:
+        """The value of a field of the request's head."""
+        value = self.environ.get("HTTP_" + name)
+        return None if value is None else str(value)
+
+    def is_head(self) -> bool:
+        return self.environ.get("REQUEST_METHOD") == "HEAD"
+
+    def target(self, text: str, *headers: Tuple[str, str]) -> Target:
+        """The target that a part of a path means, if the reader may see any of its captures."""
+        target = target_in(text)
+        decision = self.access.decide(target, self.address)
+        refuse_withheld(decision.withheld(), *headers)
+        return Target(Paths(self.base, target), decision)
+
+    def judge(self, target: Stored, instant: str) -> None:
+        """Refuses a capture that the reader may not see."""
+        refuse_withheld(self.access.decide(target, self.address).withheld_of(instant))
 
 
-class Desks:
-    """Connections to the catalogue, each used by one request at a time. There are as many as requests at work."""
+@dataclasses.dataclass(frozen=True)
+class Target:
+    """A target that is asked for, and what is decided for it and the reader."""
 
-    def __init__(self, folder: str, count: int) -> None:
-        self.folder = folder
-        self.free: queue.LifoQueue[Optional[Catalogue]] = queue.LifoQueue()
-        for _ in range(count):
-            self.free.put(None)
+    paths: Paths
+    decision: Decision
 
-    @contextlib.contextmanager
-    def one(self) -> Iterator[Catalogue]:
-        """A connection, with all its answers of one moment. Questions that take long are given up."""
-        try:
-            catalogue = self.free.get(timeout=PATIENCE_SECONDS)
-        except queue.Empty:
-            raise Trouble("too many requests at once: try again") from None
-        try:
-            catalogue = self.fresh(catalogue)
-            parts = itertools.count()
-            catalogue.base.set_progress_handler(lambda: int(next(parts) > MOST_PARTS), STEPS)
-            catalogue.base.execute("BEGIN")
-            try:
-                yield catalogue
-            finally:
-                catalogue.base.execute("ROLLBACK")
-            catalogue = self.kept(catalogue)
-        except BaseException as error:
-            # What isn't about the catalogue leaves the connection as it is.
-            if isinstance(error, sqlite3.Error) and catalogue is not None:
-                catalogue.base.close()
-                catalogue = None
-            raise
-        finally:
-            self.free.put(catalogue)
+    @property
+    def uri(self) -> Stored:
+        return self.paths.target
 
-    def fresh(self, catalogue: Optional[Catalogue]) -> Catalogue:
-        """A connection to the database that is there now."""
-        if catalogue is not None and catalogue.is_there():
-            return catalogue
-        if catalogue is not None:
-            catalogue.base.close()
-        return Catalogue(self.folder, is_read_only=True)
+    def around(self, catalogue: Catalogue, chosen: Optional[str] = None) -> Optional[Around]:
+        """The captures around one that the reader may see; None if there are none."""
+        last = self.decision.last()
 
-    def kept(self, catalogue: Catalogue) -> Optional[Catalogue]:
-        """A connection for the next request. While a run has its changes in a log, none is kept: it would keep the run
-        from taking the log away, and without the log those who may only read could not open the database."""
-        if catalogue.one("PRAGMA journal_mode")[0] != "wal":
-            return catalogue
-        catalogue.base.close()
-        return None
+        def end(order: str, condition: str = "", *values: str) -> Optional[str]:
+            return end_instant(catalogue, self.uri, order, "AND instant <= ?" + condition, last, *values)
+
+        ends = end("ASC"), end("DESC")
+        if ends[0] is None or ends[1] is None:
+            return None
+        if chosen is None:
+            return Around(ends[0], ends[1])
+        return Around(ends[0], ends[1], end("DESC", " AND instant < ?", chosen), end("ASC", " AND instant > ?", chosen))
+
+    def links(self, catalogue: Catalogue, chosen: Optional[str], is_memento: bool) -> Tuple[str, str]:
+        """The field Link of an answer."""
+        return "Link", head_links(self.paths, self.around(catalogue, chosen), chosen, is_memento)
 
 
-def around(catalogue: Catalogue, target: Stored, chosen: Optional[str] = None) -> Optional[Around]:
-    """The captures of a target around one; None where there are none."""
-    ends = [end_instant(catalogue, target, order) for order in ("ASC", "DESC")]
-    if ends[0] is None or ends[1] is None:
-        return None
-    if chosen is None:
-        return Around(ends[0], ends[1])
-    before = end_instant(catalogue, target, "DESC", "AND instant < ?", chosen)
-    return Around(ends[0], ends[1], before, end_instant(catalogue, target, "ASC", "AND instant > ?", chosen))
+Route = Callable[[Asking, str], Response]
 
 
 class Application:
     """The application over one catalogue."""
 
-    def __init__(self, folder: str, warc: Optional[str], temporary: Optional[str], limits: Limits) -> None:
+    def __init__(
+        self,
+        folder: str,
+        warc: Optional[str],
+        temporary: Optional[str],
+        limits: Limits,
+        site: Site,
+        rules: Callable[[], Access] = lambda: read_access(None),
+        log: Optional[str] = None,
+    ) -> None:
         package = package_for("the server", NAMES)
         self.warc = usable_program(warc)
+        self.site = site
+        self.rules = rules
+        self.access = rules()
+        self.trouble: Optional[str] = None
+        self.watch = Watch(log)
         self.shelf = Shelf(package, self.warc, temporary, limits.archives, limits.unpacked)
         self.desks = Desks(folder, limits.requests)
         self.decoded = threading.BoundedSemaphore(limits.requests)
+        self.own_paths: Set[Stored] = {os.path.abspath(folder), self.warc, self.temporary_folder()}
         with self.desks.one():
             pass
-        self.routes: Tuple[Tuple[str, Callable[[Environ, str], Response]], ...] = (
-            ("/timegate/", self.timegate),
-            *(("/timemap/%s/" % form, functools.partial(self.timemap, form)) for form in TIMEMAPS),
-            ("/memento/", self.memento),
-            ("/room/answer/", self.room_answer),
-            ("/room/found/", self.room_found),
-            ("/room/instant/", self.room_instant),
-        )
+        self.routes = self.all_routes()
         self.pages = Pages()
 
-    def __call__(self, environ: Environ, start: Start) -> Iterable[bytes]:
-        response = self.response(environ)
-        for name, value in (*response.headers, *SAFE):
-            if not VISIBLE.fullmatch(value):
-                response = plain(500, "a field of the answer isn't a line")
-                say("the field %s isn't a line" % name)
-        start("%d %s" % (response.status, phrase(response.status)), [*response.headers, *SAFE])
-        if environ.get("REQUEST_METHOD") != "HEAD":
-            return response.body
-        close(response.body)
-        return []
+    def all_routes(self) -> Tuple[Tuple[str, str, Route], ...]:
+        """The kinds of questions: the beginning of the path, a name, and what answers."""
+        lists = ((form, functools.partial(self.timemap, form)) for form in TIMEMAPS)
+        parts = ((form, functools.partial(self.timemap_part, form)) for form in TIMEMAPS)
+        return (
+            ("/timegate/", "timegate", self.timegate),
+            *(("/timemap/%s/" % form, "timemap", route) for form, route in lists),
+            *(("/timemap/%s-after/" % form, "timemap", route) for form, route in parts),
+            ("/memento/", "memento", self.memento),
+            ("/room/answer/", "answer", self.room_answer),
+            ("/room/found/", "found", self.room_found),
+            ("/room/near/", "near", self.room_near),
+            ("/room/instant/", "instant", self.room_instant),
+            ("/health", "health", self.health),
+            ("/metrics", "metrics", self.metrics),
+        )
 
-    def response(self, environ: Environ) -> Response:
-        """The answer to a request, whatever comes of it."""
+    def temporary_folder(self) -> str:
+        return self.shelf.temporary or os.environ.get("TMPDIR") or "/tmp"
+
+    def reload(self) -> None:
+        """Takes the access rules and opens the log anew. Rules that can't be read change nothing, and are said."""
         try:
-            return self.answer(environ)
-        except Refusal as refusal:
-            return refusal.response
-        except NotOne as error:
-            return plain(400, str(error))
-        except NoTarget:
-            return stop_without_target()
+            self.access, self.trouble = self.rules(), None
+        except (Trouble, OSError, MemoryError) as trouble:
+            self.trouble = str(trouble)
+            say("the rules of before stay: %s" % trouble)
+        try:
+            self.watch.open_log()
         except Trouble as trouble:
-            return plain(503, str(trouble), ("Retry-After", "30"))
-        except (sqlite3.Error, OSError, MemoryError) as error:
-            say("%s: %s" % (type(error).__name__, error))
-            return plain(503, "the collection can't be read now: try again", ("Retry-After", "30"))
-        except Exception as error:  # a fault of this program
-            say("%s: %s" % (type(error).__name__, error))
-            traceback.print_exc()
-            return plain(500, "a fault of this program")
+            say("the log of before is written on: %s" % trouble)
 
-    def answer(self, environ: Environ) -> Response:
-        target = raw_target(environ)
-        if environ.get("REQUEST_METHOD") not in ("GET", "HEAD"):
-            raise Refusal(405, "only GET and HEAD", ("Allow", "GET, HEAD"))
-        for path, route in self.routes:
-            if target.startswith(path):
-                return route(environ, target[len(path) :])
-        return self.pages.page(environ.get("SCRIPT_NAME", ""), target)
+    def __call__(self, environ: Environ, start: Start) -> Iterable[bytes]:
+        begun = time.monotonic()
+        kind, response = self.response(environ)
+        for name, value in response.all_headers():
+            if not VISIBLE.fullmatch(value):
+                say("the field %s isn't a line" % name)
+                response = plain(500, "a field of the answer isn't a line")
+        seconds = time.monotonic() - begun
+        self.watch.note(kind, response.status, seconds)
+        words = [str(environ.get(name, "-")) for name in ("REQUEST_METHOD", "REQUEST_URI", "SERVER_PROTOCOL")]
+        length = dict(response.headers).get("Content-Length", "-")
+        self.watch.log(self.site.address(environ), " ".join(words), response.status, length, seconds)
+        start("%d %s" % (response.status, phrase(response.status)), response.all_headers())
+        if environ.get("REQUEST_METHOD") == "HEAD":
+            close(response.body)
+            return []
+        wrapper = environ.get("wsgi.file_wrapper")
+        # waitress reads such a file itself, while others are answered.
+        is_read = isinstance(response.body, Body) and "waitress" in str(getattr(wrapper, "__module__", ""))
+        return wrapper(response.body) if is_read else response.body  # type: ignore[misc, no-any-return]
 
-    def reader(self, catalogue: Catalogue) -> Reader:
-        return Reader(catalogue, self.warc, self.shelf)
+    def response(self, environ: Environ) -> Tuple[str, Response]:
+        """The kind of a question and its answer, whatever comes of it."""
+        kind, noted = "other", set(self.own_paths)
+        try:
+            raw = environ.get("REQUEST_URI", environ.get("RAW_URI"))
+            if not isinstance(raw, str):
+                raise NoTarget
+            self.site.check(environ)
+            target = self.site.target(environ, raw)
+            kind, route, text = self.route(target)
+            base, top, address = self.site.base(environ), self.site.top(environ), self.site.address(environ)
+            return kind, route(Asking(environ, base, top, address, self.access, noted), text)
+        except NoTarget:
+            return kind, stop_without_target()
+        except Exception as error:
+            return kind, self.refused(error, noted)
+
+    def route(self, target: str) -> Tuple[str, Route, str]:
+        """What answers a request, and the rest of its path."""
+        for path, kind, route in self.routes:
+            if target.startswith(path) if path.endswith("/") else target == path:
+                return kind, self.reading(route), target[len(path) :]
+        return "room", self.reading(lambda asking, text: self.pages.page(asking.top, text)), target
+
+    def reading(self, route: Route) -> Route:
+        """A route that nothing but a question to read comes to."""
+
+        def answer(asking: Asking, text: str) -> Response:
+            if asking.environ.get("REQUEST_METHOD") not in ("GET", "HEAD"):
+                raise Refusal(405, "only GET and HEAD", ("Allow", "GET, HEAD"))
+            return route(asking, text)
+
+        return answer
+
+    def refused(self, error: Exception, noted: Set[Stored]) -> Response:
+        """What is answered where something isn't given. Paths of files are their names, unless they were asked for."""
+        again = ("Retry-After", "30")
+        if isinstance(error, Refusal):
+            return error.response if self.site.has_paths else error.renamed(lambda text: named(text, noted))
+        if isinstance(error, NotOne):
+            return plain(400, str(error))
+        if isinstance(error, Trouble):
+            return plain(503, str(error) if self.site.has_paths else named(str(error), noted), again)
+        say("%s: %s" % (type(error).__name__, error))
+        if isinstance(error, (sqlite3.Error, OSError, MemoryError)):
+            return plain(503, "the collection can't be read now: try again", again)
+        traceback.print_exception(type(error), error, error.__traceback__)  # a fault of this program
+        return plain(500, "a fault of this program")
+
+    def reader(self, catalogue: Catalogue, asking: Asking) -> Reader:
+        return Reader(catalogue, self.warc, self.shelf, asking.judge)
 
     # Memento
 
-    def timegate(self, environ: Environ, text: str) -> Response:
-        """Leads to the capture as of a date, or to the latest one."""
-        vary = ("Vary", "accept-datetime")
-        paths = Paths(environ.get("SCRIPT_NAME", ""), target_in(text))
-        asked = environ.get("HTTP_ACCEPT_DATETIME")
+    def timegate(self, asking: Asking, text: str) -> Response:
+        """Leads to the capture as of a date, to the first one for an earlier date, or to the latest one."""
+        target = asking.target(text, DATE_VARIES)
+        asked = asking.field("ACCEPT_DATETIME")
         try:
             instants = (LAST, LAST) if asked is None else instants_of_http_date(asked)
         except NotOne as error:
-            raise Refusal(400, str(error), vary) from None
-        with self.desks.one() as catalogue:
-            chosen = self.chosen_in(catalogue, paths, instants, False, vary)[0].instant
-            links = head_links(paths, around(catalogue, paths.target, chosen), chosen, False)
-        return moved(302, paths.memento(chosen), vary, ("Link", links))
+            raise Refusal(400, str(error), DATE_VARIES) from None
+        with self.desks.one(asking.noted) as catalogue:
+            first = end_instant(catalogue, target.uri, "ASC")
+            if first is not None and instants[1] < first:
+                instants = first, first
+            chosen = self.chosen(catalogue, asking, target, instants, False, DATE_VARIES)[0].instant
+            links = target.links(catalogue, chosen, False)
+        return moved(302, target.paths.memento(chosen), DATE_VARIES, links)
 
     def chosen(
-        self, catalogue: Catalogue, paths: Paths, instant: str, is_memento: bool, *headers: Tuple[str, str]
-    ) -> List[Capture]:
-        """The captures as of an instant. Where there is none, 404 with the reason, and with what may have one."""
-        try:
-            return captures_as_of(catalogue, paths.target, instant)
-        except Trouble as reason:
-            links = head_links(paths, around(catalogue, paths.target), None, is_memento)
-            lines = [str(reason), *unknown_files(catalogue, paths.target)]
-            raise Refusal(404, "\n".join(lines), *headers, ("Link", links)) from None
-
-    def chosen_in(
         self,
         catalogue: Catalogue,
-        paths: Paths,
+        asking: Asking,
+        target: Target,
         instants: Tuple[str, str],
-        is_memento: bool = True,
+        is_memento: bool,
         *headers: Tuple[str, str],
     ) -> List[Capture]:
-        """The captures of the first instant of a second, or else those as of its end."""
-        exact = captures_at(catalogue, paths.target, instants[0])
-        return exact or self.chosen(catalogue, paths, instants[1], is_memento, *headers)
+        """The captures of the first instant of a second, or else those as of its end, if the reader may see them. Where
+        there are none, 404 with the reason, and with what may have one."""
+        links = functools.partial(target.links, catalogue, None, is_memento)
+        try:
+            exact = captures_at(catalogue, target.uri, instants[0])
+            found = exact or captures_as_of(catalogue, target.uri, instants[1])
+        except Trouble as reason:
+            is_none = str(reason).startswith("P1 ")
+            near = near_captures(catalogue, target.uri, asking.access, asking.address) if is_none else []
+            lines = [str(reason), *("near: %(path)s %(captures)d %(first)s %(last)s" % it for it in as_rows(near))]
+            raise Refusal(404, with_details(lines, unknown_files(catalogue, target.uri)), *headers, links()) from None
+        asking.noted.update(it.path for it in found)
+        refuse_withheld(target.decision.withheld_of(found[0].instant), *headers, links())
+        return found
 
-    def timemap(self, form: str, environ: Environ, text: str) -> Response:
-        """All captures of all files."""
-        paths = Paths(environ.get("SCRIPT_NAME", ""), target_in(text))
-        with self.desks.one() as catalogue:
-            ends = around(catalogue, paths.target)
+    def timemap(self, form: str, asking: Asking, text: str, key: str = "") -> Response:
+        """The captures of all files that the reader may see, or some thousands of them."""
+        target = asking.target(text)
+        with self.desks.one(asking.noted) as catalogue:
+            ends = target.around(catalogue)
             if ends is None:
-                self.chosen(catalogue, paths, LAST, True)
-        assert ends is not None
-        if form == "link":
-            lines = link_timemap(paths, ends, self.instants(paths.target))
-        else:
-            lines = json_timemap(paths, ends, self.facts(paths.target))
-        policy = ("Content-Security-Policy", FORBIDS_ALL)
-        return Response(200, [("Content-Type", TIMEMAPS[form]), policy], packed(lines))
+                first = end_instant(catalogue, target.uri, "ASC") or LAST
+                self.chosen(catalogue, asking, target, (first, LAST), True)
+                raise Refusal(404, "P1 NoCapture")
+            seen = Seen(asking.access, asking.address)
+            listing = Listing(catalogue, target.uri, form, target.decision.last(), seen)
+            found = listing.parts(key_in(key, form) if key else None)
+            if found is None:
+                raise Refusal(404, "there is nothing in this part")
+            parts, keys = found
+            if form == "link":
+                body = link_timemap(target.paths, ends, parts, (it[0] for it in keys))
+            else:
+                facts = ((instant, self.facts(it)) for instant, it in listing.captures(keys))
+                body = json_timemap(target.paths, ends, parts, facts)
+        return in_memory(TIMEMAPS[form], body.encode("utf-8", "replace"))
 
-    def instants(self, target: Stored) -> Iterator[str]:
-        """The instants of all captures, some at a time: a long list isn't in memory, and no connection waits for the
-        one who reads it."""
-        last = FIRST
-        while True:
-            with self.desks.one() as catalogue:
-                instants = next_instants(catalogue, target, last, AT_ONCE)
-            if not instants:
-                return
-            yield from instants
-            last = instants[-1]
+    def timemap_part(self, form: str, asking: Asking, text: str) -> Response:
+        key, _, uri = text.partition("/")
+        return self.timemap(form, asking, uri, key)
 
-    def facts(self, target: Stored) -> Iterator[Tuple[str, Dict[str, Any]]]:
-        """The instants of all captures, with what the catalogue has of each, some at a time as well: many may be of
-        one instant."""
-        last = FIRST, -1, -1
-        while True:
-            with self.desks.one() as catalogue:
-                captures = captures_after(catalogue, target, last, AT_ONCE)
-            if not captures:
-                return
-            for capture in captures:
-                yield capture.instant, dict(capture_values(capture), mark=capture.mark())
-            last = captures[-1].instant, captures[-1].file, captures[-1].position
+    def facts(self, facts: Dict[str, Any]) -> Dict[str, Any]:
+        """What is said of a capture: the name of its file, or its path."""
+        return facts if self.site.has_paths else dict(facts, path=str(name_of(facts["path"])))
 
-    def memento(self, environ: Environ, text: str) -> Response:
+    def shown_path(self, path: Stored) -> str:
+        return escaped(path if self.site.has_paths else name_of(path))
+
+    def memento(self, asking: Asking, text: str) -> Response:
         """The body of a capture. A date that isn't its own leads to its own."""
         digits, _, uri = text.partition("/")
-        instants, paths = instants_of(digits), Paths(environ.get("SCRIPT_NAME", ""), target_in(uri))
-        with self.desks.one() as catalogue:
-            captures = self.chosen_in(catalogue, paths, instants)
+        instants, target = instants_of(digits), asking.target(uri)
+        paths = target.paths
+        with self.desks.one(asking.noted) as catalogue:
+            captures = self.chosen(catalogue, asking, target, instants, True)
             chosen = captures[0].instant
-            links = ("Link", head_links(paths, around(catalogue, paths.target, chosen), chosen, True))
-            vary = ("Vary", "sec-fetch-dest")
-            if environ.get("HTTP_SEC_FETCH_DEST", "").lower() in SHOWN_BY_BROWSERS:
-                return moved(303, "%s/#%s" % (paths.top, paths.memento(chosen)[len(paths.top + "/memento/") :]), vary)
+            links = target.links(catalogue, chosen, True)
+            if (asking.field("SEC_FETCH_DEST") or "").lower() in SHOWN_BY_BROWSERS:
+                place = paths.memento(chosen)[len(paths.top + "/memento/") :]
+                return moved(303, "%s/#%s" % (paths.top, place), USE_VARIES)
             if digits_of(chosen) != digits:
-                return moved(302, paths.memento(chosen), vary, links)
-            own = [links, vary, ("Memento-Datetime", http_date(chosen))]
-            answer = given(lambda: self.reader(catalogue).answer(captures), links)
-            refuse_without_body(answer, links)
+                return moved(302, paths.memento(chosen), USE_VARIES, links)
+            own = [links, USE_VARIES, ("Memento-Datetime", http_date(chosen))]
+            answer = given(lambda: self.reader(catalogue, asking).answer(captures), links)
+            self.refuse_without_body(catalogue, target, answer, links)
             own += [("X-Archived-File", "damaged")] if answer.damaged() else []
-        return self.sent(answer, lambda content: [*own, *memento_head(content, paths, chosen)], None, links)
+        return self.sent(asking, answer, lambda content: [*own, *memento_head(content, paths, chosen)], None, links)
 
     # The reading room
 
-    def room_answer(self, environ: Environ, text: str) -> Response:
+    def room_answer(self, asking: Asking, text: str) -> Response:
         """What the collection gives of a URI as of a date, for the room's script: bytes that no browser shows."""
         digits, _, uri = text.partition("/")
-        instants, paths = instants_of(digits), Paths(environ.get("SCRIPT_NAME", ""), target_in(uri))
-        with self.desks.one() as catalogue:
-            captures = self.chosen_in(catalogue, paths, instants)
-            answer = given(lambda: self.reader(catalogue).answer(captures))
-            refuse_without_body(answer)
-        return self.sent(answer, lambda content: answer_head(answer, content), 200)
+        instants, target = instants_of(digits), asking.target(uri)
+        with self.desks.one(asking.noted) as catalogue:
+            captures = self.chosen(catalogue, asking, target, instants, True)
+            answer = given(lambda: self.reader(catalogue, asking).answer(captures))
+            self.refuse_without_body(catalogue, target, answer)
+        return self.sent(asking, answer, lambda content: self.answer_head(answer, content), 200)
 
-    def room_found(self, _environ: Environ, text: str) -> Response:
+    def room_found(self, asking: Asking, text: str) -> Response:
         """The targets that begin with a text."""
-        with self.desks.one() as catalogue:
-            found = targets_from(catalogue, target_in(text), MOST_FOUND)
-        rows = [dict(zip(("path", "captures", "first", "last"), (path_of(it[0]), *it[1:]))) for it in found]
-        return as_json({"most": MOST_FOUND, "found": rows})
+        front = target_in(text)
+        with self.desks.one(asking.noted) as catalogue:
+            found = list(targets_below(catalogue, front, asking.access, asking.address, MOST_FOUND))
+        return as_json({"most": MOST_FOUND, "found": as_rows(found)})
 
-    def room_instant(self, _environ: Environ, text: str) -> Response:
+    def room_near(self, asking: Asking, text: str) -> Response:
+        """The near spellings of a URI that have captures."""
+        target = target_in(text)
+        with self.desks.one(asking.noted) as catalogue:
+            return as_json({"found": as_rows(near_captures(catalogue, target, asking.access, asking.address))})
+
+    def room_instant(self, _asking: Asking, text: str) -> Response:
         """The instant that a date means. The program reads the date, in each form that it has."""
         date = target_in(text)
         try:
@@ -335,40 +396,90 @@ class Application:
         except BadDate as error:
             raise NotOne(str(error)) from None
 
+    # For operators
+
+    def health(self, _asking: Asking, _text: str) -> Response:
+        """Whether the catalogue answers, and the access rules are those of their file; and when the last run ended."""
+        with self.desks.one() as catalogue:
+            last = last_end(catalogue)
+        about = {"is_well": self.trouble is None, "last_run": last and last["ended"]}
+        return as_json(about, 200 if self.trouble is None else 503)
+
+    def metrics(self, _asking: Asking, _text: str) -> Response:
+        body = self.watch.metrics(*self.shelf.counts(), self.trouble is None)
+        return in_memory(METRICS, body.encode("ascii"))
+
+    # Bodies
+
+    def refuse_without_body(
+        self, catalogue: Catalogue, target: Target, answer: Lent, *headers: Tuple[str, str]
+    ) -> None:
+        """Refuses an answer that is a reason. A coded body is one that can be sent."""
+        reason = answer.reason
+        if reason is None or reason.startswith("P10 "):
+            return
+        status = 404 if reason.split(" ")[0] in NOT_FOUND else 502
+        lines = [reason, *([UNREAD] if status == 404 and may_have(catalogue, target.uri) else [])]
+        details = [answer.described(), *unknown_files(catalogue, target.uri)]
+        raise Refusal(status, with_details(lines, details), *headers)
+
     def sent(
         self,
+        asking: Asking,
         answer: Lent,
         head: Callable[[Content], Headers],
         status: Optional[int] = None,
         *links: Tuple[str, str],
     ) -> Response:
-        """An answer with its bytes, and the status that was captured, or another one. A long body keeps its archive
-        open until it is sent."""
-        assert answer.reader is not None
-        stack = contextlib.ExitStack()
-        with contextlib.ExitStack() as until_sent:
-            place = until_sent.enter_context(contextlib.ExitStack())
+        """An answer with its bytes, and the status that was captured, or another one."""
+        with contextlib.ExitStack() as stack:
             if answer.reason is not None:
-                place.enter_context(self.one_decoded())
-            archive = until_sent.enter_context(self.shelf.lent(answer.files))
-            content = given(lambda: answer.reader.content(answer, archive), *links)  # type: ignore[union-attr]
-            if not content.is_decoded:
-                place.close()
-            until_sent.callback(content.release)
+                stack.enter_context(self.one_decoded())
+            archive = stack.enter_context(self.shelf.lent(answer.files))
+            content = given(lambda: answer.own_reader().content(answer, archive), *links)
+            stack.callback(content.release)
             if content.length() > MOST_BODY:
                 raise Refusal(502, "the body has more than %d bytes" % MOST_BODY, *links)
-            pieces, headers = answer.reader.pieces(answer, content), head(content)
-            length = content.length()
-            headers.append(("Content-Length", str(length)))
-            first = list(itertools.islice(pieces, 1))
-            if length <= SMALL:
-                return Response(status or status_of(content), headers, [*first, *pieces])
-            stack = until_sent.pop_all()
-        return Response(status or status_of(content), headers, Sending(itertools.chain(first, pieces), stack))
+            headers = [*head(content), ASKED_EACH_TIME, ("Accept-Ranges", "none" if content.is_decoded else "bytes")]
+            response = self.with_body(asking, answer, content, status or status_of(content), headers)
+        return response
+
+    def with_body(self, asking: Asking, answer: Lent, content: Content, status: int, headers: Headers) -> Response:
+        """An answer with the bytes that are wanted of its body, or with none if the reader has them already."""
+        length = content.length()
+        if status != 200:
+            return Response(status, [*headers, *Wanted(0, length).headers(length)], self.body(asking, answer, content))
+        tag = tag_of(answer)
+        headers.append(("ETag", tag))
+        if has_already(asking.field("IF_NONE_MATCH") or "", tag):
+            return Response(304, [it for it in headers if not it[0].startswith("Content-")])
+        is_range = not content.is_decoded and not asking.is_head() and asking.field("IF_RANGE") in (None, tag)
+        wanted = wanted_of(asking.field("RANGE") if is_range else None, length, *headers)
+        body = self.body(asking, answer, content, wanted)
+        return Response(200 if wanted.is_all else 206, [*headers, *wanted.headers(length)], body)
+
+    def body(self, asking: Asking, answer: Lent, content: Content, wanted: Optional[Wanted] = None) -> Iterable[bytes]:
+        """The bytes that are wanted. A short body is in memory. A long one is read from its file again, or from a file
+        that has it alone, so that whoever reads it slowly keeps no archive open."""
+        first, count = (0, content.length()) if wanted is None else (wanted.first, wanted.count)
+        if asking.is_head():
+            return []
+        pieces = answer.own_reader().pieces(answer, content, first, count)
+        if count <= SMALL:
+            return list(pieces)
+        if content.spans and self.shelf.is_file_itself(answer.files):
+            return opened_again(answer.files[0], within(content.spans, first, count))
+        self.shelf.take_room(count)
+        give_back = functools.partial(self.shelf.give_room, count)
+        try:
+            return spooled(pieces, count, self.temporary_folder(), give_back)
+        except BaseException:
+            give_back()
+            raise
 
     @contextlib.contextmanager
     def one_decoded(self) -> Iterator[None]:
-        """A place for a coded body, which may be decoded in memory until it is sent: as many as requests at work."""
+        """A place for a coded body, which may be decoded in memory: as many as requests at work."""
         if not self.decoded.acquire(timeout=PATIENCE_SECONDS):
             raise Trouble("too many coded bodies at once: try again")
         try:
@@ -376,20 +487,49 @@ class Application:
         finally:
             self.decoded.release()
 
+    def answer_head(self, answer: Lent, content: Content) -> Headers:
+        """The fields of an answer for the room's script. What was captured is in one of them, as JSON."""
+        about = {
+            "instant": answer.capture.instant,
+            "chosen": [self.shown_path(answer.capture.path), answer.capture.position],
+            "given": [None if answer.file is None else self.shown_path(answer.file.path), answer.position],
+            "joined": len(answer.files),
+            "damaged": answer.damaged(),
+            "reason": answer.reason,
+            "status": content.status,
+            "type": content.media,
+            "coding": content.coding or "",
+            "location": content.location,
+        }
+        return [
+            ("Content-Type", "application/octet-stream"),
+            ("Content-Disposition", "attachment"),
+            ("Content-Security-Policy", FORBIDS_ALL),
+            ("X-Archived-About", json.dumps(about)),
+        ]
 
-def as_json(value: Dict[str, Any]) -> Response:
-    """An answer to the room's script."""
-    headers = [("Content-Type", "application/json"), ("Content-Security-Policy", FORBIDS_ALL)]
-    return Response(200, headers, [json.dumps(value).encode("ascii")])
+
+def refuse_withheld(withheld: Any, *headers: Tuple[str, str]) -> None:
+    """Refuses what the reader may not see."""
+    if withheld is not None:
+        raise Refusal(withheld.status, withheld.text, *headers)
 
 
-def packed(lines: Iterator[str]) -> Iterator[bytes]:
-    """Lines as bytes, some at a time."""
-    while True:
-        some = list(itertools.islice(lines, LINES_AT_ONCE))
-        if not some:
-            return
-        yield "".join(some).encode("utf-8", "replace")
+def with_details(lines: Iterable[str], details: Iterable[str]) -> str:
+    """What is said to a reader, and after an empty line what an operator needs."""
+    more = list(details)
+    return "\n".join([*lines, *([""] if more else []), *more])
+
+
+def as_json(value: Dict[str, Any], status: int = 200) -> Response:
+    """An answer to a script."""
+    return dataclasses.replace(in_memory("application/json", json.dumps(value).encode("ascii")), status=status)
+
+
+def in_memory(media: str, body: bytes) -> Response:
+    """An answer that nobody captured."""
+    headers = [("Content-Type", media), ("Content-Length", str(len(body)))]
+    return Response(200, [*headers, ("Content-Security-Policy", FORBIDS_ALL)], [body])
 
 
 def given(ask: Callable[[], Any], *headers: Tuple[str, str]) -> Any:
@@ -400,14 +540,6 @@ def given(ask: Callable[[], Any], *headers: Tuple[str, str]) -> Any:
         raise Refusal(502, str(error), *headers) from None
 
 
-def refuse_without_body(answer: Lent, *headers: Tuple[str, str]) -> None:
-    """Refuses an answer that is a reason. A coded body is one that can be sent."""
-    reason = answer.reason
-    if reason is not None and not reason.startswith("P10 "):
-        status = 404 if reason.split(" ")[0] in NOT_FOUND else 502
-        raise Refusal(status, answer.described(), *headers)
-
-
 def status_of(content: Content) -> int:
     """The status that goes out."""
     status = content.status or 200
@@ -416,7 +548,7 @@ def status_of(content: Content) -> int:
 
 def memento_head(content: Content, paths: Paths, instant: str) -> Headers:
     """The fields of a memento: of what was captured no more than the media type, the coding and where it leads."""
-    headers = [("Content-Type", content.media), ("Content-Security-Policy", FORBIDS_ALL), ("Accept-Ranges", "none")]
+    headers = [("Content-Type", content.media), ("Content-Security-Policy", FORBIDS_ALL)]
     if content.coding is not None:
         headers.append(("Content-Encoding", content.coding))
     if content.status is not None and status_of(content) != content.status:
@@ -429,29 +561,6 @@ def memento_head(content: Content, paths: Paths, instant: str) -> Headers:
     return headers
 
 
-def answer_head(answer: Lent, content: Content) -> Headers:
-    """The fields of an answer for the room's script. What was captured is in one of them, as JSON."""
-    given_path = None if answer.file is None else escaped(answer.file.path)
-    about = {
-        "instant": answer.capture.instant,
-        "chosen": [escaped(answer.capture.path), answer.capture.position],
-        "given": [given_path, answer.position],
-        "joined": len(answer.files),
-        "damaged": answer.damaged(),
-        "reason": answer.reason,
-        "status": content.status,
-        "type": content.media,
-        "coding": content.coding or "",
-        "location": content.location,
-    }
-    return [
-        ("Content-Type", "application/octet-stream"),
-        ("Content-Disposition", "attachment"),
-        ("Content-Security-Policy", FORBIDS_ALL),
-        ("X-Archived-About", json.dumps(about)),
-    ]
-
-
 def stop_without_target() -> Response:
     """Ends a server that can't serve."""
     say("this server gives no raw target of a request (REQUEST_URI or RAW_URI), so no URI can be cut from it: stopped")
@@ -462,8 +571,13 @@ def stop_without_target() -> Response:
 @functools.lru_cache(maxsize=1)
 def own_application() -> Application:
     """The application that the environment describes."""
-    limits = limits_in(os.environ)
-    return Application(os.environ.get("WARC_CATALOGUE", "catalogue"), None, None, limits)
+    known = os.environ
+    folder = known.get("WARC_CATALOGUE", "catalogue")
+    words = {name: known.get("WARC_SERVE_" + name, "").split() for name in ("HOST", "ONSITE")}
+    is_set = [bool(known.get("WARC_SERVE_" + name)) for name in ("BEHIND_PROXY", "PATHS")]
+    site = site_for(None, words["HOST"], known.get("WARC_SERVE_BASE_URL"), *is_set)
+    rules = functools.partial(read_access, known.get("WARC_SERVE_ACCESS"), words["ONSITE"])
+    return Application(folder, None, None, limits_in(known), site, rules, known.get("WARC_SERVE_LOG"))
 
 
 def application(environ: Environ, start: Start) -> Iterable[bytes]:

@@ -16,7 +16,7 @@ from .conftest import built, hold, needs
 LEFT_OUT = {
     *("no_room", "odd_temporary", "frames", "limited_time", "long_readers", "damage_without_room"),
     *("payloads_without_room", "kept_rows", "unknown_names", "later_damage", "rot_beside_failures"),
-    *("hostile_tables", "synced_jobs", "slow_pieces", "run_beside_replay", "stopped_export"),
+    *("hostile_tables", "synced_jobs", "slow_pieces", "run_beside_replay", "stopped_export", "whole_night"),
 }
 FAULTS = [part for part in collection_faults.PARTS if part.__name__ not in LEFT_OUT]
 # Comparing each capture of a crawl with a replay takes minutes: that is in `make stress`, too.

@@ -83,12 +83,20 @@ class Collection:
 
     def words(self, command: str, *words: str, catalogue: str = "catalogue") -> List[str]:
         warc = ["--warc", self.warc] if command in USES_WARC and "--warc" not in words else []
-        return [sys.executable, os.path.join(PROJECT, "collection"), "-c", self.path(catalogue), command, *warc, *words]
+        return [*self.script(), "-c", self.path(catalogue), command, *warc, *words]
+
+    def script(self) -> List[str]:
+        """What runs the package."""
+        return [sys.executable, os.path.join(PROJECT, "collection")]
 
     def run(self, command: str, *words: str, env: Optional[Dict[str, str]] = None, **more: str) -> Done[bytes]:
         """Runs a command."""
+        return self.run_words(self.words(command, *words, **more), env)
+
+    def run_words(self, words: Sequence[str], env: Optional[Dict[str, str]] = None) -> Done[bytes]:
+        """Runs a command line."""
         done = subprocess.run(
-            self.words(command, *words, **more),
+            words,
             stdin=subprocess.DEVNULL,
             capture_output=True,
             cwd=self.folder,
@@ -100,8 +108,8 @@ class Collection:
         return done
 
     def night(self, *words: str, **more: Any) -> Done[bytes]:
-        """A run, which prints nothing while it works."""
-        return self.run("run", "--quiet", "--jobs", "2", *words, **more)
+        """A run."""
+        return self.run("run", "--jobs", "2", *words, **more)
 
     def ask(self, query: str, *values: object, catalogue: str = "catalogue") -> List[Tuple[Any, ...]]:
         base = sqlite3.connect(self.path(catalogue, "catalogue.sqlite"), timeout=60)

@@ -73,11 +73,19 @@ def seconds_of(date: Optional[str]) -> int:
 
 
 class Client:
-    """A client of one server. It has the path of its TimeGate and of its TimeMaps from the server's own description."""
+    """A client of one server. It has the path of its TimeGate and of its TimeMaps from the server's own description.
+    What it asks for is a path, or the URI of a link, which has to lead to that server."""
 
     def __init__(self, host: str, port: int) -> None:
         self.host = host
         self.port = port
+        self.base = "http://%s:%d" % (host, port)
+
+    def path(self, uri: str) -> str:
+        """The path of a URI of the server. Links are URIs, and not paths (RFC 7089, appendix B)."""
+        if not uri.startswith(self.base + "/"):
+            raise Wrong("%s isn't a URI of this server" % uri)
+        return uri[len(self.base) :]
 
     def ask(self, path: str, fields: Optional[Dict[str, str]] = None, method: str = "GET") -> Reply:
         connection = http.client.HTTPConnection(self.host, self.port, timeout=MOST_SECONDS)
@@ -111,8 +119,8 @@ class Client:
             one(links, relation)
         return reply
 
-    def timemap(self, uri: str) -> List[Link]:
-        """The mementos that a TimeMap lists, and that it is one (section 5)."""
+    def part(self, uri: str) -> List[Link]:
+        """The links of a TimeMap, and that it is one (section 5)."""
         reply = self.ask(uri)
         if reply.status != 200 or (reply.get("Content-Type") or "").split(";")[0] != "application/link-format":
             raise Wrong("no TimeMap: %d" % reply.status)
@@ -120,14 +128,28 @@ class Client:
         one(links, "original")
         one(links, "timegate")
         own = one(links, "self")
-        mementos = [link for link in links if "memento" in link.relations]
-        dates = [seconds_of(link.parameters.get("datetime")) for link in mementos]
+        dates = [seconds_of(link.parameters.get("datetime")) for link in mementos_of(links)]
         ends = [seconds_of(own.parameters.get(name)) for name in ("from", "until")]
-        if dates != sorted(dates) or ends != [dates[0], dates[-1]] or own.uri != uri:
+        if not dates or dates != sorted(dates) or ends != [dates[0], dates[-1]] or self.path(own.uri) != uri:
             raise Wrong("the dates of a TimeMap: %s, %s" % (ends, dates))
+        return links
+
+    def timemap(self, uri: str) -> List[Link]:
+        """The mementos that a TimeMap lists, and those that it links to: one that is long is in several (5.1.1). Each
+        says for which time it is."""
+        waiting, known, mementos = [uri], {uri}, []
+        while waiting:
+            links = self.part(waiting.pop(0))
+            mementos += mementos_of(links)
+            for link in (it for it in links if "timemap" in it.relations):
+                for name in ("from", "until"):
+                    seconds_of(link.parameters.get(name))
+                if self.path(link.uri) not in known:
+                    waiting.append(self.path(link.uri))
+                    known.add(self.path(link.uri))
         one(mementos, "first")
         one(mementos, "last")
-        return mementos
+        return sorted(mementos, key=lambda link: seconds_of(link.parameters.get("datetime")))
 
     def walked(self, first: str, most: int) -> Iterator[str]:
         """The mementos from one on, by the links to the next one."""
@@ -136,5 +158,10 @@ class Client:
             if uri is None:
                 return
             yield uri
-            following = [link.uri for link in self.ask(uri).links() if "next" in link.relations]
+            links = mementos_of(self.ask(uri).links())
+            following = [self.path(link.uri) for link in links if "next" in link.relations]
             uri = following[0] if following else None
+
+
+def mementos_of(links: List[Link]) -> List[Link]:
+    return [link for link in links if "memento" in link.relations]

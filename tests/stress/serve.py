@@ -44,6 +44,8 @@ BIG = bytes(range(256)) * 5_000
 ZEROS = 1 << 20
 HOSTS = ("127.0.0.1", "127.0.0.2")
 HEAD_SECONDS = 15
+# Of one address, with those that are told that there are too many.
+MOST_OF_ADDRESS = 64
 REASONS = {"P1": 404, "P2": 404, "P4": 404, "P5": 404, "P3": 502, "P6": 502, "P7": 502, "P8": 502, "P9": 502}
 # Their codings are none that can be sent.
 UNFIT = ("/transfer", "/evil-coding")
@@ -219,7 +221,7 @@ ALLOWED = (
     *("date", "link", "vary", "memento-datetime", "content-type", "content-length", "content-encoding", "location"),
     *("content-security-policy", "x-content-type-options", "cross-origin-resource-policy", "referrer-policy"),
     *("cache-control", "x-archived-status", "content-disposition", "accept-ranges", "retry-after", "allow"),
-    "x-archived-file",
+    *("x-archived-file", "etag", "connection"),
 )
 
 
@@ -258,19 +260,20 @@ def judge_target(trial: Trial, client: Client, target: str, instants: List[str])
         return
     found = client.timemap("/timemap/link/" + in_path(target))
     paths = ["/memento/%s/%s" % (digits(instant), in_path(target)) for instant in instants]
-    trial.judge([link.uri for link in found] == paths, "the list of %s" % target, found)
+    uris = [client.base + path for path in paths]
+    trial.judge([link.uri for link in found] == uris, "the list of %s" % target, found)
     trial.judge(list(client.walked(paths[0], len(paths) + 1)) == paths, "the way through %s" % target)
-    for instant, path, link in zip(instants, paths, found):
+    for instant, uri, link in zip(instants, uris, found):
         date = link.parameters["datetime"]
         reply = client.negotiated("/timegate/" + in_path(target), date)
         is_exact = len(digits(instant)) == 14
-        is_right = reply.status == 302 and (reply.get("Location") == path or not is_exact)
+        is_right = reply.status == 302 and (reply.get("Location") == uri or not is_exact)
         trial.judge(is_right, "%s as of %s" % (target, date), reply)
         judge_memento(trial, client, target, instant)
     last = client.negotiated("/timegate/" + in_path(target), None)
-    trial.judge(last.get("Location") == paths[-1], "the latest of %s" % target, last)
+    trial.judge(last.get("Location") == uris[-1], "the latest of %s" % target, last)
     early = client.negotiated("/timegate/" + in_path(target), "Thu, 01 Jan 1970 00:00:00 GMT")
-    trial.judge(early.status == 404, "%s before its first capture" % target, early)
+    trial.judge(early.get("Location") == uris[0], "%s before its first capture" % target, early)
 
 
 def judge_of_damaged(trial: Trial, server: Served) -> None:
@@ -426,7 +429,8 @@ TARGETS = {
     "/memento/00000101000000/" + TARGET: 404,
     "/memento/99991231235959/" + TARGET: 302,
     "/memento/20200101000000/" + TARGET: 200,
-    "http://other.example/memento/20200101000000/" + TARGET: 200,
+    "http://other.example/memento/20200101000000/" + TARGET: 403,
+    "http://localhost/memento/20200101000000/" + TARGET: 200,
     "/memento/20200101000000/file:///etc/hostname": 404,
     "/room/answer/": 400,
     "/room/answer/20200101000000/" + TARGET: 200,
@@ -460,7 +464,7 @@ DATES = {
     "Wed, 01 Jan 2020 00:00:00 GMT": 302,
     " Wed, 01 Jan 2020 00:00:00 GMT ": 302,
     "Fri, 31 Dec 9999 23:59:59 GMT": 302,
-    "Sat, 01 Jan 0000 00:00:00 GMT": 404,
+    "Sat, 01 Jan 0000 00:00:00 GMT": 302,
     "Thu, 01 Jan 2020 00:00:00 GMT": 400,
     "Wed, 1 Jan 2020 00:00:00 GMT": 400,
     "Wed, 01 Jan 2020 00:00:00 UTC": 400,
@@ -487,23 +491,24 @@ TYPED = {
     "9999": "9999-01-01T00:00:00.000000000Z",
 }
 HEADS = {
-    b"GET /timegate/x\r\n\r\n": 400,
-    b"GET /timegate/x HTTP/2.0\r\n\r\n": 400,
+    b"GET /timegate/x\r\n\r\n": 404,
+    b"GET /timegate/x HTTP/2.0\r\n\r\n": 404,
     b"GET /timegate/x HTTP/1.0 x\r\n\r\n": 400,
     b"GET  /timegate/x HTTP/1.0\r\n\r\n": 400,
-    b"\r\n\r\n": 400,
     b"\0\0\0\0\r\n\r\n": 400,
     b"\x16\x03\x01\x02\x00\x01\x00\x01\xfc\x03\x03\r\n\r\n": 400,
     b"POST /timegate/x HTTP/1.0\r\nContent-Length: 4\r\n\r\nbody": 405,
     b"PUT / HTTP/1.0\r\n\r\n": 405,
     b"OPTIONS * HTTP/1.0\r\n\r\n": 400,
-    b"get /timegate/x HTTP/1.0\r\n\r\n": 405,
-    b"GET /timegate/nocolon HTTP/1.1\r\nHost: x\r\n\r\n": 302,
+    b"get /timegate/x HTTP/1.0\r\n\r\n": 400,
+    b"GET /timegate/nocolon HTTP/1.1\r\nHost: x\r\nConnection: close\r\n\r\n": 403,
+    b"GET /timegate/nocolon HTTP/1.1\r\nConnection: close\r\n\r\n": 400,
+    b"GET /timegate/nocolon HTTP/1.1\r\nHost: localhost\r\nConnection: close\r\n\r\n": 302,
     b"GET /timegate/nocolon HTTP/1.0\r\n" + b"X: y\r\n" * 90 + b"\r\n": 302,
-    b"GET /timegate/nocolon HTTP/1.0\r\n" + b"X: y\r\n" * 3000 + b"\r\n": 431,
-    b"GET /timegate/nocolon HTTP/1.0\r\nX: " + b"y" * 70_000 + b"\r\n\r\n": 431,
+    b"GET /timegate/nocolon HTTP/1.0\r\n" + b"X: y\r\n" * 3000 + b"\r\n": 302,
+    b"GET /timegate/nocolon HTTP/1.0\r\nX: " + b"y" * 70_000 + b"\r\n\r\n": 302,
     b"GET /timegate/nocolon HTTP/1.0\r\nX: " + b"y" * 400_000 + b"\r\n\r\n": 431,
-    b"GET /timegate/nocolon HTTP/1.0\r\nno colon here\r\n\r\n": 302,
+    b"GET /timegate/nocolon HTTP/1.0\r\nno colon here\r\n\r\n": 400,
 }
 
 
@@ -551,7 +556,7 @@ def odd_captures(trial: Trial, script: Script) -> None:
             trial.judge(is_right, "two files have %s" % name, reply)
         for name, seen in (
             ("twice", (200, None)),
-            ("half", (302, "/memento/20200101000000500000000/http://half.example/")),
+            ("half", (302, server.client.base + "/memento/20200101000000500000000/http://half.example/")),
         ):
             reply = server.client.ask("/memento/20200101000000/http://%s.example/" % name)
             trial.judge((reply.status, reply.get("Location")) == seen, "several in one second: %s" % name, reply)
@@ -559,14 +564,15 @@ def odd_captures(trial: Trial, script: Script) -> None:
 
 def judge_places(trial: Trial, server: Served) -> None:
     """Where a captured redirect leads: to the memento of what it names, on this server."""
-    top = "/memento/20200101000000/"
+    path = "/memento/20200101000000/"
+    top = server.client.base + path
     places = {
         "evil-place": None,
         "odd-place": top + "http://odd.example/%C3%BC%22%3Cx%3E%20y",
         "no-place": None,
     }
     for name, expected in places.items():
-        reply = server.client.ask(top + "http://odd.example/" + name)
+        reply = server.client.ask(path + "http://odd.example/" + name)
         place = reply.get("Location")
         is_right = place == expected if expected or place is None else place.startswith(top) and "\r" not in place
         trial.judge(is_right and 300 <= reply.status < 400, "where %s leads" % name, reply)
@@ -595,7 +601,8 @@ def browsers(trial: Trial, script: Script) -> None:
         for kind in ("document", "iframe", "frame", "embed", "object", "Document"):
             reply = server.client.ask(path, {"Sec-Fetch-Dest": kind})
             place = reply.get("Location")
-            trial.judge((reply.status, place) == (303, "/#20200101000000/" + uri), "shown as %s" % kind, reply)
+            room = server.client.base + "/#20200101000000/" + uri
+            trial.judge((reply.status, place) == (303, room), "shown as %s" % kind, reply)
         for kind in ("image", "empty", "script", "style"):
             reply = server.client.ask(path, {"Sec-Fetch-Dest": kind})
             trial.judge(reply.status == 200, "had as %s" % kind, reply)
@@ -730,8 +737,11 @@ def many_captures(trial: Trial, script: Script) -> None:
         base.execute(added % (columns, numbers, columns))
         base.commit()
     with served(trial, "s", script=script) as server:
-        reply = server.client.ask("/timemap/json/urn:x:same")
-        listed = [it["position"] for it in json.loads(reply.body)["mementos"]["list"]]
+        path, listed = "/timemap/json/urn:x:same", []
+        while path:
+            part = json.loads(server.client.ask(path).body)
+            listed += [it["position"] for it in part["mementos"]["list"]]
+            path = server.client.path(part["next"]) if "next" in part else ""
         trial.judge(listed == list(range(MANY)), "all are listed, in their order", len(listed))
         with open("/proc/%d/status" % server.worker(), encoding="ascii") as file:
             memory = next(int(line.split()[1]) for line in file if line.startswith("VmHWM"))
@@ -758,8 +768,8 @@ def many_dates(trial: Trial, script: Script) -> None:
 
 
 def coded_bodies(trial: Trial, script: Script) -> None:
-    """A body that is decoded is in memory until it is sent: there are no more of them than requests at work. One that
-    is only compressed is sent as it lies in its file, to any number of readers."""
+    """A body that is decoded is in memory until it is in a file of its own, and so nobody who reads it slowly keeps
+    another one waiting; nor does one that is only compressed, which is read from its file."""
     body = b"x" * (16 << 20)
     chunked = head_of(b"200 OK", more=b"Transfer-Encoding: chunked\r\n")
     data = response(1, b"http://coded.example/chunked", chunked, b"%x\r\n%s\r\n0\r\n\r\n" % (len(body), body))
@@ -767,17 +777,11 @@ def coded_bodies(trial: Trial, script: Script) -> None:
     put(trial.path("coded", "a.warc"), data)
     trial.run("k", "run", "--quiet", trial.path("coded"))
     with served(trial, "k", "--requests", "2", script=script) as server:
-        for name, expected in (("chunked", 2), ("gzip", 6)):
+        for name in ("chunked", "gzip"):
             crowd = [server.slow_reader("/memento/20200101000000/http://coded.example/" + name) for _ in range(6)]
-            time.sleep(8)
-            begun = select.select(crowd, [], [], 0)[0]
-            trial.judge(len(begun) == expected, "bodies at once: " + name, len(begun))
-            for connection in begun:
-                connection.close()
-            rest = [connection for connection in crowd if connection not in begun]
-            more = wait_for(lambda: len(select.select(rest, [], [], 0)[0]) == min(2, len(rest)))
-            trial.judge(more, "then others: " + name, len(select.select(rest, [], [], 0)[0]))
-            for connection in rest:
+            all_begin = wait_for(lambda: len(select.select(crowd, [], [], 0)[0]) == 6)
+            trial.judge(all_begin, "bodies at once: " + name, len(select.select(crowd, [], [], 0)[0]))
+            for connection in crowd:
                 connection.close()
         reply = server.client.ask("/memento/20200101000000/http://coded.example/chunked")
         trial.judge(reply.body == body, "a whole body", len(reply.body))
@@ -812,11 +816,11 @@ def slow_clients(trial: Trial, script: Script) -> None:
     catalogued(trial)
     path = "/memento/20200101000000/http://a.example/%C3%BC"
     with served(trial, "c", script=script) as server:
-        open_ones = [server.connected() for _ in range(100)]
+        open_ones = [server.connected() for _ in range(MOST_OF_ADDRESS - 4)]
         for number, connection in enumerate(open_ones):
-            connection.sendall(b"GET / HTTP/1.0\r\n"[: number % 17])
+            connection.sendall(b"GET / HTTP/1.0\r\n"[: 1 + number % 16])
         begun = time.monotonic()
-        trial.judge(server.client.ask(path).status == 200 and time.monotonic() - begun < 5, "beside 100 half-open ones")
+        trial.judge(server.client.ask(path).status == 200 and time.monotonic() - begun < 5, "beside half-open ones")
         with server.connected() as dripping:
             while time.monotonic() - begun < HEAD_SECONDS + 3:
                 with contextlib.suppress(OSError):
@@ -841,11 +845,11 @@ def is_closed(connection: socket.socket) -> bool:
 
 
 def too_many(trial: Trial, server: Served, path: str) -> None:
-    """More connections than there may be are refused, and later ones are served."""
-    crowd = [server.connected() for _ in range(300)]
-    wait_for(lambda: len(select.select(crowd, [], [], 0)[0]) >= 40, HEAD_SECONDS - 3)
-    refused = len(select.select(crowd, [], [], 0)[0])
-    trial.judge(40 <= refused <= 60, "connections over 256 are refused", refused)
+    """More connections of an address than there may be are told so, or closed, and later ones are served."""
+    crowd = [server.connected() for _ in range(3 * MOST_OF_ADDRESS)]
+    last = [connection for connection in crowd if not is_closed(connection)]
+    trial.judge(wait_for(lambda: not answers(server, path)), "one connection more")
+    trial.judge(MOST_OF_ADDRESS <= len(last) <= 2 * MOST_OF_ADDRESS, "connections of an address", len(last))
     for connection in crowd:
         connection.close()
     trial.judge(wait_for(lambda: answers(server, path)), "served after a crowd")
@@ -919,6 +923,7 @@ def passed_socket(trial: Trial, script: Script) -> None:
     """The server listens at a socket that systemd passes; without one it says so."""
     catalogued(trial)
     whole = [script or trial.script, "-c", trial.path("c"), "serve", "--listen", "systemd", "--warc", trial.warc]
+    whole += ["--host", "127.0.0.1"]
     env = dict(os.environ, PYTHONPATH=PACKAGE)
     alone = subprocess.run([sys.executable, *whole], capture_output=True, env=env, timeout=60, check=False)
     trial.judge(alone.returncode == 3 and b"passes no socket" in alone.stderr, "without a socket", alone)
@@ -969,11 +974,12 @@ BROKEN: Tuple[Tuple[str, str, str, Part], ...] = (
     ("wsgi.py", '"P4", ', "", odd_captures),
     (
         "wsgi.py",
-        '[("Content-Type", content.media), ("Content-Security-Policy", FORBIDS_ALL), ',
-        '[("Content-Type", content.media), ',
+        '[("Content-Type", content.media), ("Content-Security-Policy", FORBIDS_ALL)]',
+        '[("Content-Type", content.media)]',
         odd_captures,
     ),
-    ("wsgi.py", '*headers, ("Link", links)', '("Link", links)', odd_captures),
+    ("wsgi.py", "instants[1] < first:", "False:", odd_captures),
+    ("wsgi.py", "            self.site.check(environ)\n", "", bad_input),
     ("lending.py", "return found[1] + ", "return (value or '') + ", odd_captures),
     ("lending.py", 'if body.undone not in ((), ("chunked",)):', "if False:", odd_captures),
     ("lending.py", "if not CODINGS.fullmatch(names):", "if False:", odd_captures),
@@ -981,13 +987,13 @@ BROKEN: Tuple[Tuple[str, str, str, Part], ...] = (
     ("replay.py", "check(known, stamp_of(os.stat(path)))", "os.stat(path)", changed_files),
     ("shelf.py", "or self.drop_idle(False)", "or True", many_archives),
     ("shelf.py", "while self.unpacked + count > self.most_unpacked", "while False", unpacked_bytes),
-    ("serve.py", "HEAD_SECONDS = 15.0", "HEAD_SECONDS = 60.0", slow_clients),
-    ("serve.py", "MOST_CONNECTIONS = 256", "MOST_CONNECTIONS = 512", slow_clients),
+    ("serve.py", "HEAD_SECONDS = 15", "HEAD_SECONDS = 55", slow_clients),
+    ("serve.py", "MOST_OF_ADDRESS = 64", "MOST_OF_ADDRESS = 512", slow_clients),
     ("serve.py", "        if status >= 0:", "        if True:", one_that_dies),
     ("serve.py", "MOST_HEAD = 256 << 10", "MOST_HEAD = 16 << 20", bad_input),
     ("catalogue.py", "?mode=ro", "?mode=rw", read_only),
-    ("wsgi.py", '!= "wal"', '!= "x"', beside_a_run),
-    ("wsgi.py", "and catalogue.is_there()", "", beside_a_run),
+    ("desks.py", '!= "wal"', '!= "x"', beside_a_run),
+    ("desks.py", "and catalogue.is_there()", "", beside_a_run),
 )
 
 
@@ -996,6 +1002,7 @@ def broken(trial: Trial, _script: Script) -> None:
     for number, (name, old, new, part) in enumerate(BROKEN):
         folder = trial.path("broken-%d" % number)
         shutil.copytree(os.path.join(TOP, "collection"), folder)
+        shutil.copy(os.path.join(TOP, "python", "src", "zogwedu", "_members.py"), f"{folder}/zogwedu_collection")
         path = os.path.join(folder, "zogwedu_collection", name)
         with open(path, encoding="utf-8") as file:
             text = file.read()

@@ -17,7 +17,7 @@ BEFORE = Before(1, 100, 7, "old", True, "old", None)
 
 def outcome(state: str = "good", sha256: Optional[str] = None, stamp: Optional[Stamp] = STAMP) -> Outcome:
     """What came of a job."""
-    return Outcome("/a.warc", state=state, stamp=stamp, sha256=sha256)
+    return Outcome("/a.warc", state=state, stamp=stamp, digests={} if sha256 is None else {"sha256": sha256})
 
 
 @pytest.mark.parametrize("state", READ)

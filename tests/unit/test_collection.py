@@ -4,10 +4,12 @@ from __future__ import annotations
 import gzip
 import os
 import shutil
+import subprocess
 import sys
 from pathlib import Path
 from typing import Dict
 
+import make_collection
 import pytest
 from collection_trial import Trial, put, put_script, record, to_read
 
@@ -106,3 +108,13 @@ def test_find_and_replay(night: Trial) -> None:
     assert text(night, "replay", "http://a.example/2", "9999") == b"page 2"
     done = night.run("c", "replay", "http://a.example/1", "2019")
     assert done.stdout == b"" and done.returncode != 0
+
+
+def test_the_one_file_reads_compressed_files_by_itself(tmp_path: Path) -> None:
+    """It has the Python package's module of members inside, and needs no package."""
+    path = str(tmp_path / "warc-collection")
+    make_collection.make(path)
+    code = "import sys; sys.path.insert(0, %r); from zogwedu_collection import unpack; print(unpack._members.__file__)"
+    words = [sys.executable, "-I", "-c", code % path]
+    done = subprocess.run(words, stdout=subprocess.PIPE, cwd=str(tmp_path), check=True)
+    assert done.stdout.decode().strip() == "%s/zogwedu_collection/_members.py" % path

@@ -8,7 +8,7 @@ from typing import Any, Dict, List, Tuple, Union
 
 import pytest
 from zogwedu_collection import memento
-from zogwedu_collection.memento import Around, NotOne, Paths
+from zogwedu_collection.memento import Around, NotOne, Part, Parts, Paths
 
 FIRST, LATER, LAST = ("20%d-01-01T00:00:00.000000000Z" % year for year in (10, 15, 20))
 URI = "http://a.example/x?a=b&c=d"
@@ -123,7 +123,19 @@ def test_a_long_target_has_fewer_links() -> None:
 
 def test_a_timemap_in_json_is_json() -> None:
     captures: List[Tuple[str, Dict[str, Any]]] = [(FIRST, {"file": 'a"b'}), (LAST, {})]
-    found = json.loads("".join(memento.json_timemap(PATHS, Around(FIRST, LAST), captures)))
-    assert found["original_uri"] == URI
+    parts = Parts(Part("", FIRST, LAST), None, Part(memento.key_of(LAST, 1, 2), LAST, LAST))
+    found = json.loads(memento.json_timemap(PATHS, Around(FIRST, LAST), parts, captures))
+    assert found["original_uri"] == URI and "prev" not in found
+    assert found["next"] == "/timemap/json-after/20200101000000000000000-1-2/" + URI
     assert [it["datetime"] for it in found["mementos"]["list"]] == ["2010-01-01T00:00:00Z", "2020-01-01T00:00:00Z"]
     assert found["mementos"]["list"][0]["file"] == 'a"b'
+
+
+@pytest.mark.parametrize("form, place", [("link", ()), ("json", (12, 345))])
+def test_keys_of_parts(form: str, place: Tuple[int, ...]) -> None:
+    """A key means the capture that it was made of, and that of another form none."""
+    key = memento.key_of(LATER, *place)
+    assert memento.key_in(key, form) == (LATER, *place)
+    for text, other in ((key, "json" if form == "link" else "link"), (key + "-1", form), ("", form), (key[1:], form)):
+        with pytest.raises(NotOne):
+            memento.key_in(text, other)

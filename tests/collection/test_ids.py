@@ -1,0 +1,75 @@
+"""A revisit finds the record that it names in another file, however both spell the id, as the program compares ids."""
+from __future__ import annotations
+
+from typing import List
+
+import pytest
+from conftest import URI, Collection, record
+from rooms import Room, new_collection, read, revisit
+
+FIRST, SECOND = "2020-01-01T00:00:00Z", "2021-06-01T12:00:00Z"
+UUID = "urn:uuid:0000000A-0000-4000-8000-00000000000b"
+# The id of a record, and how a revisit names it.
+SAME = {
+    "<urn:x:É>": "<urn:x:É>",
+    "< urn:x:spaces >": "<urn:x:spaces>",
+    "<\turn:x:tabs \t>": "< urn:x:tabs\t>",
+    "<urn:x:plain>": "< urn:x:plain >",
+    "urn:x:no-brackets": "<urn:x:no-brackets>",
+    "<%s>" % UUID.lower(): "<%s>" % UUID.upper(),
+    "< %s >" % UUID.replace("b", "c").upper(): UUID.replace("b", "c").lower(),
+    "<urn:x:UPPER>": "<urn:x:UPPER>",
+}
+OTHER = {
+    "<urn:x:case>": "<urn:x:CASE>",
+    "<urn:x:é>": "<urn:x:É2>",
+    "<urn:uuid:0000000d-0000-4000-8000-00000000000>": "<urn:uuid:0000000D-0000-4000-8000-00000000000>",
+}
+
+
+@pytest.fixture(name="spelled", scope="module")
+def spelled_fixture(tmp_path_factory: pytest.TempPathFactory) -> Collection:
+    """Records with such ids in one file, and revisits of them in another."""
+    collection = new_collection(tmp_path_factory)
+    records: List[bytes] = []
+    revisits: List[bytes] = []
+    for number, (own, named) in enumerate([*SAME.items(), *OTHER.items()]):
+        records.append(record(number, b"body %d" % number, "%sx%d" % (URI, number), date=FIRST, WARC_Record_ID=own))
+        revisits.append(revisit(100 + number, "%sy%d" % (URI, number), SECOND, named))
+    collection.put("disk/a.warc", *records[: len(SAME)])
+    collection.put("disk/b.warc", *revisits)
+    collection.put("disk/c.warc", *records[len(SAME) :])
+    read(collection)
+    return collection
+
+
+@pytest.mark.parametrize("number", range(len(SAME) + len(OTHER)))
+def test_ids(spelled: Collection, number: int) -> None:
+    uri = "%sy%d" % (URI, number)
+    reply = Room(spelled).ask("/memento/20210601120000/" + uri)
+    done = spelled.run("replay", uri, "9999")
+    if number < len(SAME):
+        assert (reply.status, reply.body, done.stdout) == (200, b"body %d" % number, b"body %d" % number), (reply, done)
+    else:
+        assert reply.status == 404 and done.returncode == 1 and b"P5 Unresolved" in done.stderr
+
+
+def test_no_other_record_is_in_the_way(spelled: Collection) -> None:
+    """A record whose id is another one by its case isn't looked at."""
+    from zogwedu_collection.catalogue import Catalogue
+    from zogwedu_collection.replay import Replayer
+
+    replayer = Replayer(Catalogue(spelled.path("catalogue")), "warc", None)
+    for own, named in OTHER.items():
+        bare = named.strip("<> \t")
+        assert replayer.with_id(bare, "captures.file <> ?", 0) == []
+        assert [it.kind for it in replayer.with_id(own.strip("<>"), "captures.file <> ?", 0)] == ["resource"]
+
+
+def test_an_id_is_looked_up_by_an_index(spelled: Collection) -> None:
+    """Not by reading all records."""
+    from zogwedu_collection.replay import ids_like
+
+    query, values = ids_like("urn:x:spaces")
+    plan = spelled.ask("EXPLAIN QUERY PLAN " + query, *values)
+    assert len(plan) >= 2 and not [row for row in plan if "SCAN" in row[3] and "INDEX" not in row[3]], plan
