@@ -2,9 +2,6 @@
 'use strict';
 
 const SEARCH_AFTER = 120;  // milliseconds without a key
-const NO_WIDE_MEMORY =
-    'It needs WebAssembly with a 64-bit memory, which Chromium and Chrome have from version 133 on, ' +
-    'and Firefox from 134 on.';
 
 /** @param {string} text */
 function refuse(text) {
@@ -133,7 +130,7 @@ function hearWindow() {
 function begin() {
   byId('limit').textContent = size(LIMIT);
   if (!hasWideMemory()) {
-    refuse(NO_WIDE_MEMORY);
+    refuse(byId('needs').textContent);
     return;
   }
   try {

@@ -55,19 +55,20 @@ function fileName(it) {
  */
 const isCoded = (answer) => numberOf(answer?.reason ?? '') === 'P10';
 
+const WITH_OTHERS = 'Open the archive together with the file that has it, or choose another capture of this URI.';
+const IN_OTHER_FILES = new Set(['P4', 'P5']);
+
 /**
  * Why there is no body, and what to do. Where all captures are later, they are listed.
  * @param {string} reason
  * @param {Uint8Array} [uri]
  */
 function noBody(reason, uri) {
-  const [, meaning, advice] = inWords(reason), captures = numberOf(reason) === 'P2' && uri ? capturesOf(uri) : [];
-  const why = make('p', {}, make('b', {}, `No body: ${reason}. `), ...prose(meaning));
-  if (!captures.length) return make('div', {className: 'note reason'}, why, make('p', {}, ...prose(advice)));
+  const number = numberOf(reason), captures = number === 'P2' && uri ? capturesOf(uri) : [];
   const links =
       captures.slice(0, MOST_LISTED).map((it) => make('li', {}, recordLink(it.position, it.date), ` ${it.kind}`));
-  const title = make('p', {}, 'The captures of the URI:');
-  return make('div', {className: 'note reason'}, why, title, make('ul', {className: 'plain-list'}, ...links));
+  const more = links.length ? [make('ul', {className: 'plain-list'}, ...links)] : [];
+  return reasonNote(reason, {can: IN_OTHER_FILES.has(number) ? WITH_OTHERS : '', more});
 }
 
 /**

@@ -20,8 +20,7 @@ function momentsFrom(date, next) {
   ];
 }
 
-const ABOUT_VIEWS =
-    'Scripts and network are off, links lead to what is in the archive, and what isn’t there is missing. ' +
+const ABOUT_VIEWS = 'Links lead to what is in the archive, and what isn’t there is missing. ' +
     'The bytes on disk and in the download are never changed.';
 
 /**
@@ -65,7 +64,8 @@ class PageView {
   nodes(saved) {
     const label = make('span', {className: 'small'}, 'Pictures and styles as of');
     const choice = make('div', {className: 'actions'}, label, this.choice);
-    const about = make('p', {}, make('b', {}, 'This is a view. '), ABOUT_VIEWS);
+    const title = make('summary', {}, make('b', {}, 'This is a view'), ', without scripts and without network');
+    const about = make('details', {}, title, make('p', {}, ABOUT_VIEWS));
     return [make('div', {className: 'note plainly'}, about, choice, this.summary), saved, this.place, this.below];
   }
 
@@ -120,12 +120,19 @@ class PageView {
     if (target.place && target.uri === resolved(this.uri, this.uri)) {
       const place = placeIn(ownerOf(link), nameOf(target.place));
       if (place) Element.prototype.scrollIntoView.call(place);
-    } else if (this.host.has(target.uri))
+    } else if (mayHold(this.host, target.uri))
       this.host.lead(target.uri, moment);
     else
       this.summary.textContent = `The archive has no capture of ${plainly(target.uri)}`;
   }
 }
+
+/**
+ * Whether a host may have a capture of a URI.
+ * @param {ViewHost} host
+ * @param {string} uri
+ */
+const mayHold = (host, uri) => !host.has || host.has(uri);
 
 /**
  * What is in a view, what is missing, and where its links lead.
@@ -140,7 +147,8 @@ function listed(host, {there, missing}, links, moment) {
   });
   const absent = missing.map(
       ([uri, why]) => make('li', {className: 'absent'}, `${plainly(uri)} `, make('span', {className: 'small'}, why)));
-  const known = new Set(links.filter(host.has));
+  const known = new Set(links.filter((uri) => mayHold(host, uri)));
+  const ofThem = host.has ? `, ${known.size} of them in this archive` : '';
   const leading = links.slice(0, MOST_LISTED).map((uri) => {
     if (!known.has(uri)) return make('li', {className: 'absent'}, plainly(uri));
     return make('li', {}, button('link', () => host.lead(uri, moment), {}, plainly(uri)));
@@ -148,6 +156,6 @@ function listed(host, {there, missing}, links, moment) {
   return [
     folded(`Pictures and styles in this view (${present.length})`, present),
     folded(`Missing (${absent.length})`, absent),
-    folded(`Links on this page (${links.length}, ${known.size} of them in this archive)`, leading),
+    folded(`Links on this page (${links.length}${ofThem})`, leading),
   ];
 }

@@ -6,6 +6,7 @@ const FIRST_REASON = /^(?:chosen .* )?([PE]\d+ [A-Z]\w*.*)$/m;
 const IN_PATH = /[A-Za-z0-9._~-]/;
 const LATER = '9999';  // how a view writes a moment after all captures
 const LATEST = '99991231235959';
+const DIGITS = 23;        // of an instant with nanoseconds
 const LIST_LIMIT = 5000;  // captures that are shown as points
 
 /** @type {{visit: number, asked: number, urls: string[]}} */
@@ -84,8 +85,8 @@ const dateOf = (instant) => instant.replace(/\.?0+Z$/, 'Z');
 async function answerOf(uri, digits) {
   const reply = await fetch(`${TOP}/room/answer/${digits}/${pathOf(uri)}`, {redirect: 'error'});
   if (!reply.ok) {
-    const text = await reply.text();
-    return {reason: FIRST_REASON.exec(text)?.[1] ?? text.trim(), words: text.trim()};
+    const text = (await reply.text()).trim();
+    return {reason: FIRST_REASON.exec(text)?.[1] ?? text.split('\n')[0], words: text};
   }
   const about = JSON.parse(reply.headers.get('X-Archived-About'));
   return {...about, reason: undefined, stored: new Uint8Array(await reply.arrayBuffer())};
@@ -160,8 +161,7 @@ const COLLECTION = {
   visit: () => served.visit,
   keep: keepUrls,
   leave: () => byId('uri').focus(),
-  hearDrops() {},   // no file is opened here
-  has: () => true,  // the answer says where there is none
+  hearDrops() {},  // no file is opened here
   lead(uri, moment) {
     location.hash = addressIn(typed(uri), digitsOf(moment));
   },
@@ -179,32 +179,70 @@ const fileOf = (place) => place[0];
 const placeOf = ([path, position]) => `record ${position} of ${plainly(path.split('/').pop())}`;
 
 /**
+ * The capture of a URI as of a date, by its number; -1 if all are later.
+ * @param {ServedCapture[]} list
+ * @param {string} digits
+ */
+function numberAsOf(list, digits) {
+  const end = digits.padEnd(DIGITS, '9'), last = list.filter((it) => digitsOf(it.instant) <= end).pop();
+  return list.findIndex((it) => it.instant === last?.instant);
+}
+
+/**
+ * Which capture of a URI is shown, in words.
+ * @param {number} now
+ * @param {number} count of the captures that are shown
+ * @param {boolean} isCut whether there are later ones
+ */
+function numberInWords(now, count, isCut) {
+  if (now < 0 && isCut) return `The first ${count.toLocaleString('en')} captures of this URI; this one is later`;
+  if (now < 0)
+    return count === 1 ? 'The only capture of this URI is later' : `All ${count} captures of this URI are later`;
+  const all = `${isCut ? 'more than ' : ''}${count.toLocaleString('en')}`;
+  return count === 1 ? 'The only capture of this URI' :
+                       `Capture ${(now + 1).toLocaleString('en')} of ${all} of this URI`;
+}
+
+// Reasons in a list by which only the file of the capture itself has no body: another file may have it.
+const OPEN = /^(?:P4|P5|elsewhere)\b/;
+
+/**
+ * A capture as a point.
+ * @param {Uint8Array} uri
+ * @param {ServedCapture} it
+ * @param {number} part how far from the first to the last it is
+ * @param {boolean} isShown
+ */
+function pointOfServed(uri, it, part, isShown) {
+  const why = !it.reason ? '' : OPEN.test(it.reason) ? ', with the body of another file' : `, ${plainly(it.reason)}`;
+  const label = `${dateOf(it.instant)}, ${it.kind}${why}, ${placeOf([it.path, it.position])}`;
+  const properties = {
+    title: label,
+    'aria-label': label,
+    'aria-current': String(isShown),
+    style: {left: `${part * 100}%`},
+  };
+  return button(`${it.kind}${it.reason && !OPEN.test(it.reason) ? ' failed' : ''}`, () => {
+    location.hash = addressIn(uri, it.uri.split('/memento/')[1].split('/')[0]);
+  }, properties);
+}
+
+/**
  * The captures of a URI as points in time.
  * @param {Uint8Array} uri
- * @param {ServedCapture[]} list
- * @param {string} instant of the one that is shown
+ * @param {ServedCaptures} captures
+ * @param {number} now the number of the one that is shown
  */
-function pointsOf(uri, list, instant) {
-  const times = list.map((it) => Date.parse(it.datetime)), first = times[0], span = times[times.length - 1] - first;
-  const every = Math.ceil(list.length / LIST_LIMIT);
+function pointsOf(uri, {list, isCut}, now) {
+  const times = list.map((it) => Date.parse(it.datetime)), [first] = times, span = times[times.length - 1] - first;
+  const every = Math.ceil(list.length / LIST_LIMIT), instant = list[now]?.instant;
   const points = list.map((it, number) => {
     if (number % every && it.instant !== instant) return null;
     const part = span ? (times[number] - first) / span : list.length > 1 ? number / (list.length - 1) : 0.5;
-    const label =
-        `${dateOf(it.instant)}, ${it.kind}${it.reason ? `, ${it.reason}` : ''}, ${placeOf([it.path, it.position])}`;
-    const properties = {
-      title: label,
-      'aria-label': label,
-      'aria-current': String(it.instant === instant),
-      style: {left: `${part * 100}%`},
-    };
-    return button(it.kind, () => {
-      location.hash = addressIn(uri, it.uri.split('/memento/')[1].split('/')[0]);
-    }, properties);
+    return pointOfServed(uri, it, part, it.instant === instant);
   });
   const ends = list.length > 1 ? [list[0], list[list.length - 1]] : list;
-  const now = list.findIndex((it) => it.instant === instant);
-  const words = list.length === 1 ? 'The only capture of this URI' : `Capture ${now + 1} of ${list.length} of this URI`;
+  const words = numberInWords(now, list.length, isCut);
   const line = make('div', {className: 'line-of', role: 'group', 'aria-label': 'Captures in time'}, ...points);
   return make(
       'div', {className: 'timeline'}, make('div', {className: 'small steps'}, words), line,
@@ -212,37 +250,84 @@ function pointsOf(uri, list, instant) {
 }
 
 /**
- * All captures of a URI; none where there are none.
+ * The captures of a URI, or the first ones where there are too many for one answer; none where there are none.
  * @param {Uint8Array} uri
- * @returns {Promise<ServedCapture[]>}
+ * @returns {Promise<ServedCaptures>}
  */
 async function capturesAt(uri) {
   const reply = await fetch(`${TOP}/timemap/json/${pathOf(uri)}`, {redirect: 'error'});
-  return reply.ok ? (await reply.json()).mementos.list : [];
+  if (!reply.ok) return {list: [], isCut: false};
+  const {mementos, next} = await reply.json();
+  return {list: mementos.list, isCut: Boolean(next)};
 }
 
 /**
- * Why there is no body, in words.
+ * The number of the capture that an answer is about; -1 for none that is shown.
+ * @param {ServedCaptures} captures
+ * @param {ServedAnswer} it
+ * @param {string} digits as of which it was asked for
+ */
+function numberOfAnswer({list, isCut}, it, digits) {
+  if (it.instant) return list.findIndex((other) => other.instant === it.instant);
+  const now = numberAsOf(list, digits), isLast = list[now]?.instant === list[list.length - 1]?.instant;
+  return isCut && isLast ? -1 : now;
+}
+
+const MAY_HAVE_IT = /^(?:may have it: |and \d+ files more that may have it|A file that may have it can't be read)/m;
+const UNREAD =
+    'Some files of this collection couldn’t be read, and may have it: ask those who run it, or come back later.';
+const NEAR = /^near: (\S+) (\d+) (\S+) (\S+)$/;
+const FOR_ALL = /^(?:near: |A file that may have it |$)/;  // lines that aren't for operators
+const FOLDERS = /(^|\s)\/\S*\//g;
+
+/**
+ * A line for a target that has captures.
+ * @param {{path: string, captures: number, first: string, last: string}} found
+ */
+function foundLine({path, captures, first, last}) {
+  const target = targetIn(path), link = roomLink(target, LATEST, seen(target));
+  const about = ` ${many(captures, 'capture')}, ${first.slice(0, 10)} to ${last.slice(0, 10)}`;
+  return make('li', {}, make('bdi', {}, link), make('span', {className: 'small'}, about));
+}
+
+/**
+ * Near spellings of a URI that have captures, as the server names them, to choose from.
+ * @param {string[]} lines
+ */
+function nearLines(lines) {
+  const near = lines.map((line) => NEAR.exec(line)).filter((it) => it);
+  const list =
+      near.map(([, path, captures, first, last]) => foundLine({path, captures: Number(captures), first, last}));
+  if (!list.length) return [];
+  return [
+    make('p', {}, 'There are captures of other spellings:'), make('ul', {className: 'plain-list found'}, ...list)
+  ];
+}
+
+/**
+ * Why there is no body, in words. What the server says of its files is in the details, without their folders.
  * @param {ServedAnswer} answer
  */
 function noAnswer({reason, words: text}) {
-  const [, meaning, advice] = inWords(reason), why = make('b', {}, `No body: ${plainly(reason)}. `);
-  const lines = text === reason ? [] : text.split('\n').map((line) => make('p', {className: 'small'}, plainly(line)));
-  const more = advice ? [make('p', {}, ...prose(advice))] : [];
-  return make('div', {className: 'note reason'}, make('p', {}, why, ...prose(meaning ?? '')), ...more, ...lines);
+  const lines = text.split('\n'), more = nearLines(lines);
+  if (MAY_HAVE_IT.test(text)) more.push(make('p', {}, UNREAD));
+  const ofFiles = lines.filter((line) => line !== reason && !FOR_ALL.test(line));
+  const details = ofFiles.map((line) => make('p', {className: 'small'}, plainly(line.replace(FOLDERS, '$1'))));
+  return reasonNote(reason, {more, details});
 }
 
 /**
- * Where a capture is, and what it says.
+ * When a capture was made, and what it says; in details, where it is.
  * @param {ServedAnswer} it
  */
 function factsOf(it) {
   const [chosen, given] = [it.chosen, it.given].map(placeOf), coding = it.coding && `, ${it.coding}`;
   const from = given === chosen ? '' : `; the body is that of ${given}`;
-  const facts = `${dateOf(it.instant)}, ${chosen}${from}. Status ${it.status ?? '–'}, ${it.type}${coding}`;
   const joined = it.joined > 1 ? ` (${it.joined} files were joined for it)` : '';
+  const facts = `${dateOf(it.instant)}, status ${it.status ?? '–'}, ${it.type}${coding}`;
   const damaged = it.damaged ? '. It is from good records of a damaged file' : '';
-  return make('div', {className: 'sub'}, plainly(facts), joined, damaged);
+  const where = make('details', {}, make('summary', {}, 'Details'), plainly(`${chosen}${from}${joined}`));
+  return make('div', {className: 'sub'}, plainly(facts), damaged, where);
 }
 
 /**
@@ -314,9 +399,9 @@ async function showPage(uri, digits) {
   byId('uri').value = shown(uri);
   byId('moment').value = digits === LATEST ? '' : dateIn(digits);
   byId('status').textContent = 'Asking the collection…';
-  const [it, list] = await Promise.all([answerOf(uri, digits), capturesAt(uri)]);
+  const [it, captures] = await Promise.all([answerOf(uri, digits), capturesAt(uri)]), {list} = captures;
   const title = make('header', {}, make('h2', {}, make('bdi', {}, seen(uri))), it.stored ? factsOf(it) : '');
-  const points = list.length ? pointsOf(uri, list, it.instant ?? '') : '';
+  const points = list.length ? pointsOf(uri, captures, numberOfAnswer(captures, it, digits)) : '';
   const content = it.stored ? await contentOf(uri, it, list, visit) : [noAnswer(it)];
   if (visit !== served.visit) return;
   show(title, points, make('div', {className: 'panel'}, redirectOf(uri, it), ...content));
@@ -334,11 +419,7 @@ async function showFound(front) {
   const reply = await fetch(`${TOP}/room/found/${pathOf(front)}`, {redirect: 'error'});
   const text = await reply.text(), {found, most} = reply.ok ? JSON.parse(text) : {found: [], most: 0};
   if (visit !== served.visit) return;
-  const lines = found.map((/** @type {any} */ it) => {
-    const target = targetIn(it.path), link = roomLink(target, LATEST, seen(target));
-    const about = ` ${many(it.captures, 'capture')}, ${it.first.slice(0, 10)} to ${it.last.slice(0, 10)}`;
-    return make('li', {}, make('bdi', {}, link), make('span', {className: 'small'}, about));
-  });
+  const lines = found.map(foundLine);
   const words = !reply.ok ? text : found.length < most ? many(lines.length, 'URI') : `The first ${most} URIs`;
   show(
       make('header', {}, make('h2', {}, make('bdi', {}, `${seen(front)}…`)), make('div', {className: 'sub'}, words)),

@@ -221,22 +221,35 @@ const isHtml = (media) => media === 'text/html' || media === 'application/xhtml+
 /** @param {string} media */
 const isText = (media) => TEXT_TYPE.test(media);
 
-const UNREAD = /<!--[\s\S]*?(?:-->|$)|<(script|style|title|textarea)\b[\s\S]*?(?:<\/\1|$)/gi;  // no element is in it
 const IN_TYPE = /[;\s]charset\s*=\s*["']?\s*([^\s"';]+)/i;
-const IN_META = /<meta[^>]*?[\s;"'/]charset\s*=\s*["']?\s*([^\s"';>]+)/i;
+const IN_CONTENT = /charset\s*=\s*(?:"([^"]*)"|'([^']*)'|([^\s;"']+))/i;
 const IN_DECLARATION = /^\s*<\?xml[^>]*?\sencoding\s*=\s*["']([^"'>]+)/i;
 const IN_SHEET = /^@charset "([^"]*)";/;
 
 /**
  * How a charset is decoded, by its label; null for one that browsers don't know.
- * @param {string|undefined} label
+ * @param {string|null|undefined} label
  */
 function decoderOf(label) {
   try {
-    return label === undefined ? null : new TextDecoder(label);
+    return label ? new TextDecoder(label) : null;
   } catch {
     return null;
   }
+}
+
+/**
+ * How a page is decoded by the first of its elements `meta` that names a charset which browsers know.
+ * @param {string} front
+ */
+function decoderByMeta(front) {
+  for (const meta of every(parsed(front, '', new Budget()).root, 'meta')) {
+    const isType = attributeOf(meta, 'http-equiv')?.toLowerCase() === 'content-type';
+    const [, ...named] = isType && IN_CONTENT.exec(attributeOf(meta, 'content') ?? '') || [];
+    const found = decoderOf(attributeOf(meta, 'charset')) ?? decoderOf(named.find((it) => it));
+    if (found) return found;
+  }
+  return null;
 }
 
 /**
@@ -245,10 +258,10 @@ function decoderOf(label) {
  * @param {string} media
  */
 function decoderIn(front, media) {
-  const isPage = isHtml(media), [, named] = isPage && IN_META.exec(front.replace(UNREAD, '')) || [];
+  const isPage = isHtml(media), byMeta = isPage ? decoderByMeta(front) : null;
   const [, declared] = isPage || media.endsWith('xml') ? IN_DECLARATION.exec(front) ?? [] : [];
   const [, ofSheet] = media === 'text/css' ? IN_SHEET.exec(front) ?? [] : [];
-  const found = decoderOf(named) ?? decoderOf(declared) ?? decoderOf(ofSheet);
+  const found = byMeta ?? decoderOf(declared) ?? decoderOf(ofSheet);
   return found?.encoding.startsWith('utf-16') ? new TextDecoder() : found;
 }
 

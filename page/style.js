@@ -1,8 +1,9 @@
-// Styles, read token by token as CSS Syntax says, and written anew. What names a resource is replaced, and nothing is
-// copied that wasn't read: escapes are undone, comments are left out, brackets are closed.
+// Styles, read token by token by css-tree, which the build puts before the scripts, and written anew. What names a
+// resource is replaced, and nothing is copied that wasn't read: comments are left out, and brackets are closed. In a
+// name each letter outside of ASCII is written as an escape, since versions of CSS differ on which of them a name has.
 'use strict';
 
-/** @typedef {{kind: string, value: string}} Token */
+/** @typedef {{kind: number, text: string}} Token a kind of css-tree, and the text as it was read */
 
 /**
  * What a style names is given to a host, which says what to write in its place. It is told where a style is cut.
@@ -13,169 +14,186 @@
  * }} StyleHost
  */
 
-const ESCAPE = String.raw`\\(?:[0-9a-fA-F]{1,6}[ \t\n]?|[^\n0-9a-fA-F])`;
-const NAME_PART = String.raw`(?:[\w-]|[^\x00-\x7f]|${ESCAPE})`;
-const NAME = new RegExp(String.raw`(?:--|-?(?:[a-zA-Z_]|[^\x00-\x7f]|${ESCAPE}))${NAME_PART}*`, 'y');
-const HASH_NAME = new RegExp(`${NAME_PART}+`, 'y');
-const SPACE = /[ \t\n]+/y;
-const NUMBER = /[\d.]+/y;
-const PLAIN =
-    /[\w \t\n#:,.\-%!*>+~=|^$&?<\u0080-\uffff]+/y;  // what means nothing but itself, unless it names a function
-const IN_NAME = /[\w\-\u0080-\uffff]/;
-const PLAIN_IN = {
-  '"': /[^"\\\n]+/y,
-  '\'': /[^'\\\n]+/y,
-  ')': /[^)\\"'( \x00-\x1f\x7f]+/y
-};
+const {tokenize, tokenTypes: KIND} = cssTree;
 
-// Functions whose texts name resources, and what may be called within those: what gives no text that names one.
+// What means nothing but itself, if it is of ASCII and has no escape.
+const PLAIN = new Set([
+  ...[KIND.Ident, KIND.Hash, KIND.Number, KIND.Percentage, KIND.Dimension, KIND.WhiteSpace, KIND.Delim],
+  ...[KIND.Colon, KIND.Semicolon, KIND.Comma, KIND.CDO, KIND.CDC],
+]);
+const NOT_PLAIN = /[\\\x80-\uffff]/g;
+const BLANK = /[ \t\n]/;
+const BLANKS = /^[ \t\n]*$/;
+const ESCAPED = /\\(?:([0-9a-fA-F]{1,6})[ \t\n]?|\n|([^])|$)/gu;
+const ESCAPED_OR_FOREIGN = /\\(?:[0-9a-fA-F]{1,6}[ \t\n]?|[^])|[^\x00-\x7f]/gu;
+const ADDRESS_NAME = ['u', 'r', 'l'].map(spellings).join('');
+const NAMES_ADDRESS = new RegExp(String.raw`${ADDRESS_NAME}\(|\\[^]`, 'g');
+
+// Functions whose texts name resources, and what may be called within those that take more than a text: what gives no
+// text that names one.
 const ADDRESSES = new Set(['url', 'src']);
 const CHOICES = new Set(['image-set', '-webkit-image-set', 'image', 'cross-fade', '-webkit-cross-fade']);
 const KNOWN_IN_CHOICES = new RegExp(
     '^(?:type|calc|min|max|clamp|rgba?|hsla?|hwb|(?:ok)?(?:lab|lch)|color(?:-mix)?|' +
     '(?:-webkit-)?(?:repeating-)?(?:linear|radial|conic)-gradient)$');
-const NOT_OF_MEDIA = /^(?:url|src|layer|supports)$/i;
-const LAYER = /(?<![\w-])layer(?![\w-])/gi;
-const MOST_NESTED = 100;  // brackets in brackets: far deeper ones end the browser
-const CLOSERS = {
-  '(': ')',
-  '[': ']',
-  '{': '}'
+const NOT_OF_MEDIA = new Set([...ADDRESSES, 'layer', 'supports']);
+const MOST_NESTED = 100;   // brackets in brackets: far deeper ones end the browser
+const NOTHING = 'data:,';  // an address of no bytes
+const BAD_TEXT = '"\n';
+const BAD_ADDRESS = 'url(()';
+const NOWHERE = '`';  // a sign that has no place in any style
+const CLOSERS = new Map([['(', ')'], ['[', ']'], ['{', '}']]);
+const NO_RULE = {
+  reference: /** @type {string|null} */ (null),
+  words: ''
 };
 
-/** @param {string} text A name, a string or an address, with escapes. */
-function unescaped(text) {
-  return text.replace(/\\(?:([0-9a-fA-F]{1,6})[ \t\n]?|\n|([\s\S]))/g, (_, digits, letter) => {
-    if (!digits) return letter ?? '';
-    const code = parseInt(digits, 16);
-    return code === 0 || code > 0x10ffff || (code >= 0xd800 && code < 0xe000) ? '\ufffd' : String.fromCodePoint(code);
-  });
+/**
+ * The spellings of a letter in a name, as a pattern: itself, after a backslash, or by its number.
+ * @param {string} letter
+ */
+function spellings(letter) {
+  const [small, large] = [letter, letter.toUpperCase()].map((it) => it.charCodeAt(0).toString(16));
+  const digits = [small, small.toUpperCase(), large, large.toUpperCase()].join('|');
+  return String.raw`(?:\\?[${letter}${letter.toUpperCase()}]|\\0{0,4}(?:${digits})[ \t\n]?)`;
+}
+
+/**
+ * A style as CSS Syntax has it before it is read: with one kind of line end, and without what is no letter. css-tree
+ * looks for the name of an address before escapes are undone, and leaves out a mark at the beginning.
+ * @param {string} css
+ */
+function prepared(css) {
+  const lines = css.replace(/\r\n?|\f/g, '\n').replace(/[\0\p{Surrogate}]/gu, '\ufffd');
+  const text = lines.replace(/^[\ufeff\ufffe]/, escaped);
+  return text.includes('\\') ? text.replace(NAMES_ADDRESS, (it) => (it.length > 2 ? unescaped(it) : it)) : text;
+}
+
+/** @param {string} text A name, a text or an address, with escapes. */
+const unescaped = (text) => text.replace(ESCAPED, (_, digits, letter) => (digits ? letterOf(digits) : letter ?? ''));
+
+/**
+ * The letter that has a number, in hexadecimal digits.
+ * @param {string} digits
+ */
+function letterOf(digits) {
+  const code = parseInt(digits, 16);
+  return code === 0 || code > 0x10ffff || (code >= 0xd800 && code < 0xe000) ? '\ufffd' : String.fromCodePoint(code);
 }
 
 /** @param {string} letter */
 const escaped = (letter) => `\\${letter.codePointAt(0).toString(16)} `;
 
-/** @param {string} name */
-const writtenName = (name) => {
-  const front = /^-?\d|^-$/.exec(name)?.[0] ?? '', last = front.slice(-1);
-  const start = front.slice(0, -1) + (last ? escaped(last) : '');
-  return start + name.slice(front.length).replace(/[^\w\-\u0080-\uffff]/g, escaped);
-};
+/**
+ * A token that has no text: a name with its signs, or a number with its unit.
+ * @param {string} text
+ */
+const writtenName = (text) =>
+    text.replace(ESCAPED_OR_FOREIGN, (it) => escaped(it.startsWith('\\') ? unescaped(it) : it));
 
 /** @param {string} text */
 const writtenText = (text) => `"${text.replace(/["\\\x00-\x1f\x7f]/g, escaped)}"`;
 
 /**
+ * Whether a backslash makes a letter mean itself.
+ * @param {string} text
+ * @param {number} at
+ */
+function isEscaped(text, at) {
+  let from = at;
+  while (text[from - 1] === '\\') from -= 1;
+  return (at - from) % 2 === 1;
+}
+
+/**
+ * What is before a closing sign; everything where a style ends before it.
+ * @param {string} text
+ * @param {string} closer
+ */
+function before(text, closer) {
+  const last = text.length - 1;
+  return text[last] === closer && !isEscaped(text, last) ? text.slice(0, last) : text;
+}
+
+/**
+ * What a text between quotes says.
+ * @param {string} text
+ */
+const saidBy = (text) => unescaped(before(text.slice(1), text[0]));
+
+/**
+ * What an address without quotes says.
+ * @param {string} text
+ */
+function addressBy(text) {
+  const inner = before(text.slice('url('.length), ')').replace(/^[ \t\n]+/, '');
+  let end = inner.length;
+  while (end && BLANK.test(inner[end - 1]) && !isEscaped(inner, end - 1)) end -= 1;
+  return unescaped(inner.slice(0, end));
+}
+
+/**
+ * The name of a function, in small letters.
+ * @param {string} text
+ */
+const calledBy = (text) => unescaped(text.slice(0, -1)).toLowerCase();
+
+/**
  * A token of an import as it counts in its media: without comments, and without its layer.
  * @type {(token: Token, isOuter: boolean) => Token}
  */
-function plainer({kind, value}, isOuter) {
-  if (kind === 'comment') return {kind: 'space', value: ' '};
-  return {kind, value: isOuter && kind === 'plain' ? value.replace(LAYER, '') : value};
+function plainer({kind, text}, isOuter) {
+  const isLayer = isOuter && kind === KIND.Ident && unescaped(text).toLowerCase() === 'layer';
+  return isLayer || kind === KIND.Comment ? {kind: KIND.WhiteSpace, text: ' '} : {kind, text};
 }
 
 // The tokens of a style, one after another.
 class StyleReader {
   /** @param {string} css */
   constructor(css) {
-    this.css = css.replace(/\r\n?|\f/g, '\n').replace(/\0/g, '\ufffd');
-    this.at = 0;
+    this.css = prepared(css);
+    this.kinds = new Uint8Array(this.css.length);
+    this.ends = new Uint32Array(this.css.length);  // where each token ends
+    this.count = 0;
+    this.at = 0;        // tokens that were taken
+    this.notPlain = 0;  // where the next letter is that isn't plain
+    tokenize(this.css, (kind, _, end) => {
+      this.kinds[this.count] = kind;
+      this.ends[this.count] = end;
+      this.count += 1;
+    });
   }
 
-  /**
-   * What a sticky pattern matches here; nothing is taken where it doesn't.
-   * @param {RegExp} pattern
-   */
-  match(pattern) {
-    pattern.lastIndex = this.at;
-    const found = pattern.exec(this.css)?.[0] ?? '';
-    this.at += found.length;
-    return found;
+  /** Where the next token begins. */
+  get place() {
+    return this.at ? this.ends[this.at - 1] : 0;
+  }
+
+  // The next tokens that are plain, as one text.
+  run() {
+    const {css, kinds, ends, count, place} = this;
+    if (this.notPlain < place) this.notPlain = this.placeAfter(place);
+    while (this.at < count && PLAIN.has(kinds[this.at]) && ends[this.at] <= this.notPlain) this.at += 1;
+    return css.slice(place, this.place);
+  }
+
+  /** @param {number} place */
+  placeAfter(place) {
+    NOT_PLAIN.lastIndex = place;
+    return NOT_PLAIN.exec(this.css)?.index ?? this.css.length;
   }
 
   /** @returns {Token|null} */
   next() {
-    const {css, at} = this, letter = css[at];
-    if (letter === undefined) return null;
-    const plain = this.plain();
-    if (plain) return {kind: 'plain', value: plain};
-    if (css.startsWith('/*', at)) return this.comment();
-    if (this.match(SPACE)) return {kind: 'space', value: ' '};
-    if (letter === '"' || letter === '\'') return this.text(letter);
-    const name = this.match(NAME);
-    if (name) return this.named(unescaped(name));
-    const digits = this.match(NUMBER);
-    if (digits) return {kind: 'other', value: digits};
+    if (this.at === this.count) return null;
+    const {place} = this, kind = this.kinds[this.at];
     this.at += 1;
-    if (letter !== '@' && letter !== '#') return {kind: 'other', value: letter === '\\' ? ' ' : letter};
-    const word = unescaped(this.match(letter === '@' ? NAME : HASH_NAME));
-    return {kind: word ? letter : 'other', value: word || letter};
+    return {kind, text: this.css.slice(place, this.place)};
   }
 
-  // What means nothing but itself: names, numbers and signs, up to a name that opens a function or has an escape.
-  plain() {
-    const from = this.at;
-    this.match(PLAIN);
-    if (this.css[this.at] === '(' || this.css[this.at] === '\\') {
-      while (this.at > from && IN_NAME.test(this.css[this.at - 1])) this.at -= 1;
-      if (this.css[this.at - 1] === '#' && this.at > from) this.at -= 1;
-    }
-    return this.css.slice(from, this.at);
-  }
-
-  comment() {
-    const end = this.css.indexOf('*/', this.at + 2);
-    this.at = end < 0 ? this.css.length : end + 2;
-    return {kind: 'comment', value: ''};
-  }
-
-  /**
-   * A text up to its quote. A line end before it makes it a bad one.
-   * @param {'"'|"'"} quote
-   */
-  text(quote) {
-    this.at += 1;
-    let value = '';
-    for (;;) {
-      value += this.match(PLAIN_IN[quote]);
-      const letter = this.css[this.at];
-      if (letter !== '\\') {
-        if (letter === quote) this.at += 1;
-        return {kind: letter === '\n' ? 'bad' : 'text', value: unescaped(value)};
-      }
-      value += this.css.slice(this.at, this.at + 2);
-      this.at += 2;
-    }
-  }
-
-  /**
-   * A name, a function, or an address without quotes.
-   * @param {string} name
-   */
-  named(name) {
-    if (this.css[this.at] !== '(') return {kind: 'name', value: name};
-    this.at += 1;
-    if (name.toLowerCase() !== 'url') return {kind: 'function', value: name};
-    this.match(SPACE);
-    return /["']/.test(this.css[this.at] ?? '') ? {kind: 'function', value: name} : this.address();
-  }
-
-  // What is between the brackets of an address without quotes.
-  address() {
-    let value = '';
-    for (;;) {
-      value += this.match(PLAIN_IN[')']);
-      if (this.css[this.at] !== '\\') break;
-      value += this.css.slice(this.at, this.at + 2);
-      this.at += 2;
-    }
-    this.match(SPACE);
-    const isWhole = this.at >= this.css.length || this.css[this.at] === ')';
-    this.at += 1;
-    if (isWhole) return {kind: 'address', value: unescaped(value)};
-    while (this.at < this.css.length && this.css[this.at] !== ')') this.at += this.css[this.at] === '\\' ? 2 : 1;
-    this.at += 1;
-    return {kind: 'address', value: ''};
+  // Gives the last token once more.
+  back() {
+    this.at -= 1;
   }
 }
 
@@ -197,9 +215,11 @@ class StyleWriter {
 
   // The whole style, or what comes before brackets that nest too deep.
   whole() {
-    for (let token = this.reader.next(); token && this.add(token); token = this.reader.next()) {
+    for (;;) {
+      this.out.push(this.reader.run());
+      const token = this.reader.next();
+      if (!token || !this.add(token)) return this.text();
     }
-    return this.text();
   }
 
   /**
@@ -219,19 +239,22 @@ class StyleWriter {
   }
 
   /** @param {Token} token */
-  written({kind, value}) {
+  written({kind, text}) {
     switch (kind) {
-      case 'plain': return value;
-      case 'space': return ' ';
-      case 'comment': return '/**/';
-      case 'text': return this.quoted(value);
-      case 'bad': return '"\n';
-      case 'address': return `url(${writtenText(this.host.url(value))})`;
-      case 'name': return writtenName(value);
-      case '#': return `#${writtenName(value)}`;
-      case '@': return this.ruled(value);
-      case 'function': return this.called(value);
-      default: return this.other(value);
+      case KIND.Comment: return '/**/';
+      case KIND.String: return this.quoted(saidBy(text));
+      case KIND.BadString: return BAD_TEXT;
+      case KIND.Url: return `url(${writtenText(this.host.url(addressBy(text)))})`;
+      case KIND.BadUrl: return BAD_ADDRESS;
+      case KIND.AtKeyword: return this.ruled(text);
+      case KIND.Function: return this.called(text);
+      case KIND.LeftParenthesis:
+      case KIND.LeftSquareBracket:
+      case KIND.LeftCurlyBracket: return this.opened(text);
+      case KIND.RightParenthesis:
+      case KIND.RightSquareBracket:
+      case KIND.RightCurlyBracket: return this.closed(text);
+      default: return text === '\\' ? NOWHERE : writtenName(text);
     }
   }
 
@@ -242,64 +265,81 @@ class StyleWriter {
 
   /** @param {string} value */
   quoted(value) {
-    if (ADDRESSES.has(this.within())) return writtenText(this.host.url(value));
-    return CHOICES.has(this.within()) ? `url(${writtenText(this.host.url(value))})` : writtenText(value);
+    const isAddress = ADDRESSES.has(this.within()) || CHOICES.has(this.within());
+    return writtenText(isAddress ? this.host.url(value) : value);
   }
 
-  /** @param {string} value */
-  called(value) {
-    const name = value.toLowerCase(), isInner = CHOICES.has(this.within());
+  /** @param {string} text */
+  called(text) {
+    const name = calledBy(text), outer = this.within(), isInner = CHOICES.has(outer) || outer === 'src';
+    const isKnown = ADDRESSES.has(name) || CHOICES.has(name) || KNOWN_IN_CHOICES.test(name);
     this.open.push({closer: ')', name});
-    if (ADDRESSES.has(name)) return 'url(';
-    if (isInner && !CHOICES.has(name) && !KNOWN_IN_CHOICES.test(name)) return 'none(';  // it may give an address
-    return `${writtenName(value)}(`;
+    return isInner && !isKnown ? 'none(' : writtenName(text);  // it may give an address
+  }
+
+  /** @param {string} bracket */
+  opened(bracket) {
+    this.open.push({closer: CLOSERS.get(bracket), name: bracket === '(' ? this.within() : ''});
+    if (bracket === '{') this.hasRules = true;
+    return bracket;
   }
 
   // A bracket that closes nothing makes what is around it invalid, and must close nothing where the style is put.
-  /** @param {string} value */
-  other(value) {
-    const closer = CLOSERS[/** @type {keyof CLOSERS} */ (value)];
-    if (closer) this.open.push({closer, name: value === '(' ? this.within() : ''});
-    if (value === '{') this.hasRules = true;
-    if (!/^[)\]}]$/.test(value)) return value;
-    if (this.open[this.open.length - 1]?.closer !== value) return '`';
+  /** @param {string} bracket */
+  closed(bracket) {
+    if (this.open[this.open.length - 1]?.closer !== bracket) return BAD_TEXT;
     this.open.pop();
-    return value;
+    return bracket;
   }
 
-  /** @param {string} value */
-  ruled(value) {
-    const name = value.toLowerCase();
-    if (name !== 'import' && name !== 'namespace') return `@${writtenName(value)}`;
+  // What is before a rule that is left out, and what follows it, must not become one token.
+  /** @param {string} text */
+  ruled(text) {
+    const name = unescaped(text).toLowerCase();
+    return name === '@import' || name === '@namespace' ? ` ${this.imported(name)} ` : writtenName(text);
+  }
+
+  /** @param {string} name */
+  imported(name) {
     const {reference, words} = this.prelude();
     if (reference === null || this.hasRules || this.open.length) return '';
-    if (name === 'namespace') return `@namespace ${words} ${writtenText(reference)};`;  // a name, which is never loaded
+    if (name === '@namespace') return `@namespace ${words} ${writtenText(reference)};`;  // a name, which isn't loaded
     return this.host.sheet(reference, words);
   }
 
   // What a rule says up to its end: a reference, and other words. Its layer and what it supports are left out. There is
   // no reference where it has a block, or nests too deep.
   prelude() {
-    const rest = new StyleWriter('', {url: (it) => it, sheet: () => '', cut: this.host.cut});
+    const rest = new StyleWriter('', {url: () => NOTHING, sheet: () => '', cut: this.host.cut});
     let reference = null;
     for (let token = this.reader.next(); token; token = this.reader.next()) {
-      const {kind, value} = token, isOuter = !rest.open.length, mark = isOuter && kind === 'other' ? value : '';
-      if (mark === ';') break;
-      if (mark === '}' && this.open.length) {
-        this.reader.at -= 1;  // it ends what the rule is in
-        break;
-      }
-      if (mark === '{') this.skip('}');
-      if (mark === '{') return {reference: null, words: ''};
-      if (reference === null && /text|address/.test(kind))
-        reference = value;
-      else if (isOuter && kind === 'function' && NOT_OF_MEDIA.test(value)) {
+      const {kind, text} = token, isOuter = !rest.open.length, name = kind === KIND.Function ? calledBy(text) : '';
+      if (isOuter && (text === ';' || this.ends(text))) break;
+      if (isOuter && text === '{') this.skip('}');
+      if (isOuter && text === '{') return NO_RULE;
+      if (isOuter && reference === null && kind === KIND.String)
+        reference = saidBy(text);
+      else if (isOuter && reference === null && kind === KIND.Url)
+        reference = addressBy(text);
+      else if (isOuter && NOT_OF_MEDIA.has(name)) {
         const first = this.skip(')');
-        if (ADDRESSES.has(value.toLowerCase())) reference ??= first;
+        if (ADDRESSES.has(name)) reference ??= first;
       } else if (!rest.add(plainer(token, isOuter)))
-        return {reference: null, words: ''};
+        return NO_RULE;
+      else
+        continue;
+      rest.out.push(' ');  // what is before it, and what follows it, must not become one token
     }
-    return {reference, words: rest.text().trim()};
+    const words = rest.text();
+    return {reference, words: BLANKS.test(words) ? '' : words};
+  }
+
+  // Whether a bracket ends what the rule is in. It is read again.
+  /** @param {string} bracket */
+  ends(bracket) {
+    const isEnd = bracket === '}' && this.open.length > 0;
+    if (isEnd) this.reader.back();
+    return isEnd;
   }
 
   /**
@@ -310,13 +350,11 @@ class StyleWriter {
     const open = [closer];
     let first = null;
     for (let token = null; open.length && (token = this.reader.next());) {
-      const {kind, value} = token;
-      if (kind === 'text') first ??= value;
-      if (kind === 'function') open.push(')');
-      if (kind !== 'other') continue;
-      if (value in CLOSERS)
-        open.push(CLOSERS[/** @type {keyof CLOSERS} */ (value)]);
-      else if (value === open[open.length - 1])
+      const {kind, text} = token, opens = kind === KIND.Function ? ')' : CLOSERS.get(text);
+      if (kind === KIND.String) first ??= saidBy(text);
+      if (opens)
+        open.push(opens);
+      else if (text === open[open.length - 1])
         open.pop();
     }
     return first;

@@ -29,6 +29,17 @@ declare const zlib: {
   inflate(stream: ZStream, flush: number): number;
 };
 
+declare const cssTree: {
+  tokenTypes: Record<
+    | "AtKeyword" | "BadString" | "BadUrl" | "CDC" | "CDO" | "Colon" | "Comma" | "Comment" | "Delim" | "Dimension"
+    | "Function" | "Hash" | "Ident" | "LeftCurlyBracket" | "LeftParenthesis" | "LeftSquareBracket" | "Number"
+    | "Percentage" | "RightCurlyBracket" | "RightParenthesis" | "RightSquareBracket" | "Semicolon" | "String" | "Url"
+    | "WhiteSpace",
+    number
+  >;
+  tokenize(text: string, take: (kind: number, start: number, end: number) => void): void;
+};
+
 declare class DecompressionStream {
   constructor(format: string);
   readonly readable: ReadableStream<Uint8Array>;
@@ -97,7 +108,7 @@ interface ViewHost {
   keep(urls: string[]): void; // addresses of the view that is shown, in the place of others
   leave(): void;
   hearDrops(page: Document): void;
-  has(uri: string): boolean;
+  has?(uri: string): boolean; // where it isn't there, only an answer says whether there is a capture
   lead(uri: string, moment: string): void;
   line(uri: string, found: Answer): (Node | string)[];
 }
@@ -114,6 +125,8 @@ interface ServedAnswer extends Omit<Answer, "chosen" | "given"> {
   location?: string | null;
   stored?: Uint8Array;
 }
+// Captures of a URI in order; whether there are more after them.
+type ServedCaptures = { list: ServedCapture[]; isCut: boolean };
 interface ServedCapture {
   datetime: string;
   uri: string;

@@ -5,9 +5,8 @@ const VIEW_POLICY = 'default-src \'none\'; img-src blob: data:; style-src \'unsa
     'form-action \'none\'; base-uri \'none\'';
 const EMPTY_VIEW =
     `<!doctype html><meta charset="utf-8"><meta http-equiv="Content-Security-Policy" content="${VIEW_POLICY}">`;
-const MOST_ROUNDS = 6;  // styles that name styles that name styles
-const AT_ONCE = 16;     // URIs that the library is asked for together
-const NOTHING = 'data:,';
+const MOST_ROUNDS = 6;      // styles that name styles that name styles
+const AT_ONCE = 16;         // URIs that the library is asked for together
 const TOP_OF_PAGE = 'top';  // the name of a place that each page has
 
 /**

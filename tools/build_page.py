@@ -7,8 +7,8 @@ The gate refuses crates for wasm64, so warc_page is one in a copy of the crates 
 crates.txt, and nothing else, is changed. The crates below it are those that the gate proves, and what it proved on this
 machine is taken as it is. With --module, FILE is the module, and nothing is built.
 
-The page holds DOMPurify, of Debian's package node-dompurify, and the inflating part of pako, of node-pako, with their
-licences.
+The page holds DOMPurify, of Debian's package node-dompurify, the inflating part of pako, of node-pako, and the
+tokenizer of css-tree, of node-css-tree, with their licences.
 """
 from __future__ import annotations
 
@@ -51,17 +51,28 @@ INFLATER = "/usr/share/nodejs/pako/lib/zlib"
 INFLATER_LICENCE = "/usr/share/doc/node-pako/copyright"
 NO_INFLATER = "pako isn't there: install Debian's package node-pako (apt-get install node-pako)"
 # Each part requires those before it.
-INFLATER_PARTS = ("constants", "adler32", "crc32", "inffast", "inftrees", "zstream", "inflate")
-AROUND_INFLATER = """const {{zlib, ZStream}} = (() => {{
-const parts = {{}}, require = (name) => parts[name];
-{}
-return {{zlib: {{...parts['./inflate'], constants: parts['./constants']}}, ZStream: parts['./zstream']}};
+INFLATER_PARTS = ("constants.js", "adler32.js", "crc32.js", "inffast.js", "inftrees.js", "zstream.js", "inflate.js")
+INFLATED = "{zlib: {...parts['./inflate'], constants: parts['./constants']}, ZStream: parts['./zstream']}"
+TOKENIZER = "/usr/share/nodejs/css-tree/cjs/tokenizer"
+TOKENIZER_LICENCE = "/usr/share/doc/node-css-tree/copyright"
+NO_TOKENIZER = "css-tree isn't there: install Debian's package node-css-tree (apt-get install node-css-tree)"
+# The last one requires others too, and only hands on what they export: it gets none of them.
+TOKENIZER_PARTS = ("types.cjs", "char-code-definitions.cjs", "utils.cjs", "index.cjs")
+TOKENIZED = "{tokenize: parts['./index.cjs'].tokenize, tokenTypes: parts['./types.cjs']}"
+AROUND_PARTS = """const {names} = (() => {{
+const parts = {{}}, require = (name) => parts[name] ?? {{}};
+const add = (name, make) => {{
+  const module = {{exports: {{}}}};
+  make(module, module.exports, require);
+  parts[name] = module.exports;
+}};
+{parts}
+return {result};
 }})();
 """
-AROUND_PART = """parts['./{name}'] = ((module) => {{
+AROUND_PART = """add('./{name}', (module, exports, require) => {{
 {text}
-return module.exports;
-}})({{exports: {{}}}});
+}});
 """
 # The script finds no window, so it makes no policy and touches no page: it gives a function that takes a window.
 # Debian's 2.4.1-2+deb12u1 also reads a variable that it doesn't have, and fails at each call; here it finds an empty
@@ -98,10 +109,21 @@ def purifier() -> str:
     return AROUND_PURIFIER.format(re.sub(r"\n//# sourceMappingURL.*", "", text))
 
 
+def of_parts(names: str, result: str, folder: str, parts: tuple[str, ...], missing: str) -> str:
+    """Files of a Debian package, as the parts of one value with names."""
+    texts = [(name, debian(f"{folder}/{name}", missing, "exports")) for name in parts]
+    around = "".join(AROUND_PART.format(name=re.sub(r"\.js$", "", name), text=text) for name, text in texts)
+    return AROUND_PARTS.format(names=names, parts=around, result=result)
+
+
 def inflater() -> str:
     """The inflating part of pako, in whose files is their licence: zlib, and the ZStream that its calls take."""
-    texts = [(name, debian(f"{INFLATER}/{name}.js", NO_INFLATER, "module.exports")) for name in INFLATER_PARTS]
-    return AROUND_INFLATER.format("".join(AROUND_PART.format(name=name, text=text) for name, text in texts))
+    return of_parts("{zlib, ZStream}", INFLATED, INFLATER, INFLATER_PARTS, NO_INFLATER)
+
+
+def tokenizer() -> str:
+    """The tokenizer of css-tree, and the kinds of its tokens."""
+    return of_parts("cssTree", TOKENIZED, TOKENIZER, TOKENIZER_PARTS, NO_TOKENIZER)
 
 
 def joined(names: tuple[str, ...]) -> str:
@@ -130,11 +152,12 @@ def page(module: bytes) -> str:
         "NUMBERS": quoted(numbers()),
     }
     script: str = "".join(f"const {name} = {value};\n" for name, value in names.items())
-    script = f"\n'use strict';\n{script}{purifier()}{zlib}{joined(SCRIPTS)}"
+    script = f"\n'use strict';\n{script}{purifier()}{zlib}{tokenizer()}{joined(SCRIPTS)}"
     digest = base64.b64encode(hashlib.sha256(script.encode()).digest()).decode()
     text: str = read("page/page.html").replace("/*POLICY*/", POLICY.format(hash=f"sha256-{digest}"))
     text = text.replace("/*STYLE*/", read("page/page.css")).replace("/*LICENCE*/", read("LICENSE-APACHE"))
     text = text.replace("/*LICENCE-OF-PAKO*/", debian(INFLATER_LICENCE, NO_INFLATER, "Expat", "--!?>"))
+    text = text.replace("/*LICENCE-OF-CSS-TREE*/", debian(TOKENIZER_LICENCE, NO_TOKENIZER, "Expat", "--!?>"))
     return text.replace("/*SCRIPT*/", script)
 
 

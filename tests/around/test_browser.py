@@ -14,8 +14,8 @@ from listener import Listener
 from .conftest import built, needs
 
 PARTS = (
-    *("building", "codings", "damaged", "hostile", "keyboard", "saved", "long", "missing", "selection", "faithful"),
-    "views",
+    *("building", "charsets", "codings", "damaged", "hostile", "unguarded", "keyboard", "saved", "long", "missing"),
+    *("selection", "faithful", "views", "styles"),
 )
 Room = Tuple[test_served.Tests, Listener, Trial]
 
@@ -61,6 +61,10 @@ class TestServed:
 
     def test_dates(self, room: Room) -> None:
         test_served.dates(room[0])
+        self.judge(room)
+
+    def test_narrow(self, room: Room) -> None:
+        test_served.narrow(room[0])
         self.judge(room)
 
     def test_hostile(self, room: Room) -> None:

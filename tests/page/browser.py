@@ -11,6 +11,7 @@ import shutil
 import subprocess
 import tempfile
 import time
+from collections.abc import Callable
 from typing import Any
 
 FLAGS = [
@@ -29,6 +30,13 @@ FLAGS = [
 ]
 
 PATIENCE = 300  # seconds
+# The page has heard what its worker answered until now, and has acted on it, and is drawn.
+SETTLED = """(async () => {
+  for (let turn = 0; turn < 8; turn += 1) {
+    if (globalThis.room?.library?.worker) await room.library.send([{position: 0}]).catch(() => {});
+    await new Promise((done) => requestAnimationFrame(() => setTimeout(done)));
+  }
+})()"""
 SLOWNESS = float(os.environ.get("PAGE_SLOWNESS", "1"))  # how many times longer everything takes on a busy computer
 CONTROLS = ("button", "textbox", "searchbox", "combobox", "grid", "tab", "tabpanel", "image", "Iframe")
 
@@ -154,6 +162,20 @@ class Browser:
                 )
             time.sleep(0.02)
         return time.monotonic() - begun
+
+    def settle(self) -> None:
+        """Waits until what was begun has come to its end: for what must not happen."""
+        self.run(SETTLED)
+
+    def connect(self, url: str, is_there: Callable[[], bool]) -> None:
+        """Opens an address in a window of its own, and waits until something is there, such as its connection."""
+        target, end = self.ask("Target.createTarget", {"url": url}, session=None)["targetId"], time.monotonic() + 60
+        while not is_there():
+            if time.monotonic() > end:
+                raise RuntimeError(f"the browser doesn't open {url}")
+            self.run("0")  # so that the browser's events are read
+            time.sleep(0.01)
+        self.ask("Target.closeTarget", {"targetId": target}, session=None)
 
     def go(self, path: str) -> None:
         self.ask("Page.navigate", {"url": f"file://{path}"})

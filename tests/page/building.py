@@ -11,6 +11,12 @@ from typing import Any
 TOP = os.path.dirname(os.path.dirname(os.path.dirname(os.path.abspath(__file__))))
 WITHOUT_PURIFIER = "import build_page; build_page.PURIFIER = '/nowhere/purify.js'; build_page.purifier()"
 WITHOUT_INFLATER = "import build_page; build_page.INFLATER = '/nowhere'; build_page.inflater()"
+WITHOUT_TOKENIZER = "import build_page; build_page.TOKENIZER = '/nowhere'; build_page.tokenizer()"
+MISSING = (
+    ("node-dompurify", WITHOUT_PURIFIER),
+    ("node-pako", WITHOUT_INFLATER),
+    ("node-css-tree", WITHOUT_TOKENIZER),
+)
 
 
 def outcome(words: list[str], build: str = "", home: str = "") -> tuple[int, str]:
@@ -39,7 +45,7 @@ def building(tests: Any, folder: str) -> None:
     tests.holds(status == 1 and "set ZOGWEDU_BUILD" in words, "building: without a home", (status, words))
     status, words = outcome(["build_page.py"], home="/proc/nowhere")
     tests.holds(status == 1 and "set ZOGWEDU_BUILD" in words, "building: in a home that isn't there", (status, words))
-    for package, code in (("node-dompurify", WITHOUT_PURIFIER), ("node-pako", WITHOUT_INFLATER)):
+    for package, code in MISSING:
         status, words = outcome(["-c", code])
         tests.holds(
             status == 1 and f"apt-get install {package}" in words, f"building: without {package}", (status, words)

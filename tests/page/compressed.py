@@ -6,7 +6,6 @@ import base64
 import gzip
 import json
 import os
-import time
 from collections.abc import Callable
 from typing import Any
 
@@ -242,12 +241,10 @@ def by_wget(tests: Any, folder: str, same: Same) -> None:
     same(tests, "compressed by wget, two files", save(folder, "both.warc", b"".join(parts)), paths[::-1])
     browser = tests.opened(*paths)
     browser.run(f"room.tab = 'Page'; openRecord({REVISIT})")
-    browser.until("document.querySelector('iframe.view')?.contentDocument?.images.length > 0", 30)
-    time.sleep(1)
-    tests.holds(
-        browser.run("[...document.querySelector('iframe.view').contentDocument.images][0].naturalWidth") == 200,
-        "files: a revisit shows the picture of the file before",
-    )
+    image = "document.querySelector('iframe.view')?.contentDocument?.images[0]"
+    browser.until(f"{image}?.complete && {image}.naturalWidth > 0", 30)
+    width = browser.run(f"{image}.naturalWidth")
+    tests.holds(width == 200, "files: a revisit shows the picture of the file before", width)
     tests.picture(browser, "files-revisit")
     browser.close()
 
@@ -287,7 +284,7 @@ def another_archive(tests: Any, folder: str, records: list[bytes]) -> None:
     browser.until("document.getElementById('status').textContent.startsWith('Decompressing long')", 20)
     browser.give_file("#file-again", small)
     browser.until("room.names[0] === 'small.warc.gz' && room.isOpen && room.findings !== null", 20)
-    time.sleep(1)
+    browser.settle()
     found = browser.run("[room.rows.count, room.names[0], room.damage, room.isStopped]")
     tests.holds(found == [len(records), "small.warc.gz", None, False], "compressed: another while one is read", found)
     browser.run(

@@ -8,14 +8,13 @@ must name no host of a case either: it has connections, requests and look-ups.
 from __future__ import annotations
 
 import re
-import time
 from typing import Any
 
 import leaks
 from browser import Browser
 from listener import Listener
 
-SECONDS = 0.25  # that a case has to connect
+LAST = f"last.{leaks.ZONE}"  # what the browser connects to once a case has had its turn
 READY = """document.getElementById('panel')?.dataset.ready === 'yes' &&
   document.querySelector('iframe.view:not([data-shown])') === null"""
 SHOWN = "document.querySelector('iframe.view[data-shown], img.picture') !== null"
@@ -40,15 +39,6 @@ def show(browser: Any, position: int) -> None:
     browser.until(READY, 30)
 
 
-def hosts_after(browser: Any, listener: Listener, seconds: float) -> list[str]:
-    """The hosts of the connections that came until now."""
-    time.sleep(seconds)
-    browser.run("0")
-    found = sorted(set(listener.hosts))
-    listener.hosts.clear()
-    return found
-
-
 def visit(browser: Any, folder: str, case: leaks.Case) -> None:
     """Opens the page of a case as it is, without the reading room."""
     kinds = {"application/xhtml+xml": "xhtml", "image/svg+xml": "svg"}
@@ -70,11 +60,10 @@ def try_cases(tests: Any, browser: Any, listener: Listener, positions: list[int]
         show(browser, position)
         words = browser.run("document.getElementById('panel').innerText.slice(0, 300)")
         tests.holds(browser.run(SHOWN), f"connections: {case.name} is shown", words)
-        time.sleep(SECONDS / 2)
+        browser.settle()
         browser.run(CLICK)
-        hosts = hosts_after(browser, listener, SECONDS)
+        hosts = listener.until_now(browser, LAST)
         tests.holds(not hosts, f"connections: {case.name}", hosts)
-    tests.holds(not hosts_after(browser, listener, 2), "connections: none comes late")
 
 
 def protected(tests: Any, folder: str, listener: Listener) -> None:
@@ -85,14 +74,15 @@ def protected(tests: Any, folder: str, listener: Listener) -> None:
     try:
         try_cases(tests, browser, listener, positions)
         visit(browser, folder, leaks.Case("alive", leaks.hint("alive")))
-        alive = hosts_after(browser, listener, 2)
+        browser.until("document.readyState === 'complete'")
+        alive = listener.until_now(browser, LAST)
         tests.holds(
             alive == [f"alive.{leaks.ZONE}"], "connections: the same browser connects without protection", alive
         )
     finally:
         browser.close()
     named = names_in_log(log)
-    tests.holds(named == {"alive"}, "connections: the browser's log names no host of a case", named)
+    tests.holds(named == {"alive", "last"}, "connections: the browser's log names no host of a case", named)
 
 
 def control(tests: Any, folder: str, listener: Listener) -> None:
@@ -102,7 +92,8 @@ def control(tests: Any, folder: str, listener: Listener) -> None:
     try:
         for case in leaks.CASES:
             visit(browser, folder, case)
-            if f"{case.name}.{leaks.ZONE}" in hosts_after(browser, listener, SECONDS):
+            browser.until("document.readyState === 'complete'")
+            if f"{case.name}.{leaks.ZONE}" in listener.until_now(browser, LAST):
                 connected.append(case.name)
     finally:
         browser.close()

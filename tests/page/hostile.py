@@ -36,6 +36,32 @@ top.hacked=21;fetch('{HOST}/svg')</script>
 <image href="{HOST}/inner.png" width="9" height="9"/><foreignObject width="9" height="9"><body \
 xmlns="http://www.w3.org/1999/xhtml"><img src="{HOST}/foreign.png"/></body></foreignObject><rect width="80" \
 height="30" fill="teal"/></svg>"""
+# Styles that browsers don't load from, but might if they were written anew by the letter.
+PROPERTIES = (
+    "background-image filter clip-path mask mask-image border-image-source list-style-image cursor content offset-path "
+    "shape-outside marker-start fill stroke backdrop-filter -webkit-box-reflect"
+).split()
+VALUES = (
+    "src(//evil.example/%s)",
+    f"SRC({HOST}/%s)",
+    "image-set(src(//evil.example/%s) 1x)",
+    "<!--url(//evil.example/%s)",
+    "1type('//evil.example/%s')",
+    "u@import 'x';rl(//evil.example/%s)",
+    "u@namespace 'x';rl(//evil.example/%s)",
+    "\\75rl(//evil.example/%s)",
+    "url(x y) url(//evil.example/%s)",
+)
+RULES = "".join(
+    f".s{number}{{--x:{value % 'variable'};{name}:{value % name};{name}:var(--x)}}"
+    for number, (name, value) in enumerate((name, value) for name in PROPERTIES for value in VALUES)
+)
+OPEN = "a{content:',all{p{background:url(//evil.example/open)}}'}"  # after a text that isn't at its end
+STYLES = f"""<!doctype html><style>@import '/open.css' "
+;{RULES}@font-face{{font-family:f;src:src({HOST}/font)}}p{{font-family:f}}</style>
+{"".join(f'<p class=s{number}>x' for number in range(len(PROPERTIES) * len(VALUES)))}
+<svg>{"".join(f'<rect width=9 height=9 fill="{it % "fill"}" mask="{it % "mask"}" style="fill:{it % "style"}"/>'
+              for it in VALUES)}</svg>"""
 MARK = '"><img src=x onerror=top.hacked=30><script>top.hacked=31</script>'
 BIDI = "\u202e\u2066gnp.exe\u2069\u202c\u200f"
 NAMES = [
@@ -62,6 +88,8 @@ NAMES = [
     ),
     ("http://a.example/none", "", SCRIPT),
     ("http://a.example/odd", "text/html\u2028" + MARK, SCRIPT),
+    ("http://a.example/styles", "text/html", STYLES),
+    ("http://a.example/open.css", "text/css", OPEN),
     ("http://[", "text/html", '<link rel=stylesheet href="http://["><img src="//["><a href="http://[">x</a>'),
 ]
 

@@ -4,6 +4,7 @@ from __future__ import annotations
 
 import socket
 import threading
+from typing import Any
 
 PATIENCE = 0.5  # seconds that a connection has to say what it wants
 LONGEST = 16384  # bytes that are read of it
@@ -78,6 +79,15 @@ class Listener:
             except OSError:
                 pass
         self.hosts.append(host_of(data))
+
+    def until_now(self, browser: Any, host: str) -> list[str]:
+        """The hosts of the connections that came before one to a host, which the browser makes now. By TLS each of its
+        sockets names the host at once; another one that the browser opens in advance would be silent."""
+        browser.settle()
+        browser.connect(f"https://{host}:{self.port}/", lambda: host in self.hosts)
+        found = sorted(set(self.hosts) - {host})
+        self.hosts.clear()
+        return found
 
     def close(self) -> None:
         """Stops to listen."""

@@ -75,7 +75,7 @@ def without_decompression(tests: Any) -> None:
 
 def missing(tests: Any) -> None:
     """Each of what a browser may lack."""
-    refused(tests, NO_WIDE_MEMORY, "64-bit memory", "64-bit WebAssembly")
+    refused(tests, NO_WIDE_MEMORY, "Firefox from 134 on", "64-bit WebAssembly")
     refused(tests, NO_WORKER, "Worker is not defined", "workers")
     without_scripts(tests)
     without_decompression(tests)

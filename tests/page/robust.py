@@ -3,7 +3,6 @@
 from __future__ import annotations
 
 import os
-import time
 from typing import Any
 
 import leaks
@@ -121,7 +120,7 @@ def another_file(tests: Any, folder: str) -> None:
             browser.until(wait, 20)
             browser.give_file("#file-again", second)
             browser.until("room.file.size < 1e6 && room.isOpen && room.findings !== null", 20)
-            time.sleep(0.5)
+            browser.settle()
             rows = browser.run("[room.rows.count, room.counts.judged, room.isStopped]")
             tests.holds(rows == [1, 1, False], f"another file, once {wait}", rows)
     except RuntimeError as error:
@@ -140,7 +139,7 @@ def late_answer(tests: Any, folder: str) -> None:
         ask = f"openAsOf(typed('{SITE}/{uri}'), '9999', true).catch((error) => {{ window.wrong = String(error); }})"
         browser.run(f"{ask}; openFiles([new File([], 'other.warc')])")
         browser.until("room.isOpen && room.findings !== null", 20)
-        time.sleep(0.5)
+        browser.settle()
         seen = browser.run("[document.getElementById('record').hidden, window.wrong ?? '']")
         tests.holds(seen == [True, ""], f"an answer that comes late, on {uri}", seen)
         browser.close()
@@ -164,13 +163,13 @@ def late_view(tests: Any, folder: str) -> None:
         browser.until("document.querySelector('[role=tab]') !== null && room.current === %d" % first, 10)
         show(browser, second)
         browser.run(f"window.go(); 0")
-        time.sleep(1)
+        browser.settle()
         seen = browser.run(f"room.urls.includes({FRAME}.images[0].src)")
         tests.holds(seen, "late view: the pictures of the one that is shown stay")
         browser.run(f"room.library.ask = {WAITING % first}; openAsOf(typed('{SITE}/first'), '9999', true); 0")
         show(browser, second)
         browser.run("window.go(); 0")
-        time.sleep(1)
+        browser.settle()
         tests.holds(
             browser.run(TITLE) == f"{SITE}/second", "late view: an answer doesn't replace what was opened since"
         )
@@ -211,7 +210,7 @@ def dropped(tests: Any, folder: str) -> None:
         for step in range(12):
             move(browser, "mouseMoved", (left + 30 - 9 * step, top + 30 - 20 * step))
         move(browser, "mouseReleased", (left + 30 - 99, top + 30 - 220))
-        time.sleep(1)
+        browser.settle()
         tests.holds(browser.run(number) == 1, "dropped: a picture of the view is no file", browser.run(number))
         show(browser, 1)
         left, top = browser.run(f"[{box}.x, {box}.y]")
@@ -256,7 +255,6 @@ def changed_file(tests: Any, folder: str) -> None:
     archive = site.save(f"{folder}/changed.warc")
     browser = tests.opened(archive)
     try:
-        time.sleep(1.1)
         with open(archive, "ab") as out:
             out.write(b"more")
         os.utime(archive, (1_000_000_000, 1_000_000_000))

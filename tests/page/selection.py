@@ -164,7 +164,6 @@ def changed_file(tests: Any, folder: str, records: list[bytes]) -> None:
     """A file that has changed since it was opened, or a browser without room: nothing is saved, and it says why."""
     archive = save(folder, "changed.warc", b"".join(records))
     browser = tests.opened(archive)
-    time.sleep(1.1)
     with open(archive, "ab") as out:
         out.write(b"more")
     os.utime(archive, (1_000_000_000, 1_000_000_000))

@@ -25,6 +25,7 @@ from typing import Any
 sys.path.insert(0, os.path.dirname(os.path.abspath(__file__)))
 import building
 import burdens
+import charsets
 import codings
 import compressed
 import connections
@@ -36,6 +37,8 @@ import pieces
 import robust
 import selection
 import stations
+import styles
+import unguarded
 from browser import Browser
 from variant import variant
 
@@ -206,8 +209,7 @@ def open_all_tabs(browser: Browser, position: int) -> None:
     count = browser.run("document.querySelectorAll('[role=tab]').length")
     for number in range(count):
         browser.run(f"document.querySelectorAll('[role=tab]')[{number}].click()")
-        browser.until("document.getElementById('panel')?.dataset.ready === 'yes'", 30)
-        time.sleep(0.05)
+        browser.until(DRAWN, 30)
 
 
 def loads(browser: Browser) -> list[str]:
@@ -239,7 +241,8 @@ def hostile_archive(tests: Tests, folder: str) -> None:
             open_all_tabs(browser, position)
         browser.run("room.tab = 'Page'; openRecord(0)")
         browser.until("document.querySelector('iframe.view') !== null")
-        time.sleep(1)
+        browser.until(DRAWN)
+        browser.settle()
         tests.picture(browser, "hostile")
         browser.run("document.getElementById('words').value = 'script'; room.words = 'script'; filter()")
         hacked = browser.run("window.hacked")
@@ -257,7 +260,8 @@ def hostile_archive(tests: Tests, folder: str) -> None:
         # The frame and its policy alone hold the same, even if nothing is taken out of the page.
         source = json.dumps(hostile.PAGE)
         browser.run(f"document.querySelector('iframe.view').srcdoc = asHtml(EMPTY_VIEW + {source}); 0")
-        time.sleep(2)
+        browser.until("document.querySelector('iframe.view').contentDocument?.readyState === 'complete'")
+        browser.settle()
         hacked = browser.run("window.hacked")
         tests.holds(hacked is None, "hostile, not rewritten: nothing runs", hacked)
         reached = [
@@ -547,7 +551,7 @@ def views(tests: Tests, archive: str, site: str) -> None:
         )
         browser.until("document.getElementById('record').innerText.includes('P1 NoCapture')", 30)
         tests.holds(
-            "No capture has the URI" in browser.run("document.getElementById('record').innerText"),
+            "Nothing was captured of this URI" in browser.run("document.getElementById('record').innerText"),
             "as of: a reason in words",
         )
         browser.run(
@@ -659,8 +663,9 @@ def compare_all(tests: Tests, folder: str, crawled: str) -> None:
 
 
 ALL = (
-    *("building", "codings", "compare", "compressed", "damaged", "hostile", "connections", "firefox", "burdens"),
-    *("robust", "faithful", "views", "keyboard", "saved", "selection", "pieces", "missing", "long", "many", "segments"),
+    *("building", "charsets", "codings", "compare", "compressed", "damaged", "hostile", "unguarded", "connections"),
+    *("firefox", "burdens", "robust", "faithful", "views", "keyboard", "saved", "selection", "pieces", "missing"),
+    *("long", "many", "segments", "styles", "unguarded-leaks"),
 )
 OVER_A_CRAWL = {"compare", "pieces", "views"}
 
@@ -670,11 +675,14 @@ def parts(tests: Tests, folder: str, crawled: str, where: str) -> dict[str, Call
     small = f"{TOP}/examples/crawl.warc"
     return {
         "building": lambda: building.building(tests, folder),
+        "charsets": lambda: charsets.charsets(tests),
         "codings": lambda: codings.codings(tests),
         "compare": lambda: compare_all(tests, folder, crawled),
         "compressed": lambda: compressed.compressed(tests, folder, same_as_program),
         "damaged": lambda: damaged(tests, folder),
         "hostile": lambda: hostile_archive(tests, folder),
+        "unguarded": lambda: unguarded.unguarded(tests, folder),
+        "unguarded-leaks": lambda: unguarded.unguarded_leaks(tests, folder),
         "connections": lambda: connections.no_connections(tests, folder),
         "firefox": lambda: firefox.in_firefox(tests, folder),
         "burdens": lambda: burdens.burdens(tests, folder),
@@ -682,6 +690,7 @@ def parts(tests: Tests, folder: str, crawled: str, where: str) -> dict[str, Call
         "faithful": lambda: faithful.faithful(tests, folder),
         "views": lambda: views(tests, crawled, where),
         "keyboard": lambda: by_keyboard(tests, small),
+        "styles": lambda: styles.styles(tests),
         "saved": lambda: saved_bytes(tests, folder, small),
         "selection": lambda: selection.selection(tests, folder),
         "pieces": lambda: pieces.pieces(tests, folder, crawled, same_as_program),

@@ -16,7 +16,6 @@ import gzip
 import os
 import sys
 import tempfile
-import time
 from collections.abc import Iterator
 from typing import Any
 
@@ -39,6 +38,7 @@ FRONT = b"""<!doctype html><html><head><title>Front</title><link rel=stylesheet 
 <a id=gone href="http://gone.example/">Elsewhere</a></body></html>"""
 STYLE = b"h1 { color: rgb(1, 100, 2); border-bottom: 3px solid } body { background: #f6f1e4; font-family: serif }"
 SHOWN = "document.querySelector('iframe.view')?.dataset.shown === 'yes'"
+LAST = "last.localhost"  # what the browser connects to once a page has had its turn
 IN_VIEW = "document.querySelector('iframe.view').contentDocument"
 
 
@@ -138,7 +138,8 @@ def search_and_page(tests: Tests, folder: str) -> None:
     tests.holds(tests.in_view("getElementById('picture').naturalWidth") == 1, "its picture of another file")
     color = f"getComputedStyle({IN_VIEW}.querySelector('h1')).color"
     tests.holds(browser.run(color) == "rgb(1, 100, 2)", "its style of another file", browser.run(color))
-    tests.holds("second.warc.gz" in tests.text(), "which file it is from", tests.text())
+    tests.holds("second.warc.gz" in browser.run("document.body.textContent"), "which file it is from", tests.text())
+    tests.holds("Links on this page (2)" in tests.text(), "no count of links that lead somewhere", tests.text())
     if folder:
         os.makedirs(folder, exist_ok=True)
         browser.picture(f"{folder}/served.png")
@@ -164,8 +165,13 @@ def answers(tests: Tests) -> None:
     tests.holds(tests.shows("Packed"), "a coded page", tests.text())
     tests.go("#99991231235959/http://site.example/lost")
     tests.holds(tests.becomes("document.body.innerText.includes('P5 Unresolved')"), "a reason", tests.text())
+    tests.holds("Choose another capture" in tests.text(), "what a reader can do", tests.text())
+    tests.holds("The only capture of this URI" in tests.text(), "which capture has no body", tests.text())
+    whole = str(browser.run("document.body.textContent"))
+    tests.holds("chosen second.warc.gz" in whole and "/second.warc.gz" not in whole, "no folders", whole)
     tests.go("#20190101000000/http://site.example/")
     tests.holds(tests.becomes("document.body.innerText.includes('P2 NotYet')"), "too early", tests.text())
+    tests.holds("All 2 captures of this URI are later" in tests.text(), "which captures are later", tests.text())
     tests.go("memento/20210601120000/http://site.example/")
     tests.holds(tests.shows("Rain"), "a memento in the browser leads to the room", tests.text())
     tests.holds(browser.run("location.pathname") == "/", "the room's address", browser.run("location.href"))
@@ -206,6 +212,27 @@ def dates(tests: Tests) -> None:
     tests.holds(tests.becomes("byId('status').textContent === 'Which URI?'", 10), "no URI", tests.text())
 
 
+def narrow(tests: Tests) -> None:
+    """On a narrow screen nothing is beyond its edge, each field is beside its name, and a page begins in sight."""
+    browser, box = tests.browser, "getBoundingClientRect()"
+    metrics = {"width": 360, "height": 750, "deviceScaleFactor": 1, "mobile": False}
+    browser.ask("Emulation.setDeviceMetricsOverride", metrics)
+    tests.go("#99991231235959/http://site.example/")
+    tests.holds(tests.shows("Rain"), "narrow: the page", tests.text())
+    top = browser.run(f"document.querySelector('iframe.view').{box}.top")
+    tests.holds(top < 620, "narrow: a page begins in sight", top)
+    for field in ("uri", "moment"):
+        apart = browser.run(f"byId('{field}').{box}.top - document.querySelector('[for={field}]').{box}.top")
+        tests.holds(abs(apart) < 15, f"narrow: the field {field} is beside its name", apart)
+    tests.holds(browser.run("document.documentElement.scrollWidth") <= 360, "narrow: nothing is beyond the edge")
+    tests.holds(browser.run("byId('ask').contains(byId('status'))"), "short answers are in the form")
+    tests.go("#?http://site.example/")
+    found = "document.querySelector('.found')"
+    tests.holds(tests.becomes(f"{found}?.children.length === 8"), "narrow: a search", tests.text())
+    tests.holds(browser.run(f"{found}.scrollHeight <= {found}.clientHeight"), "narrow: what is found isn't in a box")
+    browser.ask("Emulation.setDeviceMetricsOverride", {**metrics, "width": 1440, "height": 1000})
+
+
 def hostile(tests: Tests, listener: Listener) -> None:
     """A page that tries to get out does nothing of it."""
     browser = tests.browser
@@ -216,21 +243,19 @@ def hostile(tests: Tests, listener: Listener) -> None:
         browser.run(f"{IN_VIEW}.querySelector('script, iframe, object, embed, link, meta[name]')") is None, "parts"
     )
     browser.run(f"for (const node of {IN_VIEW}.querySelectorAll('a, button')) node.click()")
-    time.sleep(2)
+    heard = listener.until_now(browser, LAST)
     tests.holds(browser.run("typeof ran") == "undefined", "nothing ran")
     tests.holds(browser.run("localStorage.evil") is None, "nothing was stored")
     tests.holds(browser.run("location.href").startswith(tests.at), "the top stays", browser.run("location.href"))
-    tests.holds(len(listener.hosts) == 0, "no connection", len(listener.hosts))
+    tests.holds(not heard, "no connection", heard)
     policy = browser.run("fetch('/').then((it) => it.headers.get('content-security-policy'))")
     tests.holds("unsafe-inline" not in policy.split("script-src")[1].split(";")[0], "no inline script", policy)
     for kind in ("iframe", "object", "embed"):
         address = "/memento/20210601120000/http://site.example/evil"
         made = f"const it = document.createElement('{kind}'); it.src = it.data = '{address}'; document.body.append(it);"
         browser.run("(() => { try { %s } catch { /* the policy forbids it */ } })()" % made)
-    time.sleep(1)
-    tests.holds(
-        len(listener.hosts) == 0 and browser.run("typeof ran") == "undefined", "nothing after all", len(listener.hosts)
-    )
+    heard = listener.until_now(browser, LAST)
+    tests.holds(not heard and browser.run("typeof ran") == "undefined", "nothing after all", heard)
 
 
 def as_it_is(tests: Tests, listener: Listener, folder: str) -> None:
@@ -265,6 +290,7 @@ def main() -> int:
             search_and_page(tests, folder)
             answers(tests)
             dates(tests)
+            narrow(tests)
             hostile(tests, listener)
             as_it_is(tests, listener, made)
     print(f"{tests.passed} passed, {tests.failed + trial.surprises} failed")
