@@ -69,8 +69,8 @@ CALLERS = (
 SYSTEM = (
     "tests/reference/warc_reference.py",
     "tests/callers/archives.py",
-    *(f"tests/stress/{name}.py" for name in ("differential", "generate", "memory", "pieces", "selections")),
-    *(f"tests/stress/{name}.py" for name in ("system", "terminal")),
+    *(f"tests/stress/{name}.py" for name in ("differential", "floods", "generate", "memory", "pieces")),
+    *(f"tests/stress/{name}.py" for name in ("selections", "system", "terminal")),
 )
 PAGE_SCRIPTS = tuple(sorted(path[len(TOP) + 1 :] for path in glob.glob(f"{TOP}/page/*.js")))
 PAGE_PYTHON = scripts("tests/page")
@@ -83,12 +83,13 @@ UNTYPED_CALLS = ("--allow-untyped-calls",)  # they use scripts that have no type
 EXAMPLES = ("python/crawler.py", "python/example.py")
 WITHOUT_STUBS = ("--ignore-missing-imports", "--allow-subclassing-any")  # setuptools has none
 
-TYPES = ("mypy", "--strict", "--python-version=3.8")
+TYPES = ("mypy", "--strict", "--python-version=3.9")
 LAYOUT = ("black", "--quiet", "--check", "--line-length=120")
-COLLECTION = ("collection/__main__.py", "collection/zogwedu_collection")
+COLLECTION = ("collection/__main__.py", "collection/zogwedu_collection", "python/src/zogwedu/_members.py")
 # The second reading and the generator are checked with the trials of the program.
 TRIALS = (
     *("tests/stress/collection.py", "tests/stress/collection_faults.py", "tests/stress/collection_trial.py"),
+    *("tests/stress/collection_slurm.py", "tests/stress/collection_units.py"),
     *("--follow-imports=skip", "--ignore-missing-imports"),
 )
 AROUND = (
@@ -100,7 +101,10 @@ UNIT = (
     *("tests/standin/warc.py", "tests/reference/warc_reference.py", "tests/stress/collection_trial.py"),
     *("tools/build_page.py", "tools/build.py", "tools/shared.py", *scripts("tests/unit")),
 )
-NIGHTS = (*scripts("tests/collection"), *scripts("tests/collection/standin"))
+NIGHTS = (
+    *(*scripts("tests/collection"), *scripts("tests/collection/standin")),
+    *("tests/reference/warc_reference.py", "tests/stress/memento_client.py"),
+)
 SERVER = tuple(f"tests/stress/{name}.py" for name in ("serve", "serve_trial", "memento_client"))
 
 # Debian's programs work with Debian's Python, so each is called by its own name, and finds Debian's modules.

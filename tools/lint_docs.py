@@ -11,6 +11,7 @@
 - README.md has at most 9 KB.
 - CHANGELOG.md has a section for the version, and the packages for Python and Rust have that version.
 - docs/PROMISES.md and docs/TRUST.md name the number of cases that the suites and tests/cases have.
+- README says of speed what docs/SPEED.md says.
 - docs/NUMBERS.md is what tools/make_numbers.py makes, and docs/FORMAT.md has the same numbers and names.
 - The exit statuses of docs/PROGRAM.md are what tools/make_statuses.py makes of the help texts.
 - Each crates/NAME/CALLING.md is what tools/make_calling.py makes, and has at most 150 lines.
@@ -25,6 +26,7 @@ from collections.abc import Iterator
 
 import lint_architecture
 import lint_changes
+import lint_speed
 import lint_trust
 import make_calling
 import make_numbers
@@ -40,7 +42,7 @@ VERSIONS = [
 ]
 MOST = 9 * 1024
 # Modules that check something by themselves, each by its function `wrong`.
-CHECKS = (lint_architecture, lint_changes, lint_trust, make_numbers, make_statuses)
+CHECKS = (lint_architecture, lint_changes, lint_speed, lint_trust, make_numbers, make_statuses)
 # A crate, a colon, and the names of its calls and laws: "`warc`: `open` and `grow` of `Archive`, law `no_faults`".
 CALLS = re.compile(
     r"`(warc\w*|example_\w+)`: ((?:laws? )?`[\w:]+`(?:(?:, | and | of |, and | or )(?:laws? )?`[\w:]+`(?!:))*)"

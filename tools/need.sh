@@ -10,7 +10,7 @@ modules=/usr/lib/python3/dist-packages # Debian's, of Debian's Python
 lint=(
     mypy:mypy black:black pyflakes3:pyflakes3 shellcheck:shellcheck tsc:node-typescript clang-format:clang-format
     gcc:gcc g++:g++ /usr/include/zlib.h:zlib1g-dev
-    "$modules/hypothesis:python3-hypothesis" "$modules/pytest:python3-pytest"
+    "$modules/hypothesis:python3-hypothesis" "$modules/pytest:python3-pytest" "$modules/waitress:python3-waitress"
 )
 around=(
     /usr/bin/python3:python3 "$modules/pytest:python3-pytest" "$modules/xdist:python3-pytest-xdist"
@@ -20,6 +20,8 @@ around=(
     gzip:gzip zstd:zstd wget:wget bsdtar:libarchive-tools parallel:parallel strace:strace node:nodejs
     chromium:chromium "/usr/share/fonts/truetype/*/*.ttf:fonts-dejavu-core"
     /usr/share/nodejs/dompurify:node-dompurify /usr/share/nodejs/pako:node-pako
+    /usr/share/nodejs/css-tree:node-css-tree
+    "$modules/waitress:python3-waitress"
 )
 
 pairs=()

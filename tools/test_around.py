@@ -24,7 +24,8 @@ from shared import TOP
 PYTHON = "/usr/bin/python3"
 OUT = f"{TOP}/out/around"
 BUILT = ("bin/warc", "out/lib/libwarc.so", "out/lib/libwarc.a", "out/lib/warc.h", "zogwedu.html")
-CALLERS = tuple(f"tests/callers/test_{name}.py" for name in ("python", "compressed", "verdicts", "wheel"))
+PACKAGE = ("python", "compressed", "verdicts", "edges", "heads", "wheel")
+CALLERS = tuple(f"tests/callers/test_{name}.py" for name in PACKAGE)
 MOST_SECONDS = 2400
 NONE_PICKED = 5  # pytest's status where no test was picked
 # Why a test may be left out also where everything has to be there: only root can mount, and not everywhere.

@@ -14,12 +14,14 @@ archives=${STRESS_ARCHIVES:-2000}
 status=0
 bash tools/need.sh strace:strace valgrind:valgrind parallel:parallel /usr/sbin/sshd:openssh-server wget:wget \
     ip:iproute2 zstd:zstd setpriv:util-linux /usr/lib/python3/dist-packages/hypothesis:python3-hypothesis \
-    /usr/lib/python3/dist-packages/pytest:python3-pytest || exit 1
+    /usr/lib/python3/dist-packages/pytest:python3-pytest debootstrap:debootstrap \
+    systemd-nspawn:systemd-container slurmctld:slurm-wlm munged:munge || exit 1
 # Debian's Python has Debian's pytest and hypothesis.
 python=$(command -v /usr/bin/python3 || command -v python3)
 python3 tests/stress/differential.py bin/warc "$count" "$seed" || status=1
 python3 tests/stress/selections.py bin/warc $((count / 10)) "$seed" || status=1
 python3 tests/stress/pieces.py bin/warc $((count / 10)) "$seed" || status=1
+python3 tests/stress/floods.py bin/warc || status=1
 python3 tests/stress/system.py bin/warc || status=1
 python3 tests/stress/memory.py bin/warc || status=1
 python3 tests/stress/terminal.py bin/warc || status=1
@@ -27,7 +29,9 @@ python3 tests/stress/zwarc.py bin/warc || status=1
 ROWS_COUNT=500 "$python" -m pytest -q tests/unit/test_rows.py || status=1
 python3 tests/stress/collection_faults.py bin/warc || status=1
 python3 tests/stress/collection.py bin/warc "$archives" || status=1
+python3 tests/stress/collection_slurm.py bin/warc || status=1
 make -s test-callers || status=1
 # It has the Python package, which `make test-callers` makes.
 python3 tests/stress/serve.py bin/warc || status=1
+python3 tests/stress/collection_units.py bin/warc || status=1
 exit $status
