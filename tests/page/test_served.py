@@ -258,6 +258,21 @@ def hostile(tests: Tests, listener: Listener) -> None:
     tests.holds(not heard and browser.run("typeof ran") == "undefined", "nothing after all", heard)
 
 
+def withheld(tests: Tests) -> None:
+    """What the access rules withhold isn't found, isn't shown, and isn't a part of another page."""
+    browser = tests.browser
+    tests.go("")
+    browser.run("byId('uri').value = 'http://site.example/'; byId('find').click()")
+    tests.holds(tests.becomes("document.querySelectorAll('.found li').length === 6"), "withheld: found", tests.text())
+    browser.run("byId('moment').value = ''; byId('ask').requestSubmit()")
+    tests.holds(tests.shows("Rain"), "withheld: a page that may be seen", tests.text())
+    tests.holds(tests.in_view("getElementById('picture').naturalWidth") == 0, "withheld: its picture")
+    tests.in_view("getElementById('more').click()")
+    said = "document.body.innerText.includes('withheld: this URI is blocked')"
+    tests.holds(tests.becomes(said), "withheld: a link", tests.text())
+    tests.holds(browser.run("document.querySelector('iframe.view')") is None, "withheld: no view", tests.text())
+
+
 def as_it_is(tests: Tests, listener: Listener, folder: str) -> None:
     """The same page without a room, which must be counted."""
     path = put(os.path.join(folder, "evil.html"), evil(listener.port))
@@ -267,11 +282,9 @@ def as_it_is(tests: Tests, listener: Listener, folder: str) -> None:
 
 
 @contextlib.contextmanager
-def room(trial: Trial, listener: Listener) -> Iterator[Tests]:
-    """A browser in the room over a collection of two crawls."""
-    collection(trial.path("disk"), listener.port)
-    trial.run("c", "run", "--quiet", trial.path("disk"))
-    with served(trial, "c") as server:
+def room(trial: Trial, *words: str) -> Iterator[Tests]:
+    """A browser in the room over the collection."""
+    with served(trial, "c", *words) as server:
         browser = Browser()
         try:
             yield Tests(browser, server)
@@ -286,15 +299,21 @@ def main() -> int:
         return 0
     with tempfile.TemporaryDirectory(prefix="warc-served-") as made, contextlib.closing(Listener()) as listener:
         trial = Trial(program, made)
-        with room(trial, listener) as tests:
+        collection(trial.path("disk"), listener.port)
+        trial.run("c", "run", "--quiet", trial.path("disk"))
+        with room(trial) as tests:
             search_and_page(tests, folder)
             answers(tests)
             dates(tests)
             narrow(tests)
             hostile(tests, listener)
             as_it_is(tests, listener, made)
-    print(f"{tests.passed} passed, {tests.failed + trial.surprises} failed")
-    return 1 if tests.failed or trial.surprises else 0
+        rules = put(trial.path("rules"), b"block %spicture.png\nblock %smore\n" % (TOP, TOP))
+        with room(trial, "--access", rules) as guarded:
+            withheld(guarded)
+    failed = tests.failed + guarded.failed + trial.surprises
+    print(f"{tests.passed + guarded.passed} passed, {failed} failed")
+    return 1 if failed else 0
 
 
 if __name__ == "__main__":
