@@ -19,13 +19,17 @@ function isOfWget(row, fields) {
 
 // Counts the bad blocks that are bad since wget wrote them so, for the overview.
 async function lookForWget() {
-  const {file, rows} = room, revisits = [];
+  /** @type {Row[]} */
+  const revisits = [];
+  const {file, rows} = room;
   for (let position = 0; position < rows.count && revisits.length < MOST_LOOKED_AT; position += 1) {
     if (rows.verdict(position) === BAD && rows.row(position).kind.toLowerCase() === 'revisit')
       revisits.push(rows.row(position));
   }
-  const heads = await Promise.all(revisits.map((row) => headOf(row).catch(() => new Uint8Array())));
-  const found = revisits.filter((row, number) => isOfWget(row, warcFields(heads[number]))).length;
+  if (!revisits.length) return;
+  const heads = await Promise.all(revisits.map((row) => headOf(row).catch(() => null)));
+  const read = await room.library.heads(heads.map((head) => ({head, front: null}))).catch(() => []);
+  const found = read.filter(({fields}, number) => isOfWget(revisits[number], asTexts(fields ?? [], shown))).length;
   if (file !== room.file || !found) return;
   room.ofWget = found;
   drawPlots();
@@ -118,7 +122,7 @@ async function bodyOf(it) {
   if (!isCoded(it.answer)) return {bytes: null, stored, words: []};
   const said = `${it.answer.reason}: ${plain(inWords(it.answer.reason)[1])}`;
   try {
-    const {body: bytes, steps} = await decoded(stored);
+    const {body: bytes, steps} = await decoded(stored, it.http);
     const how = ` (${steps.join(', then ')}), outside of what is proved. ${said}`;
     const save = make('div', {className: 'actions'}, saving(`${fileName(it)}.stored`, stored, 'Save the stored block'));
     const words = make('div', {className: 'note'}, make('p', {}, make('b', {}, 'Decoded by this browser'), how), save);
@@ -208,7 +212,8 @@ async function answersWithTypes(questions, left) {
 /** @param {Answer} answer */
 async function addType(answer) {
   if (answer.given === null || answer.given === undefined) return;
-  answer.type = (await typeOf(room.rows.row(answer.given))).type;
+  const {type, http} = await typeOf(room.rows.row(answer.given));
+  Object.assign(answer, {type, http});
 }
 
 /**
@@ -220,7 +225,7 @@ async function addDecoded(answer, left) {
   const row = room.rows.row(answer.given);
   try {
     if (!left) throw new RangeError('nothing is left');
-    const {body, steps} = await decoded(await bytesAt(row.blockStart, row.blockLength), left);
+    const {body, steps} = await decoded(await bytesAt(row.blockStart, row.blockLength), answer.http, left);
     Object.assign(answer, {body, steps, isDecoded: true});
     return left - body.length;
   } catch (error) {

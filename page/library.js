@@ -171,7 +171,7 @@ class Library {
     this.limit = limit;
     this.script = script;
     this.report = report;
-    /** @type {Map<number, {done: (answers: Answer[]) => void, failed: (error: Error) => void}>} */
+    /** @type {Map<number, {done: (answers: any[]) => void, failed: (error: Error) => void}>} */
     this.waiting = new Map();  // what waits for an answer, by the number of its message
     this.asked = 0;
     this.opened = 0;    // how many archives were opened
@@ -236,15 +236,32 @@ class Library {
    * @returns {Promise<Answer[]>}
    */
   send(questions) {
+    return this.post({questions});
+  }
+
+  /**
+   * What heads say, of records and of HTTP responses. No archive has to be open.
+   * @param {AskedHead[]} heads
+   * @returns {Promise<ReadHead[]>}
+   */
+  heads(heads) {
+    return this.post({heads});
+  }
+
+  /**
+   * @param {object} message
+   * @returns {Promise<any[]>}
+   */
+  post(message) {
     if (!this.worker) return Promise.reject(new Error('the library stopped'));
     return new Promise((done, failed) => {
       this.asked += 1;
       this.waiting.set(this.asked, {done, failed});
-      this.worker.postMessage({id: this.asked, questions});
+      this.worker.postMessage({id: this.asked, ...message});
     });
   }
 
-  /** @param {{id: number, answers?: Answer[], openings: number, why?: string}} message */
+  /** @param {{id: number, answers?: any[], openings: number, why?: string}} message */
   hear({id, answers, openings, why}) {
     const turn = this.waiting.get(id);
     this.waiting.delete(id);

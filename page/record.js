@@ -3,7 +3,7 @@
 
 const WHOLE = '#record';  // the focus goes to the record itself
 const MOST_POINTS = 2000;
-const MOST_OF_HEAD = 65536;  // bytes of an HTTP head that are looked at
+const MOST_OF_HEAD = 65536;  // bytes of an HTTP head that the library looks at
 
 function forgetUrls() {
   room.urls.forEach((url) => URL.revokeObjectURL(url));
@@ -43,15 +43,20 @@ function capturesOf(target) {
 }
 
 /**
- * The content type that a record's block states, and the head of its stored HTTP response, if it has one.
+ * The fields of a record's head, the content type that its block states, and the head of its stored HTTP response, if
+ * it has one. Nothing of them is known once the library stopped.
  * @param {Row} row
+ * @returns {Promise<StoredType>}
  */
 async function typeOf(row) {
-  const fields = warcFields(await headOf(row));
   const isHttp = row.kind.toLowerCase() !== 'resource' && /^https?:/i.test(latin.decode(row.target.subarray(0, 8)));
+  const head = await headOf(row);
   const front = isHttp ? await bytesAt(row.blockStart, Math.min(row.blockLength, MOST_OF_HEAD)) : null;
-  const http = front && httpHead(front), own = isHttp ? '' : fieldOf(fields, 'Content-Type');
-  return {fields, http, type: http ? http.get('content-type') : own};
+  if (!room.library.worker) return {fields: [], http: null, type: ''};
+  const [read] = await room.library.heads([{head, front}]);
+  if (!read.fields) throw new Error(CHANGED);  // or it wouldn't be listed
+  const fields = asTexts(read.fields, shown), http = read.http && httpHead(read.http, front);
+  return {fields, http, type: http ? http.get('content-type') : isHttp ? '' : fieldOf(fields, 'Content-Type')};
 }
 
 // ---------------------------------------------------------------- opening and closing
@@ -357,7 +362,8 @@ function tabList(tabs, it) {
 /** @param {Subject} it */
 async function httpTab(it) {
   const isRevisit = it.given !== it.row, words = isRevisit ? wordsBefore({...it, answer: null}) : [];
-  const head = it.http ? headView(it.http.text) : make('p', {}, 'This record stores no HTTP head.');
+  const none = room.library.worker ? 'This record stores no HTTP head.' : 'The library stopped, and reads no head.';
+  const head = it.http ? headView(it.http.text) : make('p', {}, none);
   if (!isRevisit || !it.own.http) return [...words, head];
   const own = make('p', {className: 'small'}, 'The head that the revisit itself stores:');
   return [...words, head, own, headView(it.own.http.text)];
@@ -430,8 +436,7 @@ function findingsOf(position) {
 async function factsTab(it) {
   await judged(it.position);
   const facts = [...rowFacts(it.row, fieldOf(it.own.fields, 'WARC-Block-Digest')), ...answerFacts(it.answer)];
-  const source =
-      'These are the library’s answers, whose contracts are proved. “Digest as stated” is read by this page.';
+  const source = 'These are the library’s answers, whose contracts are proved.';
   return [
     make(
         'dl', {className: 'facts'}, ...facts.flatMap(([name, value]) => [make('dt', {}, name), make('dd', {}, value)])),

@@ -2,7 +2,6 @@
 'use strict';
 
 const MOST_DECODED = 256 * MEGABYTE;  // bytes of one body
-const MOST_OF_HTTP_HEAD = 65536;      // bytes
 const MOST_OF_META = 16384;           // bytes in which a page names its charset
 const MOST_OF_CHARACTER = 5;          // bytes: no charset has more for one
 const MOST_CODINGS = 8;               // of one body
@@ -10,37 +9,25 @@ const GIVEN_AT_ONCE = MEGABYTE;       // bytes of a gzip body that has several m
 const MEDIA_TYPE = /^[a-z0-9.+-]+\/[a-z0-9.+-]+$/;
 
 /**
- * A line of a head as a name and a value.
- * @param {string} line
- * @returns {[string, string]}
- */
-const fieldIn = (line) => [line.slice(0, line.indexOf(':')).trim(), line.slice(line.indexOf(':') + 1).trim()];
-
-/**
- * The fields of a head of HTTP, and where the body begins; null if there is no head. Empty lines may come before it.
+ * The head of a stored HTTP response, as the library reads it.
+ * @param {ReadHttp} read
  * @param {Uint8Array} block
- * @returns {HttpHead|null}
+ * @returns {HttpHead}
  */
-function httpHead(block) {
-  const front = latin.decode(block.subarray(0, MOST_OF_HTTP_HEAD)), [empty] = /^(?:\r?\n)*/.exec(front);
-  const head = front.slice(empty.length), found = /\r?\n\r?\n/.exec(head);
-  if (!found || !/^HTTP\/1\.[01] \d{3}/.test(head)) return null;
-  const end = found.index + found[0].length;
-  const [status, ...lines] = head.slice(0, found.index).split(/\r?\n/);
-  const fields = lines.map(fieldIn);
+function httpHead({status, start, fields: read}, block) {
+  const fields = asTexts(read, (bytes) => latin.decode(bytes));
   const get = (/** @type {string} */ name) =>
       fields.filter((field) => field[0].toLowerCase() === name).map((field) => field[1]).join(', ');
-  return {text: head.slice(0, end), status, fields, start: empty.length + end, get};
+  return {text: latin.decode(block.subarray(0, start)), status, fields, start, get};
 }
 
 /**
- * The fields of a record's head, folded lines joined.
- * @param {Uint8Array} head
+ * The names and values of fields as texts.
+ * @param {FieldBytes[]} fields
+ * @param {(bytes: Uint8Array) => string} decode
+ * @returns {[string, string][]}
  */
-function warcFields(head) {
-  const lines = shown(head).replace(/\r\n[ \t]+/g, ' ').split('\r\n').slice(1).filter((line) => line);
-  return lines.map(fieldIn);
-}
+const asTexts = (fields, decode) => fields.map(([name, value]) => [decode(name), decode(value)]);
 
 /** @type {(fields: [string, string][], name: string) => string} */
 const fieldOf = (fields, name) => fields.find((field) => field[0].toLowerCase() === name.toLowerCase())?.[1] ?? '';
@@ -165,16 +152,16 @@ const codingsIn = (field) => field.toLowerCase()
 /**
  * A coded body of HTTP, decoded by the browser: the bytes, and the codings in words.
  * @param {Uint8Array} block
+ * @param {HttpHead|null} head
  */
-async function decoded(block, left = MOST_DECODED) {
-  const head = httpHead(block), steps = codingsIn(head?.get('transfer-encoding') ?? '');
+async function decoded(block, head, left = MOST_DECODED) {
   if (!head) throw new Error('there is no HTTP head');
-  steps.push(...codingsIn(head.get('content-encoding')));
+  const steps = ['transfer-encoding', 'content-encoding'].flatMap((name) => codingsIn(head.get(name)));
   if (steps.length > MOST_CODINGS)
     throw new Undecodable(steps[MOST_CODINGS], `it has ${steps.length} codings, more than ${MOST_CODINGS}`);
   let body = block.subarray(head.start);
   for (const coding of steps) body = await undone(coding, body, Math.min(left, MOST_DECODED));
-  return {body, steps, head};
+  return {body, steps};
 }
 
 /**

@@ -96,6 +96,7 @@ interface Answer {
   reason?: string;
   body?: Uint8Array | null;
   type?: string; // the content type of what is given
+  http?: HttpHead | null;
   steps?: string[]; // how the browser decoded the body
   isDecoded?: boolean;
   isLeftOut?: boolean;
@@ -137,9 +138,17 @@ interface ServedCapture {
   reason: string | null;
 }
 
+// A field of a head: its name and its value. Heads that the library is asked for: a record's, and that of an HTTP
+// response at the front of a block. What it says of them: the fields, or null if there is no such head; of HTTP also
+// the status, and where the body begins.
+type FieldBytes = [Uint8Array, Uint8Array];
+type AskedHead = { head: Uint8Array | null; front: Uint8Array | null };
+type ReadHead = { fields: FieldBytes[] | null; http: ReadHttp | null };
+type ReadHttp = { status: number; start: number; fields: FieldBytes[] };
+
 interface HttpHead {
   text: string;
-  status: string;
+  status: number;
   fields: [string, string][];
   start: number;
   get(name: string): string;

@@ -864,6 +864,7 @@ class Desk {
     this.limit = limit;    // bytes: a longer archive is listed, and not kept in memory
     this.script = script;  // this one, for helpers
     this.openings = 0;     // how often an archive was opened in a module's memory
+    this.heads = new HeadReader(this.module);
     /** @type {Archive|null} */
     this.archive = null;
     this.queue = Promise.resolve();
@@ -871,13 +872,23 @@ class Desk {
 
   /** @type {(message: any) => void} */
   hear(message) {
+    const failed = (/** @type {any} */ error) => postMessage({id: message.id, why: whyOf(error)});
+    if (message.heads) {
+      this.readHeads(message).catch(failed);
+      return;
+    }
     if (message.open) {
       this.archive?.close();
       this.archive = new Archive(this, message.open, message.number);
     }
     const {archive} = this;
-    const failed = (/** @type {any} */ error) => postMessage({id: message.id, why: whyOf(error)});
     this.queue = this.queue.then(() => this.respond(archive, message)).catch(failed);
+  }
+
+  // Says what heads say: at once, also while an archive is being opened.
+  /** @type {(message: {id: number, heads: AskedHead[]}) => Promise<void>} */
+  async readHeads({id, heads}) {
+    postMessage({id, answers: this.heads.read(heads), openings: this.openings});
   }
 
   /** @type {(archive: Archive|null, message: {id: number, questions?: Question[]}) => Promise<void>} */

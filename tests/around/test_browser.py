@@ -14,8 +14,8 @@ from listener import Listener
 from .conftest import built, needs
 
 PARTS = (
-    *("building", "charsets", "codings", "damaged", "hostile", "unguarded", "keyboard", "saved", "long", "missing"),
-    *("selection", "faithful", "views", "styles"),
+    *("building", "charsets", "codings", "damaged", "heads", "hostile", "unguarded", "keyboard", "saved", "long"),
+    *("missing", "selection", "faithful", "views", "styles"),
 )
 Room = Tuple[test_served.Tests, Listener, Trial]
 

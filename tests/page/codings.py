@@ -16,7 +16,9 @@ GIVES = """async (blocks) => {
   const found = [], hex = (byte) => byte.toString(16).padStart(2, '0');
   for (const block of blocks) {
     try {
-      const {body, steps} = await decoded(Uint8Array.from(atob(block), (it) => it.charCodeAt(0)));
+      const bytes = Uint8Array.from(atob(block), (it) => it.charCodeAt(0)), front = bytes.subarray(0, MOST_OF_HEAD);
+      const [{http}] = await room.library.heads([{head: null, front}]);
+      const {body, steps} = await decoded(bytes, http && httpHead(http, bytes));
       found.push({gives: [...body].map(hex).join(''), undone: steps});
     } catch (error) {
       found.push({fails: error.coding ?? String(error)});

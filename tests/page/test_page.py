@@ -31,6 +31,7 @@ import compressed
 import connections
 import faithful
 import firefox
+import heads
 import hostile
 import missing
 import pieces
@@ -663,8 +664,20 @@ def compare_all(tests: Tests, folder: str, crawled: str) -> None:
 
 
 ALL = (
-    *("building", "charsets", "codings", "compare", "compressed", "damaged", "hostile", "unguarded", "connections"),
-    *("firefox", "burdens", "robust", "faithful", "views", "keyboard", "saved", "selection", "pieces", "missing"),
+    *("building", "charsets", "codings", "compare", "compressed", "damaged", "heads", "hostile", "unguarded"),
+    *(
+        "connections",
+        "firefox",
+        "burdens",
+        "robust",
+        "faithful",
+        "views",
+        "keyboard",
+        "saved",
+        "selection",
+        "pieces",
+        "missing",
+    ),
     *("long", "many", "segments", "styles", "unguarded-leaks"),
 )
 OVER_A_CRAWL = {"compare", "pieces", "views"}
@@ -680,6 +693,7 @@ def parts(tests: Tests, folder: str, crawled: str, where: str) -> dict[str, Call
         "compare": lambda: compare_all(tests, folder, crawled),
         "compressed": lambda: compressed.compressed(tests, folder, same_as_program),
         "damaged": lambda: damaged(tests, folder),
+        "heads": lambda: heads.heads(tests, folder),
         "hostile": lambda: hostile_archive(tests, folder),
         "unguarded": lambda: unguarded.unguarded(tests, folder),
         "unguarded-leaks": lambda: unguarded.unguarded_leaks(tests, folder),

@@ -3,7 +3,7 @@ from __future__ import annotations
 
 import json
 import os
-from typing import Any, Dict, List, Tuple
+from typing import Any, Dict, List, Sequence, Tuple
 
 import build_page
 import pytest
@@ -14,11 +14,16 @@ SCRIPTS = ("shared.js", "elements.js", "members.js", "words.js", "stored.js")
 OPTIONAL = ("br", "zstd")  # codings that not every node undoes
 TAKEN_BY_NODE = {"deflate with other bytes after it"}  # browsers refuse it
 
-DECODED = """async (blocks) => {
+BYTES = """
+const bytesOf = (hex) => Uint8Array.from(Buffer.from(hex, 'hex'));
+const pairsOf = (fields) => fields.map((field) => field.map(bytesOf));
+"""
+DECODED = """async (cases) => {
   const found = [];
-  for (const block of blocks) {
+  for (const {body: stored, fields} of cases) {
     try {
-      const {body, steps} = await decoded(Uint8Array.from(Buffer.from(block, 'hex')));
+      const head = httpHead({status: 200, start: 0, fields: pairsOf(fields)}, new Uint8Array());
+      const {body, steps} = await decoded(bytesOf(stored), head);
       found.push({gives: body, undone: steps});
     } catch (error) {
       found.push({fails: error.coding ?? String(error)});
@@ -26,24 +31,23 @@ DECODED = """async (blocks) => {
   }
   return found;
 }"""
-HEADS = """(blocks) => blocks.map((block) => {
-  const head = httpHead(Uint8Array.from(Buffer.from(block, 'hex')));
-  return head && [head.status, head.fields, head.start];
-})"""
-TEXTS = "(pairs) => pairs.map(([body, type]) => textOf(Uint8Array.from(Buffer.from(body, 'hex')), type, 1000))"
+HEAD = """(fields, block) => {
+  const head = httpHead({status: 204, start: 19, fields: pairsOf(fields)}, bytesOf(block));
+  return [head.status, head.text, head.fields, head.get('b'), head.get('none'), fieldOf(head.fields, 'B')];
+}"""
+TEXTS = "(pairs) => pairs.map(([body, type]) => textOf(bytesOf(body), type, 1000))"
 
 
-def in_page(function: str, value: object) -> Any:
+def in_page(function: str, *values: object) -> Any:
     """What a function gives after the scripts that read stored bytes."""
     if not os.path.exists(build_page.INFLATER):
         without("node-pako")
-    return in_node(SCRIPTS, function, value, before=build_page.inflater())
+    return in_node(SCRIPTS, function, *values, before=build_page.inflater() + BYTES)
 
 
-def block_of(case: Dict[str, Any]) -> bytes:
-    """A block of HTTP with the status, the fields and the body of a case."""
-    lines = [f"HTTP/1.1 {case['status']} x", *(f"{name}: {value}" for name, value in case["fields"])]
-    return "".join(f"{line}\r\n" for line in [*lines, ""]).encode("latin-1") + bytes.fromhex(case["body"])
+def as_bytes(fields: Sequence[Tuple[str, str]]) -> List[List[str]]:
+    """The fields of a head as the library gives them, in hexadecimal digits."""
+    return [[part.encode("latin-1").hex() for part in field] for field in fields]
 
 
 def has_optional(case: Dict[str, Any]) -> bool:
@@ -56,24 +60,22 @@ def test_codings() -> None:
     """Each of the cases that Python's tests and the browser's read, too."""
     with open(f"{TOP}/tests/callers/codings.json", encoding="utf-8") as file:
         cases = [case for case in json.load(file) if not has_optional(case)]
-    found = in_page(DECODED, [block_of(case).hex() for case in cases])
+    found = in_page(DECODED, [{"body": case["body"], "fields": as_bytes(case["fields"])} for case in cases])
     wanted = [{name: case[name] for name in ("fails", "undone", "gives") if name in case} for case in cases]
     differ = {case["name"] for case, one, other in zip(cases, found, wanted) if one != other}
     assert len(cases) > 25 and differ <= TAKEN_BY_NODE
 
 
-def test_heads_of_http() -> None:
-    heads: List[Tuple[bytes, Any]] = [
-        (b"HTTP/1.1 200 OK\r\nA: b\r\n\r\nx", ["HTTP/1.1 200 OK", [["A", "b"]], 25]),
-        (b"\r\nHTTP/1.0 404\nA:b: c\n\n", ["HTTP/1.0 404", [["A", "b: c"]], 23]),
-        (b"HTTP/1.1 200 OK\r\n\r\n", ["HTTP/1.1 200 OK", [], 19]),
-        (b"HTTP/1.1 200 OK\r\nA: b\r\n", None),
-        (b"HTTP/2 200 OK\r\n\r\n", None),
-        (b"HTTP/1.1 20 OK\r\n\r\n", None),
-        (b"", None),
-    ]
-    found = in_page(HEADS, [block.hex() for block, _ in heads])
-    assert found == [wanted for _, wanted in heads]
+def test_a_head_of_http() -> None:
+    """What the library read of it, as texts. Of several fields with a name all values count, or the first one."""
+    fields = [("A", "1"), ("b", "\xe9"), ("B", "3")]
+    text = "HTTP/1.1 204 \xe9 ..\r\n"
+    found = in_page(HEAD, as_bytes(fields), (text + "body").encode("latin-1").hex())
+    assert found == [204, text, [list(field) for field in fields], "\xe9, 3", "", "\xe9"]
+
+
+def test_a_body_without_a_head() -> None:
+    assert in_page("() => decoded(new Uint8Array(), null).catch((error) => whyOf(error))") == "there is no HTTP head"
 
 
 def test_charsets() -> None:
