@@ -2,22 +2,11 @@
 from __future__ import annotations
 
 import hashlib
-import importlib
-from typing import Any, Tuple
+from typing import Tuple
 
-from .replay import MOST_DECODED, Answer, Replayer
+from .package import package_for
+from .replay import MOST_READ, Answer, Replayer
 from .texts import Trouble, counted, escaped
-
-
-def package_for(what: str, names: Tuple[str, ...]) -> Any:
-    """The Python package zogwedu, which has these names. A Trouble where it isn't there."""
-    try:
-        package = importlib.import_module("zogwedu")
-    except ImportError as error:
-        raise Trouble("%s needs the Python package zogwedu: %s" % (what, escaped(str(error)))) from None
-    if not all(hasattr(package, name) for name in names):
-        raise Trouble("%s needs the Python package zogwedu of this version" % what)
-    return package
 
 
 class Decoder:
@@ -31,7 +20,7 @@ class Decoder:
         or no text where there was nothing to undo."""
         if not answer.codings or answer.file is None or answer.body is None:
             return ""
-        record = replayer.record(answer.file, answer.position)
+        record = replayer.record(answer.file, answer.position, "; --stored writes them")
         try:
             body, names = self.decoded(record, answer)
         except self.package.WarcError as error:
@@ -49,5 +38,5 @@ class Decoder:
             stored = b"" if http is None else http.stored
             if hashlib.sha256(stored).hexdigest() != answer.digest:
                 raise Trouble("the body is in segments; --stored writes it as it is stored")
-            body = archive[0].body(decoded=True, decoded_limit=MOST_DECODED)
+            body = archive[0].body(decoded=True, decoded_limit=MOST_READ)
             return body.data, tuple(body.undone)

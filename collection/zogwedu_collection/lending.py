@@ -9,7 +9,7 @@ from typing import Any, Callable, Iterator, List, Optional, Sequence, Tuple
 
 from .captures import Capture
 from .catalogue import Catalogue, Known
-from .replay import CODED, DISAGREE, NAMES, Answer, Names, Replayer, bare, check_path, do_agree, place_in
+from .replay import CODED, DISAGREE, Answer, Names, Replayer, check_path, do_agree, names_in, place_in
 from .shelf import Shelf
 from .texts import Stored, Trouble, escaped
 
@@ -134,9 +134,7 @@ class Reader(Replayer):
 
     def named(self, capture: Capture) -> Names:
         with self.shelf.lent([self.known(capture.file)]) as archive:
-            head = archive[capture.position].headers
-            values = [head[name] if name in head else "" for name in NAMES]
-        return [bare(value.encode("utf-8", "surrogateescape")) for value in values]
+            return names_in(archive[capture.position].headers)
 
     def answer(self, captures: Sequence[Capture]) -> Lent:
         """What captures of one instant give, if they agree."""

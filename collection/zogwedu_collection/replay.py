@@ -13,6 +13,7 @@ import shutil
 import subprocess
 import tempfile
 from typing import (
+    Any,
     Callable,
     Deque,
     Dict,
@@ -32,6 +33,7 @@ from .captures import GIVES, Capture, captures_where
 from .catalogue import Catalogue, Known
 from .damaged import Pieces, good_of_members, good_records
 from .disk import Stamp, open_regular, open_stamp, reason_of, stamp_of, temporary_folder
+from .package import package_for
 from .program import instant_of, said
 from .texts import Stored, Trouble, decoded, escaped, path_bytes, real_path, say
 from .unpack import PIECE, Damaged, Unsupported, is_of_gzip, pieces_of, write_all
@@ -46,10 +48,8 @@ NAMES = ("WARC-Refers-To", "WARC-Refers-To-Target-URI", "WARC-Refers-To-Date")
 Names = List[Optional[Stored]]
 Asked = TypeVar("Asked")
 UUID = re.compile(rb"urn:uuid:[0-9a-f]{8}(?:-[0-9a-f]{4}){3}-[0-9a-f]{12}", re.IGNORECASE)
-END_OF_LINE = re.compile(rb"\r\n(?![ \t])")
-FOLD = re.compile(rb"\r\n[ \t]+")
-# The most bytes of a record whose body is decoded.
-MOST_DECODED = 1 << 30
+# The most bytes of a record that the Python package gets, and of a body that it decodes.
+MOST_READ = 1 << 30
 # What the program says of a body: the record that it is of, its facts, and the fields that name its codings.
 GIVEN = re.compile(r"chosen \d+ given (\d+) (.*?)( coded .*)?", re.DOTALL)
 CODED = "P10 "
@@ -108,11 +108,10 @@ def bare(value: bytes) -> Optional[Stored]:
     return decoded((value if b"<" in inner or b">" in inner else inner).strip(b" \t")) or None
 
 
-def fields_of(head: bytes) -> Iterator[Tuple[bytes, bytes]]:
-    """The fields of a head, as `warc head` writes it: names in lower case, and values on one line."""
-    for line in END_OF_LINE.split(head)[1:]:
-        name, _, rest = line.partition(b":")
-        yield name.lower(), FOLD.sub(b" ", rest).strip(b" \t")
+def names_in(headers: Any) -> Names:
+    """What the fields of a head name, as the Python package has them. Of several fields with a name the first one
+    counts."""
+    return [bare(headers.get(name, "").encode("utf-8", "surrogateescape")) for name in NAMES]
 
 
 def ids_like(name: Stored, is_indexed: bool = True) -> Tuple[str, List[bytes]]:
@@ -327,30 +326,31 @@ class Replayer:
         place = place_in(files, int(given[1]))
         return Answer(capture, files, out, digest_of(out), *place, given[2], given[3] or "")
 
-    def record(self, known: Known, position: int) -> bytes:
-        """The bytes of a record, up to the beginning of the next one."""
+    def record(self, known: Known, position: int, instead: str = "") -> bytes:
+        """The bytes of a record, up to the beginning of the next one. If they are too many, a line says what there is
+        instead."""
         query = "SELECT at_offset FROM records WHERE file = ? AND position BETWEEN ? AND ? ORDER BY position"
         places = [row[0] for row in self.catalogue.rows(query, (known.file, position, position + 1))]
         if not places:
             raise Trouble("%s was read again: try again" % escaped(known.path))
         with self.files.joined([known]) as source:
             end = places[1] if len(places) > 1 else source.seek(0, os.SEEK_END)
-            if end - places[0] > MOST_DECODED:
-                raise Trouble("more than %d bytes are stored; --stored writes them" % MOST_DECODED)
+            if end - places[0] > MOST_READ:
+                what = escaped(known.path), position, MOST_READ, instead
+                raise Trouble("%s, record %d: more than %d bytes are stored%s" % what)
             source.seek(places[0])
             return b"".join(iter(lambda: source.read(min(PIECE, end - source.tell())), b""))
 
     def named(self, capture: Capture) -> Names:
-        """What the head of a revisit names: the id, the target and the date of its referent."""
-        with self.files.joined([self.known(capture.file)]) as source:
-            out, status, message = self.program("head", source, capture.position)
-        with out:
-            if status != 0:
-                raise Trouble(message)
-            fields = list(fields_of(out.read()))
-        # Of several fields with a name the first one counts.
-        first = dict(reversed(fields))
-        return [bare(first.get(name.lower().encode(), b"")) for name in NAMES]
+        """What the head of a revisit names: the id, the target and the date of its referent. The Python package reads
+        it."""
+        package = package_for("a body that may be in another file", ("Archive", "WarcError"))
+        record = self.record(self.known(capture.file), capture.position)
+        try:
+            with package.Archive(record) as archive:
+                return names_in(archive[0].headers)
+        except package.WarcError as error:
+            raise Trouble("%s: %s" % (escaped(capture.path), escaped(str(error)))) from None
 
     def candidates(self, capture: Capture) -> List[Capture]:
         """Captures of other files that may be what a capture lacks. The program judges whether they are. No capture is

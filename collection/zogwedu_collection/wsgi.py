@@ -24,7 +24,6 @@ from .ages import last_end
 from .bodies import Body, Wanted, has_already, opened_again, spooled, tag_of, wanted_of, within
 from .captures import Capture, captures_as_of, captures_at, end_instant, may_have, unknown_files
 from .catalogue import Catalogue
-from .decode import package_for
 from .desks import Desks, name_of, named
 from .hosts import Site, site_for
 from .lending import Content, Lent, Reader, Unfit
@@ -32,6 +31,7 @@ from .limits import Limits, limits_in
 from .memento import TIMEMAPS, Around, NotOne, Paths, digits_of, head_links, http_date, instants_of_http_date
 from .memento import instants_of, json_timemap, key_in, link_timemap, referred, target_in
 from .near import as_rows, near_captures, targets_below
+from .package import package_for
 from .program import BadDate, instant_of, usable_program
 from .responses import ASKED_EACH_TIME, FORBIDS_ALL, VISIBLE, Headers, Refusal, Response, close, moved, phrase, plain
 from .room import Pages

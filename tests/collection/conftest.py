@@ -15,6 +15,9 @@ import pytest
 
 TOP = os.path.dirname(os.path.dirname(os.path.dirname(os.path.abspath(__file__))))
 STAND_IN = os.path.join(TOP, "tests", "collection", "standin", "warc.py")
+BUILT = os.path.join(TOP, "out", "python")
+# The Python package, or a stand-in for it.
+PACKAGE = BUILT if os.path.exists(os.path.join(BUILT, "zogwedu", "libwarc.so")) else os.path.dirname(STAND_IN)
 URI = "http://a.example/"
 MOST_SECONDS = 600
 # As the tests are run over a project that was mended, or over one that wasn't.
@@ -100,7 +103,7 @@ class Collection:
             stdin=subprocess.DEVNULL,
             capture_output=True,
             cwd=self.folder,
-            env=dict(os.environ, PYTHONDONTWRITEBYTECODE="1", **(env or {})),
+            env=dict(os.environ, **{"PYTHONPATH": PACKAGE, "PYTHONDONTWRITEBYTECODE": "1", **(env or {})}),
             timeout=MOST_SECONDS,
             check=False,
         )

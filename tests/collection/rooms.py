@@ -9,15 +9,9 @@ import sys
 from typing import Any, Dict, Iterable, List, Optional, Sequence, Tuple
 
 import pytest
-from conftest import PROJECT, TOP, Collection, record
+from conftest import PACKAGE, PROJECT, TOP, Collection, record
 
 sys.path.insert(0, os.path.join(PROJECT, "collection"))
-BUILT = os.path.join(TOP, "out", "python")
-PACKAGE = (
-    BUILT
-    if os.path.exists(os.path.join(BUILT, "zogwedu", "libwarc.so"))
-    else os.path.join(TOP, "tests", "collection", "standin")
-)
 sys.path.insert(0, PACKAGE)
 # The stand-in that has all commands, since the room needs revisits and dates.
 STAND_IN = os.path.join(TOP, "tests", "standin", "warc.py")

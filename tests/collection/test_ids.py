@@ -66,6 +66,25 @@ def test_no_other_record_is_in_the_way(spelled: Collection) -> None:
         assert [it.kind for it in replayer.with_id(own.strip("<>"), "captures.file <> ?", 0)] == ["resource"]
 
 
+def test_the_package_reads_the_head(tmp_path_factory: pytest.TempPathFactory) -> None:
+    """A name in other letters and a folded value; of several fields the first one counts."""
+    collection = new_collection(tmp_path_factory)
+    collection.put("disk/a.warc", record(1, b"body", URI + "x", date=FIRST, WARC_Record_ID="<urn:x:first>"))
+    twice = b"warc-REFERS-to:\r\n\t <urn:x:first>\r\nWARC-Refers-To: "
+    collection.put("disk/b.warc", revisit(2, URI, SECOND, "<urn:x:second>").replace(b"WARC-Refers-To: ", twice))
+    read(collection)
+    assert collection.run("replay", URI, "9999").stdout == b"body"
+
+
+def test_without_the_package(spelled: Collection) -> None:
+    """A line says what is needed, and nothing is written. A body of the file itself needs no package."""
+    spelled.put("without/zogwedu.py", b"raise ImportError('no library')")
+    without = {"PYTHONPATH": spelled.path("without")}
+    done = spelled.run("replay", URI + "y0", "9999", env=without)
+    assert (done.returncode, done.stdout) == (3, b"") and b"needs the Python package zogwedu" in done.stderr
+    assert spelled.run("replay", URI + "x0", "9999", env=without).stdout == b"body 0"
+
+
 def test_an_id_is_looked_up_by_an_index(spelled: Collection) -> None:
     """Not by reading all records."""
     from zogwedu_collection.replay import ids_like

@@ -15,8 +15,8 @@ import time
 from typing import Any, Callable, Dict, Iterator, List, Optional
 
 import pytest
-from conftest import PROJECT, TOP, URI, Collection
-from rooms import PACKAGE, Room, new_collection, program, read, response
+from conftest import PACKAGE, PROJECT, TOP, URI, Collection
+from rooms import Room, new_collection, program, read, response
 
 pytest.importorskip("waitress")
 sys.path.insert(0, os.path.join(TOP, "tests", "stress"))

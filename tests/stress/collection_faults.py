@@ -30,7 +30,7 @@ import threading
 import time
 from typing import Callable, Counter, Dict, Iterator, List, Tuple
 
-from collection_trial import TOP, Trial, put, put_script, record, running_with, to_read
+from collection_trial import PACKAGE, TOP, Trial, put, put_script, record, running_with, to_read
 
 URI = b"http://a.example/"
 DATE = "2020-01-01T00:00:00Z"
@@ -935,7 +935,6 @@ CODINGS: Dict[str, Tuple[bytes, bytes, bytes]] = {
     "unknown": (b"Content-Encoding: \xc2\x9b31m\xe2\x80\xae coded x=y\r\n", b"abc", b""),
     "cut": (b"Content-Encoding: gzip\r\n", gzip.compress(TEXT)[:-9], b""),
 }
-PACKAGE = os.path.join(TOP, "out", "python")
 
 
 def coded_pages(trial: Trial) -> None:

@@ -14,6 +14,7 @@ from typing import Counter, Dict, Iterator, List, Optional, Sequence, Set, Tuple
 
 HERE = os.path.dirname(os.path.abspath(__file__))
 TOP = os.path.dirname(os.path.dirname(HERE))
+PACKAGE = os.path.join(TOP, "out", "python")
 MOST_SECONDS = 3600
 # What a catalogue has of each file.
 TABLES = ("records", "captures", "digests", "payloads", "findings", "years", "hosts")
@@ -120,7 +121,7 @@ class Trial:
             stdin=subprocess.DEVNULL,
             stdout=subprocess.PIPE,
             stderr=subprocess.PIPE,
-            env=dict(os.environ, **(env or {})),
+            env={"PYTHONPATH": PACKAGE, **os.environ, **(env or {})},
             start_new_session=True,
         )
         try:

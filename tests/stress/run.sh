@@ -27,11 +27,11 @@ python3 tests/stress/memory.py bin/warc || status=1
 python3 tests/stress/terminal.py bin/warc || status=1
 python3 tests/stress/zwarc.py bin/warc || status=1
 ROWS_COUNT=500 "$python" -m pytest -q tests/unit/test_rows.py || status=1
+# Replays across files need the Python package, and so does the server.
+make -s test-callers || status=1
 python3 tests/stress/collection_faults.py bin/warc || status=1
 python3 tests/stress/collection.py bin/warc "$archives" || status=1
 python3 tests/stress/collection_slurm.py bin/warc || status=1
-make -s test-callers || status=1
-# It has the Python package, which `make test-callers` makes.
 python3 tests/stress/serve.py bin/warc || status=1
 python3 tests/stress/collection_units.py bin/warc || status=1
 exit $status
