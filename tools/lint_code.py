@@ -99,7 +99,7 @@ AROUND = (
 )
 UNIT = (
     *("tests/standin/warc.py", "tests/reference/warc_reference.py", "tests/stress/collection_trial.py"),
-    *("tools/build_page.py", "tools/build.py", "tools/shared.py", *scripts("tests/unit")),
+    *("tools/build_page.py", "tools/build.py", "tools/lint_heads.py", "tools/shared.py", *scripts("tests/unit")),
 )
 NIGHTS = (
     *(*scripts("tests/collection"), *scripts("tests/collection/standin")),
@@ -139,6 +139,7 @@ CHECKS = [
     Check("layout of the Rust crate", ("cargo", "fmt", "--check", "--manifest-path=rust/Cargo.toml")),
     Check("clippy of the Rust crate", ("python3", "tools/lint_rust.py"), programs=("cargo", "cargo-clippy")),
     Check("no unsafe in Rust outside of raw.rs", ("python3", "tools/find_unsafe.py")),
+    Check("heads that are read by hand", ("python3", "tools/lint_heads.py")),
     Check("types of collection/", (*TYPES, *COLLECTION)),
     Check("types of tests/stress/collection*.py", (*TYPES, *TRIALS)),
     Check("types of the trials of the server", (*TYPES, *SERVER, TRIALS[2])),
