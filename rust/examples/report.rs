@@ -74,9 +74,14 @@ fn put_fields(out: &mut impl Write, headers: &Headers) -> io::Result<()> {
     Ok(())
 }
 
-fn put_heads(out: &mut impl Write, archive: &Archive<'_>, position: usize) -> Result<(), Box<dyn error::Error>> {
+fn put_heads(
+    out: &mut impl Write,
+    archive: &Archive<'_>,
+    position: usize,
+    headers: &Headers,
+) -> Result<(), Box<dyn error::Error>> {
     writeln!(out, "== fields {position}")?;
-    put_fields(out, &archive.headers(position)?)?;
+    put_fields(out, headers)?;
     if let Some(http) = archive.http(position)? {
         write!(out, "== http {position}\nHTTP/1.{} {} ", http.minor, http.status)?;
         out.write_all(&http.reason)?;
@@ -115,7 +120,7 @@ fn report(out: &mut impl Write, archive: &Archive<'_>) -> Result<(), Box<dyn err
             put_body(out, archive.replay(target, record.date()))?;
         }
     }
-    (0..archive.len()).try_for_each(|position| put_heads(out, archive, position))
+    archive.all_headers().enumerate().try_for_each(|(position, it)| put_heads(out, archive, position, &it?))
 }
 
 /// The lines of `warc pieces`, made of pieces.

@@ -1,10 +1,10 @@
 //! Archives, their records and bodies.
 use crate::error::{Error, ErrorKind};
 use crate::heads::{Headers, Http};
+use crate::many::{AllHeaders, Records};
 use crate::raw;
-use std::cell::RefCell;
+use std::cell::{RefCell, RefMut};
 use std::fmt;
-use std::iter::FusedIterator;
 use std::ops::Range;
 
 /// How a block compares with the digest that its head states.
@@ -217,7 +217,7 @@ pub(crate) fn check_version() -> Result<(), Error> {
 }
 
 /// A number of the library as one of this machine.
-fn usize_of(number: u64) -> Result<usize, Error> {
+pub(crate) fn usize_of(number: u64) -> Result<usize, Error> {
     usize::try_from(number).map_err(|_| Error::changed())
 }
 
@@ -296,7 +296,8 @@ impl<'a> Archive<'a> {
         self.record_of(position, &row, texts)
     }
 
-    fn record_of(&self, position: usize, row: &raw::Row, texts: Vec<u8>) -> Result<Record<'a>, Error> {
+    /// A record, of its row and its texts.
+    pub(crate) fn record_of(&self, position: usize, row: &raw::Row, texts: Vec<u8>) -> Result<Record<'a>, Error> {
         let kind = usize_of(row.type_length.into())?;
         let date = kind.saturating_add(usize_of(row.date_length.into())?);
         let id = date.saturating_add(usize_of(row.id_length.into())?);
@@ -394,10 +395,21 @@ impl<'a> Archive<'a> {
         }))
     }
 
-    /// All records, in their order.
+    /// All records, in their order. One call of the library reads many of them.
     #[must_use]
     pub fn iter(&self) -> Records<'_, 'a> {
-        Records { archive: self, positions: 0..self.len() }
+        Records::new(self)
+    }
+
+    /// The fields of the heads of all records, in their order, as [`Archive::headers`] gives those of one. One call of
+    /// the library reads many of them.
+    #[must_use]
+    pub fn all_headers(&self) -> AllHeaders<'_, 'a> {
+        AllHeaders::new(self)
+    }
+
+    pub(crate) fn handle(&self) -> RefMut<'_, raw::Handle<'a>> {
+        self.handle.borrow_mut()
     }
 
     /// The positions of the captures of a URI, by date, then by position.
@@ -482,42 +494,5 @@ impl<'a> Archive<'a> {
 impl fmt::Debug for Archive<'_> {
     fn fmt(&self, f: &mut fmt::Formatter<'_>) -> fmt::Result {
         f.debug_struct("Archive").field("records", &self.len()).field("bytes", &self.bytes.len()).finish()
-    }
-}
-
-/// The records of an archive, in their order.
-#[derive(Clone, Debug)]
-pub struct Records<'b, 'a> {
-    archive: &'b Archive<'a>,
-    positions: Range<usize>,
-}
-
-impl<'a> Iterator for Records<'_, 'a> {
-    type Item = Result<Record<'a>, Error>;
-
-    fn next(&mut self) -> Option<Self::Item> {
-        Some(self.archive.record(self.positions.next()?))
-    }
-
-    fn size_hint(&self) -> (usize, Option<usize>) {
-        self.positions.size_hint()
-    }
-}
-
-impl DoubleEndedIterator for Records<'_, '_> {
-    fn next_back(&mut self) -> Option<Self::Item> {
-        Some(self.archive.record(self.positions.next_back()?))
-    }
-}
-
-impl ExactSizeIterator for Records<'_, '_> {}
-impl FusedIterator for Records<'_, '_> {}
-
-impl<'b, 'a> IntoIterator for &'b Archive<'a> {
-    type Item = Result<Record<'a>, Error>;
-    type IntoIter = Records<'b, 'a>;
-
-    fn into_iter(self) -> Records<'b, 'a> {
-        self.iter()
     }
 }

@@ -3,7 +3,7 @@ use std::ops::Range;
 use std::slice;
 
 /// The fields of a head, in their order. Names may repeat; ASCII case doesn't matter where one is looked for.
-#[derive(Clone, Debug, Default, PartialEq, Eq)]
+#[derive(Clone, Debug, Default)]
 pub struct Headers {
     text: Vec<u8>,
     fields: Vec<(Range<usize>, Range<usize>)>,
@@ -46,11 +46,33 @@ impl Headers {
         start..self.text.len()
     }
 
+    /// The fields whose names and values are lines, each with a line feed after it.
+    pub(crate) fn of_lines(lines: &[u8]) -> Self {
+        let (mut start, mut fields) = (0, Vec::new());
+        let mut parts = lines.split_inclusive(|byte| *byte == b'\n').map(|line| {
+            let part = start..start + line.len() - 1;
+            start += line.len();
+            part
+        });
+        while let (Some(name), Some(value)) = (parts.next(), parts.next()) {
+            fields.push((name, value));
+        }
+        Self { text: lines.to_vec(), fields }
+    }
+
     pub(crate) fn push(&mut self, name: &[u8], value: &[u8]) {
         let field = (self.add(name), self.add(value));
         self.fields.push(field);
     }
 }
+
+impl PartialEq for Headers {
+    fn eq(&self, other: &Self) -> bool {
+        self.iter().eq(other)
+    }
+}
+
+impl Eq for Headers {}
 
 impl<'h> IntoIterator for &'h Headers {
     type Item = (&'h [u8], &'h [u8]);

@@ -31,13 +31,15 @@
 mod archive;
 mod error;
 mod heads;
+mod many;
 mod pieces;
 mod raw;
 mod writing;
 
-pub use archive::{Archive, Body, PayloadVerdict, Record, Records, Unjudged, Verdict};
+pub use archive::{Archive, Body, PayloadVerdict, Record, Unjudged, Verdict};
 pub use error::{Error, ErrorKind};
 pub use heads::{Fields, Headers, Http};
+pub use many::{AllHeaders, Records};
 pub use pieces::{pieces, Piece};
 pub use writing::{convert, make, rewrite, split, Draft, WriteError};
 pub use writing::{select, select_closed, select_others, select_others_closed};

@@ -31,6 +31,13 @@ pub struct Row {
 
 #[repr(C)]
 #[derive(Clone, Copy, Default)]
+pub struct Lines {
+    pub fields: u32,
+    pub length: u32,
+}
+
+#[repr(C)]
+#[derive(Clone, Copy, Default)]
 pub struct Span {
     pub offset: u64,
     pub length: u64,
@@ -114,6 +121,24 @@ extern "C" {
         row: *mut Row,
         texts: *mut u8,
         length: usize,
+        problem: *mut Problem,
+    ) -> usize;
+    fn warc_rows(
+        archive: *mut CArchive,
+        position: usize,
+        rows: *mut Row,
+        rows_length: usize,
+        text: *mut u8,
+        text_length: usize,
+        problem: *mut Problem,
+    ) -> usize;
+    fn warc_fields(
+        archive: *mut CArchive,
+        position: usize,
+        lines: *mut Lines,
+        lines_length: usize,
+        text: *mut u8,
+        text_length: usize,
         problem: *mut Problem,
     ) -> usize;
     fn warc_verdict_at(archive: *mut CArchive, position: usize, problem: *mut Problem) -> u32;
@@ -279,6 +304,27 @@ impl<'a> Handle<'a> {
         // SAFETY: each pointer leads to as many bytes as are said.
         let length = unsafe { warc_row_at(self.archive, position, row, texts.as_mut_ptr(), texts.len(), &mut problem) };
         checked(length, problem)
+    }
+
+    /// The rows of the records from a position on, and their texts, a line each. Answers how many records these are.
+    pub fn rows(&mut self, position: usize, rows: &mut [Row], text: &mut [u8]) -> Result<usize, Problem> {
+        let mut problem = Problem::default();
+        let (out, room) = (rows.as_mut_ptr(), rows.len());
+        let (lines, length) = (text.as_mut_ptr(), text.len());
+        // SAFETY: each pointer leads to as many elements as are said.
+        let count = unsafe { warc_rows(self.archive, position, out, room, lines, length, &mut problem) };
+        checked(count, problem)
+    }
+
+    /// The fields of the heads of the records from a position on: names and values, a line each. Answers how many
+    /// records these are.
+    pub fn heads(&mut self, position: usize, heads: &mut [Lines], text: &mut [u8]) -> Result<usize, Problem> {
+        let mut problem = Problem::default();
+        let (out, room) = (heads.as_mut_ptr(), heads.len());
+        let (lines, length) = (text.as_mut_ptr(), text.len());
+        // SAFETY: each pointer leads to as many elements as are said.
+        let count = unsafe { warc_fields(self.archive, position, out, room, lines, length, &mut problem) };
+        checked(count, problem)
     }
 
     fn judge(&mut self, call: Judge, position: usize) -> Result<u32, Problem> {

@@ -182,6 +182,58 @@ fn heads_have_fields() {
     assert_eq!(archive.headers(99).unwrap_err().kind(), ErrorKind::NoRecord);
 }
 
+/// An archive of more records than one call gives, some of whose heads have unusual fields or don't fit into a buffer
+/// together.
+fn many() -> Vec<u8> {
+    let kinds = ["", "X-A: one\r\nx-a: two\r\n", "X-Fold: a\r\n  b\r\n", "X-Empty:\r\n", &"X: y\r\n".repeat(3000)];
+    let kinds = kinds.iter().chain(&kinds[..4]).cycle();
+    let mut bytes: Vec<u8> =
+        kinds.take(300).zip(0..).flat_map(|(it, at)| judged(at, "resource", it).into_bytes()).collect();
+    bytes.extend(
+        judged(300, "metadata", "X: \u{fc}\r\n").replace("WARC-Target-URI: http://a.example/x\r\n", "").bytes(),
+    );
+    bytes
+}
+
+#[test]
+fn iterators_give_what_positions_give() {
+    let bytes = many();
+    for bytes in [&bytes, CRAWL, b""] {
+        let archive = Archive::open(bytes).unwrap();
+        let records: Vec<_> = (0..archive.len()).map(|at| archive.record(at).unwrap()).collect();
+        let headers: Vec<_> = (0..archive.len()).map(|at| archive.headers(at).unwrap()).collect();
+        assert_eq!(archive.iter().collect::<Result<Vec<_>, _>>().unwrap(), records);
+        assert_eq!(archive.all_headers().collect::<Result<Vec<_>, _>>().unwrap(), headers);
+        let back: Vec<_> = archive.iter().rev().map(Result::unwrap).collect();
+        assert!(back.iter().rev().eq(&records));
+        for step in [2, 63, 64, 65, 400] {
+            assert!(archive.iter().step_by(step).map(Result::unwrap).eq(records.iter().step_by(step).cloned()));
+            let passed = archive.all_headers().step_by(step).map(Result::unwrap);
+            assert!(passed.eq(headers.iter().step_by(step).cloned()));
+        }
+    }
+}
+
+#[test]
+fn iterators_meet_in_the_middle_and_end() {
+    let bytes = many();
+    let archive = Archive::open(&bytes).unwrap();
+    let mut records = archive.iter();
+    let mut seen = Vec::new();
+    while let Some(record) = records.next() {
+        seen.push(record.unwrap().position());
+        seen.extend(records.next_back().map(|record| record.unwrap().position()));
+        assert_eq!(records.len(), archive.len() - seen.len());
+    }
+    seen.sort_unstable();
+    assert!(seen.into_iter().eq(0..archive.len()));
+    assert!(records.next().is_none() && records.next_back().is_none());
+    let mut headers = archive.all_headers();
+    assert_eq!((headers.len(), headers.nth(archive.len() - 1).is_some(), headers.len()), (301, true, 0));
+    assert!(headers.next().is_none() && archive.all_headers().nth(301).is_none() && archive.iter().nth(301).is_none());
+    assert!(format!("{:?} {headers:?}", archive.iter()).len() < 100);
+}
+
 #[test]
 fn debug_shows_no_block() {
     let record = Archive::open(CRAWL).unwrap().record(2).unwrap();
