@@ -44,8 +44,9 @@ def scripts(folder: str) -> tuple[str, ...]:
     return tuple(path[len(TOP) + 1 :] for path in sorted(glob.glob(f"{TOP}/{folder}/*.py")))
 
 
+PACKAGES = "tests/reference/packages.py"  # makes what tests read
 # Tests of scripts for the machine.
-MACHINE = ("tests/tools/test_install.py", "tests/stress/zwarc.py")
+MACHINE = ("tests/tools/test_install.py", "tests/stress/zwarc.py", PACKAGES)
 
 SHELL = (
     *(".ci/run", "shell/zwarc", "tools/need.sh", "packaging/build.sh", "packaging/test.sh"),
@@ -65,6 +66,7 @@ GENERATED = "tests/callers/generated.py"
 CALLERS = (
     *(path for path in scripts("tests/callers") if path != GENERATED),
     "tests/reference/warc_reference.py",
+    PACKAGES,
 )
 SYSTEM = (
     "tests/reference/warc_reference.py",
@@ -85,7 +87,10 @@ WITHOUT_STUBS = ("--ignore-missing-imports", "--allow-subclassing-any")  # setup
 
 TYPES = ("mypy", "--strict", "--python-version=3.9")
 LAYOUT = ("black", "--quiet", "--check", "--line-length=120")
-COLLECTION = ("collection/__main__.py", "collection/zogwedu_collection", "python/src/zogwedu/_members.py")
+COLLECTION = (
+    *("collection/__main__.py", "collection/zogwedu_collection"),
+    *(f"python/src/zogwedu/{name}.py" for name in ("_members", "_wacz", "_zip")),
+)
 # The second reading and the generator are checked with the trials of the program.
 TRIALS = (
     *("tests/stress/collection.py", "tests/stress/collection_faults.py", "tests/stress/collection_trial.py"),
@@ -94,11 +99,11 @@ TRIALS = (
 )
 AROUND = (
     *("tests/page/test_page.py", "tests/page/test_served.py", "tests/page/listener.py", "tests/page/pieces.py"),
-    "tests/stress/zwarc.py",
+    *("tests/stress/zwarc.py", PACKAGES),
     *("tests/stress/collection_faults.py", "tests/stress/serve.py", "tests/stress/collection_trial.py"),
 )
 UNIT = (
-    *("tests/standin/warc.py", "tests/reference/warc_reference.py", "tests/stress/collection_trial.py"),
+    *("tests/standin/warc.py", "tests/reference/warc_reference.py", PACKAGES, "tests/stress/collection_trial.py"),
     *("tools/build_page.py", "tools/build.py", "tools/lint_heads.py", "tools/shared.py", *scripts("tests/unit")),
 )
 NIGHTS = (

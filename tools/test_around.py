@@ -24,7 +24,7 @@ from shared import TOP
 PYTHON = "/usr/bin/python3"
 OUT = f"{TOP}/out/around"
 BUILT = ("bin/warc", "out/lib/libwarc.so", "out/lib/libwarc.a", "out/lib/warc.h", "zogwedu.html")
-PACKAGE = ("python", "compressed", "verdicts", "edges", "heads", "wheel")
+PACKAGE = ("python", "compressed", "verdicts", "edges", "heads", "packages", "wheel")
 CALLERS = tuple(f"tests/callers/test_{name}.py" for name in PACKAGE)
 MOST_SECONDS = 2400
 NONE_PICKED = 5  # pytest's status where no test was picked

@@ -11,4 +11,5 @@ python3 tests/callers/test_compressed.py
 python3 tests/callers/test_verdicts.py
 python3 tests/callers/test_edges.py
 python3 tests/callers/test_heads.py
+python3 tests/callers/test_packages.py
 echo "out/python has the package: PYTHONPATH=$PWD/out/python"

@@ -33,10 +33,12 @@ network fails. `Archive.open(path, mmap=False)` reads the file into memory.
 `Archive` opens, lists, checks, replays and writes; `Record` is one of its records, with `Headers` and `Http`; `Body` is
 what a replay gives; `PayloadVerdict` says how a payload compares with its digest; `make` writes a new record. `pieces`
 gives the runs of good records of a damaged file, and the damage between them, each a `Piece`; `salvage` writes all good
-records, and says by `Salvaged` what was left out. The exceptions are all a `WarcError`:
+records, and says by `Salvaged` what was left out. `Wacz` is a package, whose archives `Archive.open` opens as one, with
+a `Resource` for each file and a `Page` for each page that it lists; `entry_point` says by an `Entry` as of when a page
+is to be replayed. The exceptions are all a `WarcError`:
 
 - `Refused`: the archive is refused, F1 to F14 at an offset.
-- `CompressedError`: the file is compressed, and damaged or torn at the offset of a member.
+- `CompressedError`: the file is compressed, and damaged or torn at the offset of a member; or a package is refused.
 - `Changed`: bytes aren't what they were when the archive was opened.
 - `NoBody`: there is no body, P1 to P10. `Undecodable`: it can't be decoded.
 - `NoRecord`: there is no record at the position; it is an `IndexError`.
@@ -49,6 +51,7 @@ undoing of codings (`decoded=True`) are not.
 """
 from ._archive import Archive, Body, Finding, Fixity, PayloadVerdict, Record, UnfitBlock
 from ._heads import Headers, Http
+from ._packages import Entry, Wacz, entry_point
 from ._pieces import Piece, Salvaged, pieces, salvage
 from ._problems import (
     BadDate,
@@ -64,6 +67,7 @@ from ._problems import (
     WarcError,
     WriteFailed,
 )
+from ._wacz import Page, Resource
 from ._writing import make
 
 __all__ = [
@@ -73,6 +77,7 @@ __all__ = [
     "Changed",
     "Closed",
     "CompressedError",
+    "Entry",
     "Finding",
     "Fixity",
     "Headers",
@@ -80,16 +85,20 @@ __all__ = [
     "NoBody",
     "NoRecord",
     "NotMade",
+    "Page",
     "PayloadVerdict",
     "Piece",
     "Record",
     "Refused",
+    "Resource",
     "Salvaged",
     "Undecodable",
     "UnfitBlock",
     "ViewsAlive",
+    "Wacz",
     "WarcError",
     "WriteFailed",
+    "entry_point",
     "make",
     "pieces",
     "salvage",

@@ -1,6 +1,10 @@
 """python -m zogwedu unpack [--stored] ARCHIVE FOLDER: writes the bodies of an archive as files.
 
 python -m zogwedu salvage ARCHIVE OUT: writes all good records of an archive, compressed or not, to a new file.
+
+python -m zogwedu wacz FILE: prints the archives of a package, the verdicts on its files, and its pages.
+
+python -m zogwedu join FILE: writes what the archives of a package hold, one after another, to standard output.
 """
 import os
 import sys
@@ -8,9 +12,12 @@ from typing import BinaryIO, List, NamedTuple, Sequence, Union
 
 from . import Archive, Body, CompressedError, NoBody, Record, Refused, Undecodable, WarcError, salvage
 from ._library import CODED
+from ._packages import run
 
 USAGE = """usage: python -m zogwedu unpack [--stored] ARCHIVE FOLDER
-       python -m zogwedu salvage ARCHIVE OUT"""
+       python -m zogwedu salvage ARCHIVE OUT
+       python -m zogwedu wacz [--verdicts] FILE
+       python -m zogwedu join FILE"""
 CAPTURES = ("response", "resource", "revisit")
 COLUMNS = ("position", "file", "given", "status", "length", "coding", "type", "date", "target", "reason")
 
@@ -119,6 +126,9 @@ def save(path: str, out: str) -> int:
 
 def main(words: List[str]) -> int:
     """Runs the command, and answers the exit status: 0, 2 for an archive that is refused, 3 for anything else."""
+    status = run(words)
+    if status is not None:
+        return status
     if words[:1] == ["salvage"] and len(words) == 3:
         try:
             return save(words[1], words[2])

@@ -7,6 +7,7 @@ from typing import TYPE_CHECKING, Union, overload
 
 from ._decoding import CONTENT, DECODED_LIMIT, TRANSFER, codings_of, decode
 from ._files import Contents, Upon, path_of, read_object, read_path, refuse_same, unmap
+from ._joined import archive_at, counts_of, open_joined
 from ._heads import Headers, Http
 from ._library import CODED, MANY, TRUNCATED, Known, Lent, Opened, Spans, lib, text_of
 from ._problems import Closed, CompressedError, NoBody, Refused, Undecodable, ViewsAlive
@@ -244,7 +245,7 @@ class Archive(Records):
         self._opened: Optional[Opened] = None
         lent = Lent(buffer_of(data, "Archive(data) takes bytes, and Archive.open(path) a file"))
         try:
-            self._opened = Opened(lent, front)
+            self._opened = open_joined(lent, front, _contents.parts)
         except BaseException:
             lent.give_back()
             unmap(data)
@@ -262,10 +263,13 @@ class Archive(Records):
         those of the uncompressed bytes. Raises CompressedError if a member is damaged or torn; `front=True` opens what
         the members before it hold. The undoing isn't part of what is proved.
 
+        A package (WACZ) is opened as all archives in it, one after another in the order of their names; `source` says
+        which of them has a record. A ZIP that contradicts itself raises CompressedError. `Wacz` says what a package has
+        beside its archives.
+
         A path is mapped into memory. A read of a mapped file that fails kills the process by SIGBUS: where the file
         became shorter, and where its disk or network fails. `mmap=False` reads the file into memory instead, all of it.
         """
-        upon = Upon.END if front else Upon.RAISE
         upon = Upon.END if front else Upon.RAISE
         if hasattr(file, "read"):
             contents = read_object(file, mmap, upon)
@@ -276,8 +280,19 @@ class Archive(Records):
 
     @property
     def compressed(self) -> Optional[str]:
-        """How the file was compressed that was opened: "gzip" or "zstd"; None if it wasn't."""
+        """How the file was compressed that was opened: "gzip" or "zstd"; "wacz" for a package; None if it wasn't."""
         return self._contents.compressed
+
+    def source(self, position: int) -> Optional[str]:
+        """The name of the archive in a package that has the record at a position; None for a file that is no package.
+
+        Raises NoRecord if the position isn't that of a record.
+        """
+        return archive_at(self._contents.parts, self[position].offset)
+
+    def _counts(self) -> List[int]:
+        """How many records each archive of a package has."""
+        return counts_of(self._use(), self._contents.parts)
 
     @property
     def fault(self) -> Union[Refused, CompressedError, None]:
@@ -449,6 +464,8 @@ class Archive(Records):
         """
         if self._path is None:
             raise ValueError("only an archive that was opened by its path can grow")
+        if self._contents.parts:
+            raise ValueError("a package doesn't grow")
         with self._growing:
             opened = self._use()
             before = opened.count()

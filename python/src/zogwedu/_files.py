@@ -8,11 +8,14 @@ import stat
 import tempfile
 from typing import Any, IO, Iterator, List, NamedTuple, Optional, Tuple
 
-from ._members import GZIP, Damaged, Form, Members, Spans, pieces_of, zstd
+from ._members import GZIP, Damaged, Form, Members, Read, Spans, pieces_of, zstd
 from ._problems import CompressedError
+from ._wacz import Package, Unpacked
+from ._zip import MAGIC, BadZip, Entry, content_of, shown
 
 PIECE = 1 << 20
-MAGICS = {b"\x1f\x8b": "gzip", b"\x28\xb5\x2f\xfd": "zstd"}
+WACZ = "wacz"
+MAGICS = {b"\x1f\x8b": "gzip", b"\x28\xb5\x2f\xfd": "zstd", MAGIC: WACZ}
 MAGIC_LENGTH = 4
 ZSTD_WINDOW_LOG = 27  # as zstd -dc has it unless it is given more memory
 
@@ -36,15 +39,24 @@ class Gap(NamedTuple):
     damage: CompressedError
 
 
+class Part(NamedTuple):
+    """An archive of a package, and where its bytes are among those of all."""
+
+    name: str
+    offset: int
+    length: int
+
+
 class Contents(NamedTuple):
     """The bytes of an archive, how they were compressed, the damage before which they end, the regular file that they
-    were read from, and the damages among the members that gave them."""
+    were read from, the damages among the members that gave them, and the archives of a package that they are."""
 
     data: Any
     compressed: Optional[str] = None
     damage: Optional[CompressedError] = None
     source: Optional[Identity] = None
     gaps: Tuple[Gap, ...] = ()
+    parts: Tuple[Part, ...] = ()
 
 
 class _Mapping(mapping.mmap):
@@ -99,14 +111,16 @@ def _read_file(file: Any, map_it: bool, upon: Upon) -> Contents:
     """The bytes of a file that was just opened."""
     begin = file.read(MAGIC_LENGTH)
     kind = _kind_of(begin)
+    if kind == WACZ and stat.S_ISREG(os.fstat(file.fileno()).st_mode):
+        return _from_package(file, map_it, upon)
     if kind is not None:
-        return _decompressed(_pieces(file, begin), kind, map_it, upon)
+        return _decompressed(pieces_in(file, begin), kind, map_it, upon)
     if map_it and os.fstat(file.fileno()).st_size:
         return Contents(_mapped(file))
     if file.seekable():
         file.seek(0)
         return Contents(file.read())
-    return Contents(b"".join(_pieces(file, begin)))
+    return Contents(b"".join(pieces_in(file, begin)))
 
 
 def read_object(file: Any, map_it: bool, upon: Upon) -> Contents:
@@ -119,22 +133,22 @@ def read_object(file: Any, map_it: bool, upon: Upon) -> Contents:
 def _read_object(file: Any, map_it: bool, upon: Upon) -> Contents:
     """The bytes of a binary file object."""
     begin = b""
-    for piece in _pieces(file):
+    for piece in pieces_in(file):
         begin += piece
         if len(begin) >= MAGIC_LENGTH:
             break
     kind = _kind_of(begin)
     if kind is not None:
-        return _decompressed(_pieces(file, begin), kind, map_it, upon)
-    return Contents(b"".join(_pieces(file, begin)))
+        return _decompressed(pieces_in(file, begin), kind, map_it, upon)
+    return Contents(b"".join(pieces_in(file, begin)))
 
 
 def _kind_of(begin: bytes) -> Optional[str]:
-    """What wrote a beginning: "gzip", "zstd", or none that is known."""
+    """What wrote a beginning: "gzip", "zstd", a tool for packages, or none that is known."""
     return next((kind for magic, kind in MAGICS.items() if begin.startswith(magic)), None)
 
 
-def _pieces(file: Any, begin: bytes = b"") -> Iterator[bytes]:
+def pieces_in(file: Any, begin: bytes = b"") -> Iterator[bytes]:
     """A beginning that was read, and what a file gives after it."""
     if begin:
         yield begin
@@ -164,6 +178,9 @@ def _form_of(kind: str) -> Form:
 
 def _decompressed(source: Iterator[bytes], kind: str, map_it: bool, upon: Upon) -> Contents:
     """What a compressed stream holds, by way of a file without a name in TMPDIR, which goes with its last use."""
+    if kind == WACZ:
+        with copied(source) as copy:
+            return _from_package(copy, map_it, upon)
     form = _form_of(kind)
     with tempfile.TemporaryFile(buffering=0) as out:
         damage, gaps = None, []
@@ -173,10 +190,109 @@ def _decompressed(source: Iterator[bytes], kind: str, map_it: bool, upon: Upon) 
             damage = _decompress(Members(source, form), kind, out)
         if damage is not None and upon is not Upon.END:
             raise damage
-        if map_it and out.seek(0, os.SEEK_END):
-            return Contents(_mapped(out), kind, damage, gaps=tuple(gaps))
-        out.seek(0)
-        return Contents(out.read(), kind, damage, gaps=tuple(gaps))
+        return Contents(_bytes_of(out, map_it), kind, damage, gaps=tuple(gaps))
+
+
+def _bytes_of(out: IO[bytes], map_it: bool) -> Any:
+    """The bytes of a file that was written, mapped or read."""
+    if map_it and out.seek(0, os.SEEK_END):
+        return _mapped(out)
+    out.seek(0)
+    return out.read()
+
+
+def copied(source: Iterator[bytes]) -> IO[bytes]:
+    """A stream, in a file without a name, which may be read at any place."""
+    copy: IO[bytes] = tempfile.TemporaryFile(buffering=0)
+    try:
+        for piece in source:
+            _write(piece, copy)
+    except BaseException:
+        copy.close()
+        raise
+    return copy
+
+
+class Joined(NamedTuple):
+    """What was written of a package: where each archive is, the damages among them, and the one that they end at."""
+
+    parts: List[Part]
+    gaps: List[Gap]
+    damage: Optional[CompressedError]
+
+
+def join_package(file: Any, out: IO[bytes], upon: Upon) -> Joined:
+    """Writes what the archives of a package hold, one after another in the order of their names, to an empty file."""
+    read = functools.partial(_read_at, file)
+    try:
+        package = Package(read, os.fstat(file.fileno()).st_size)
+    except BadZip as bad:
+        raise CompressedError(f"refused zip at {bad.offset}: {bad}", bad.offset) from bad
+    joined = Joined([], [], None)
+    for entry in package.archives:
+        begin, damage = out.tell(), None
+        if upon is Upon.GO_ON:
+            joined.gaps.extend(_write_good(read, entry, out))
+        else:
+            damage = _write_archive(read, entry, out)
+        if damage is not None and upon is Upon.RAISE:
+            raise damage
+        joined.parts.append(Part(entry.name, begin, out.tell() - begin))
+        if damage is not None:
+            return joined._replace(damage=damage)
+    return joined
+
+
+def _from_package(file: Any, map_it: bool, upon: Upon) -> Contents:
+    """What the archives of a package hold, by way of a file without a name."""
+    with tempfile.TemporaryFile(buffering=0) as out:
+        joined = join_package(file, out, upon)
+        data = _bytes_of(out, map_it)
+        return Contents(data, WACZ, joined.damage, gaps=tuple(joined.gaps), parts=tuple(joined.parts))
+
+
+def _write_archive(read: Read, entry: Entry, out: IO[bytes]) -> Optional[CompressedError]:
+    """Writes what an archive of a package holds, as far as that is good, and gives what is wrong with it."""
+    begin, pieces = out.tell(), Unpacked(read, entry)
+    try:
+        for piece in pieces:
+            _write(piece, out)
+    except Damaged as damaged:
+        out.truncate(begin + pieces.whole)
+        out.seek(0, os.SEEK_END)
+        return _package_error(entry, damaged)
+    return None
+
+
+def _package_error(entry: Entry, damaged: Damaged, length: Optional[int] = None) -> CompressedError:
+    """The error for damage of an archive of a package."""
+    why = f"{shown(entry.name)}: {str(damaged.why).rpartition(': ')[2]}"
+    error = CompressedError(f"damaged wacz at {damaged.offset}: {why}", damaged.offset, length)
+    error.__cause__ = damaged.why
+    return error
+
+
+def _write_good(read: Read, entry: Entry, out: IO[bytes]) -> List[Gap]:
+    """Writes what the good members of an archive hold, or all of one that isn't compressed, and gives the damages."""
+    fault, gaps = None, []
+    with tempfile.TemporaryFile(buffering=0) as copy:
+        try:
+            for piece in content_of(read, entry):
+                _write(piece, copy)
+        except Damaged as damaged:
+            fault = damaged
+        own, size = functools.partial(_read_at, copy), copy.tell()
+        kind = _kind_of(own(MAGIC_LENGTH, 0))
+        if kind == "gzip":
+            gaps = _write_members(own, size, out, entry.begin)
+        elif kind == "zstd":
+            fault = Damaged(entry.offset, ValueError("compressed by zstd, which isn't read in a package"))
+        else:
+            for at in range(0, size, PIECE):
+                _write(own(PIECE, at), out)
+    if fault is not None and not gaps:
+        gaps.append(Gap(out.tell(), _package_error(entry, fault, entry.packed)))
+    return gaps
 
 
 def _decompress(members: Members, kind: str, out: IO[bytes]) -> Optional[CompressedError]:
@@ -195,17 +311,19 @@ def _decompress_good(source: Iterator[bytes], out: IO[bytes]) -> List[Gap]:
 
     A stream is read twice, and from any place, so it is written to a file without a name.
     """
+    with copied(source) as packed:
+        return _write_members(functools.partial(_read_at, packed), packed.tell(), out)
+
+
+def _write_members(read: Read, size: int, out: IO[bytes], begin: int = 0) -> List[Gap]:
+    """Writes what the good members of bytes hold, which begin at an offset of the file."""
     gaps = []
-    with tempfile.TemporaryFile(buffering=0) as packed:
-        for piece in source:
-            _write(piece, packed)
-        read = functools.partial(_read_at, packed)
-        for span in Spans(read, packed.tell()):
-            if span.why is not None:
-                gaps.append(Gap(out.tell(), _error("gzip", span.offset, span.why, span.length)))
-                continue
-            for piece in Members(pieces_of(read, span), GZIP):
-                _write(piece, out)
+    for span in Spans(read, size):
+        if span.why is not None:
+            gaps.append(Gap(out.tell(), _error("gzip", begin + span.offset, span.why, span.length)))
+            continue
+        for piece in Members(pieces_of(read, span), GZIP):
+            _write(piece, out)
     return gaps
 
 

@@ -192,6 +192,17 @@ def fault_of(problem: Problem, begin: int = 0) -> Optional[Refused]:
     return Refused(problem_text(problem), problem.code, problem.number) if problem.code else None
 
 
+def fault_between(lent: "Lent", begin: int, end: int) -> Optional[Refused]:
+    """Why the bytes between two offsets aren't an archive by themselves."""
+    at, problem = POINTER(), Problem()
+    if lib.warc_open(c.byref(at), (lent.address or 0) + begin, end - begin, c.byref(problem)):
+        lib.warc_close(at)
+        return None
+    if problem.code > LAST_FAULT:
+        raise error_of(problem)
+    return fault_of(problem, begin)
+
+
 class Lent:
     """Bytes at an address that stays the same until they are given back."""
 

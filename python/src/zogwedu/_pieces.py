@@ -2,10 +2,10 @@
 import os
 from contextlib import contextmanager
 from dataclasses import dataclass
-from typing import Any, Iterator, List, Optional, Sequence, Tuple, TYPE_CHECKING, Union
+from typing import Any, Iterator, List, Tuple, TYPE_CHECKING, Union
 
 from . import _library as library
-from ._files import Contents, Gap, Upon, identity_of, path_of, read_object, read_path, refuse_same, unmap
+from ._files import Contents, Upon, identity_of, path_of, read_object, read_path, refuse_same, unmap
 from ._problems import CompressedError, Refused
 from ._writing import Output, write_parts
 
@@ -52,8 +52,8 @@ def pieces(file: Union["Path", Any], *, mmap: bool = True) -> List[Piece]:
     CompressedError if a frame of zstd is damaged or torn. Raises Refused with F14 Memory if memory runs out in the
     library, and MemoryError if it runs out in Python.
     """
-    with _lent(file, mmap) as (lent, gaps):
-        return _found(lent, gaps)
+    with _lent(file, mmap) as (lent, contents):
+        return _found(lent, contents)
 
 
 def salvage(file: Union["Path", Any], out: Output, *, mmap: bool = True) -> Salvaged:
@@ -70,8 +70,8 @@ def salvage(file: Union["Path", Any], out: Output, *, mmap: bool = True) -> Salv
     and a read that fails kills the process by SIGBUS. `mmap=False` reads the file into memory first, all of it.
     """
     refuse_same(identity_of(file), out)
-    with _lent(file, mmap) as (lent, gaps):
-        found = _found(lent, gaps)
+    with _lent(file, mmap) as (lent, contents):
+        found = _found(lent, contents)
         runs = [piece for piece in found if piece.fault is None]
         write_parts(out, (lent.bytes[run.offset : run.offset + run.length] for run in runs))
     damage = [piece for piece in found if piece.fault is not None]
@@ -79,12 +79,12 @@ def salvage(file: Union["Path", Any], out: Output, *, mmap: bool = True) -> Salv
 
 
 @contextmanager
-def _lent(file: Union["Path", Any], map_it: bool) -> Iterator[Tuple[library.Lent, Sequence[Gap]]]:
-    """The bytes of a file, for as long as they are used, and the damages of the members that gave them."""
+def _lent(file: Union["Path", Any], map_it: bool) -> Iterator[Tuple[library.Lent, Contents]]:
+    """The bytes of a file, for as long as they are used, and what is known of them."""
     contents = _contents(file, map_it)
     lent = library.Lent(contents.data)
     try:
-        yield lent, contents.gaps
+        yield lent, contents._replace(data=None)
     finally:
         data = lent.owner
         lent.give_back()
@@ -98,13 +98,16 @@ def _contents(file: Union["Path", Any], map_it: bool) -> Contents:
     return read_path(path_of(file, "io.BytesIO(data)"), map_it, Upon.GO_ON)
 
 
-def _found(lent: library.Lent, gaps: Sequence[Gap]) -> List[Piece]:
-    """The pieces of bytes. What lies on both sides of a gap never belonged together, so each side is asked for."""
-    found, begin = [], 0
-    for gap in gaps:
-        found += _found_between(lent, begin, gap.at)
-        found.append(Piece(gap.at, 0, 0, gap.damage))
-        begin = gap.at
+def _found(lent: library.Lent, contents: Contents) -> List[Piece]:
+    """The pieces of bytes. What lies on both sides of a gap never belonged together, nor do two archives of a package,
+    so each side is asked for."""
+    cuts: List[Tuple[int, List[Piece]]] = [(part.offset, []) for part in contents.parts]
+    cuts += [(gap.at, [Piece(gap.at, 0, 0, gap.damage)]) for gap in contents.gaps]
+    found: List[Piece] = []
+    begin = 0
+    for at, damage in sorted(cuts, key=lambda cut: cut[0]):
+        found += _found_between(lent, begin, at) + damage
+        begin = at
     return found + _found_between(lent, begin, lent.length)
 
 

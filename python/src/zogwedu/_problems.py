@@ -28,7 +28,8 @@ class Refused(WarcError):
 
 
 class CompressedError(WarcError):
-    """The file is compressed, and damaged or torn at `offset`: that of a member, in the compressed file.
+    """The file is compressed, and damaged or torn at `offset`: that of a member, in the compressed file. Or it is a
+    package, and its ZIP contradicts itself there, or an archive in it is damaged.
 
     `length` is the number of damaged bytes, in a piece of a file; it is None where nothing was read after `offset`. Its
     cause is what zlib or the module for zstd says, or an EOFError where the file ends too early. It is raised for zstd,
