@@ -28,10 +28,13 @@ import sys
 import tempfile
 import threading
 import time
-from collections.abc import Iterator, Sequence
+from collections.abc import Iterator, Mapping, Sequence
 
 HERE = os.path.dirname(os.path.abspath(__file__))
 TOP = os.path.dirname(os.path.dirname(HERE))
+sys.path.insert(0, f"{TOP}/tests/reference")
+from packages import files_of, packed_files, wacz_of  # noqa: E402
+
 SECONDS = 120
 MOST_CALLS = 8
 TARGET = "http://a.example/x"
@@ -113,7 +116,8 @@ class Trials:
 
     def environment(self) -> dict[str, str]:
         """That of the runs: the programs are found, and temporary files have a folder of their own."""
-        return {**os.environ, "TMPDIR": self.temporary, "PATH": f"{self.bin}:{os.environ['PATH']}", "LC_ALL": "C.UTF-8"}
+        path, package = f"{self.bin}:{os.environ['PATH']}", f"{TOP}/out/python"
+        return {**os.environ, "TMPDIR": self.temporary, "PATH": path, "PYTHONPATH": package, "LC_ALL": "C.UTF-8"}
 
     def run(self, words: Sequence[str], standard: str | None = None, piped: bytes | None = None) -> Result:
         """Runs a program over a file or bytes as standard input."""
@@ -212,6 +216,65 @@ def streamed(trials: Trials) -> None:
     for command in OTHERS:
         seen = trials.run(["zwarc", "--stream", *with_archive(command, path)])
         trials.judge((seen.out, seen.status) == (b"", 3) and b"--stream is for" in seen.message, command, seen)
+
+
+def packages(trials: Trials) -> None:
+    """The archives of a package are one archive; `fixity` says what of the package isn't as it was packed."""
+    if not os.path.exists(f"{TOP}/out/python/zogwedu/libwarc.so"):
+        return
+    plain = trials.file("plain", PLAIN)
+    archives = {"b.warc": RECORDS[2], "a.warc.gz": b"".join(MEMBERS[:2])}
+    said = b"zwarc: bad archive/b.warc\nzwarc: missing archive/c.warc\n"
+    said += b"zwarc: 4 files of the package: 1 good, 1 bad, 1 missing, 1 unlisted\n"
+    files = files_of(
+        archives, b"{}", wrong=["archive/b.warc"], missing=["archive/c.warc"], unlisted=["pages/pages.jsonl"]
+    )
+    good_package = trials.file("good.wacz", wacz_of(archives))
+    for path in (good_package, trials.file("bad.wacz", packed_files(files[:-1]))):
+        for command in COMMANDS:
+            if command[0] != "fixity":
+                trials.compare(with_archive(command, path), with_archive(command, plain))
+                trials.compare(with_archive(command, "-"), with_archive(command, plain), path)
+        with open(path, "rb") as data:
+            trials.compare(("list", "-"), ("list", plain), piped=data.read())
+        seen, wanted = trials.run(["zwarc", "fixity", path]), trials.run(["warc", "fixity", plain])
+        is_bad = path != good_package
+        lines = (
+            said.replace(b"4 files", b"5 files").replace(b"1 unlisted", b"1 unlisted, 1 absent")
+            if is_bad
+            else (b"zwarc: 3 files of the package: 3 good\n")
+        )
+        is_right = (seen.out, seen.message) == (wanted.out, wanted.message + lines)
+        trials.judge(is_right and seen.status == (1 if is_bad else wanted.status), ("fixity", path), seen)
+    seen = trials.run(["zwarc", "--stream", "list", good_package])
+    trials.judge((seen.out, seen.status) == (b"", 3) and b"not for packages" in seen.message, ("--stream",), seen)
+    bad_packages(trials, archives)
+
+
+def bad_packages(trials: Trials, archives: Mapping[str, bytes]) -> None:
+    """Nothing is written of a package that isn't read or whose archives aren't whole. Without Python a line says so."""
+    whole = wacz_of(archives)
+    for data, line in (
+        (whole[:-1], b"zogwedu: refused zip at"),
+        (wacz_of({"a.warc.gz": MEMBERS[0][:-1]}), b"zogwedu: damaged wacz at"),
+        (wacz_of({"a.warc": PLAIN[:-1], "b.warc": RECORDS[0]}), b"zogwedu: archive/a.warc: F11 Truncated at"),
+    ):
+        path = trials.file("bad.wacz", data)
+        for words, standard, piped in (
+            (["list", path], None, None),
+            (["list", "-"], path, None),
+            (["list", "-"], None, data),
+        ):
+            judge_bad(trials, words, standard, piped)
+            seen = trials.run(["zwarc", *words], standard, piped)
+            trials.judge(seen.message.startswith(line), words, seen)
+    path = trials.file("torn.wacz", wacz_of({"a.warc": PLAIN[:-1]}))
+    trials.compare(["list", path], ["list", trials.file("plain", PLAIN[:-1])])
+    tool(trials, "python3", "exit 1")
+    seen = trials.run(["zwarc", "list", trials.file("good.wacz", whole)])
+    wanted = b"zwarc: a package is read by python3-zogwedu, which isn't installed\n"
+    trials.judge(seen == Result(b"", wanted, 3), ("no Python",), seen)
+    os.remove(f"{trials.bin}/python3")
 
 
 def torn_at_an_end(trials: Trials) -> None:
@@ -581,6 +644,7 @@ def crawl(trials: Trials) -> None:
 KINDS = (
     good,
     streamed,
+    packages,
     torn_at_an_end,
     bad,
     damaged,
