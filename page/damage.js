@@ -6,6 +6,8 @@ const MOST_OPEN = 10;         // damages whose lines aren't folded
 const MOST_MEANINGS = 2;      // numbers of faults whose meanings aren't folded
 const REFUSED_WHOLE = 'Nothing is repaired. The program refuses the whole archive.';
 const ORDER = 'A position counts good records, as in what `warc salvage --all` writes; an offset is one in the file.';
+const ORDER_OF_MEMBERS = 'A position counts good records, as in what is saved; an offset is one in what the good ' +
+    'members hold.';
 const OF_DAMAGED = 'the answer comes from the good records. A later capture, or a record that this one leads to, may ' +
     'have been in bytes that are damaged or missing.';
 const PLAIN_NAME = /^[A-Za-z0-9][\w.-]*$/;  // a name that a shell takes as it is
@@ -28,8 +30,8 @@ const PACKED_WORDS = {
   torn: (_, offset) => ['is torn', `The gzip member at byte ${offset} isn’t whole: the file ends before it does.`],
   damaged:
       ({why}, offset) => ['is damaged', `The gzip member at byte ${offset} can’t be decompressed: ${plainly(why)}.`],
-  other: (_, offset) =>
-      ['is damaged', `At byte ${offset}, after the last gzip member, there are bytes that gzip didn’t write.`],
+  other:
+      (_, offset) => ['is damaged', `At byte ${offset}, after a gzip member, there are bytes that gzip didn’t write.`],
   long: (_, offset) =>
       ['is too long to be decompressed here',
        `This page decompresses up to ${size(LIMIT)}. The gzip member at byte ${offset} leads beyond that.`,
@@ -46,8 +48,8 @@ function packedAdvice({kind, name}) {
   if (kind === 'zstd') return ['Decompress it first, as by ', code(`zstd -d ${packed}`), ', and open what that gives.'];
   if (kind === 'long') return ['Decompress it first, as by ', code(`gunzip ${packed}`), ', and open what that gives.'];
   if (kind === 'other') return ['Whether they belong to it can’t be told. ', code('zwarc'), ' refuses the file.'];
-  const part =
-      ' writes what can be decompressed, also of this member, whose checksum isn’t tried. Open what that gives.';
+  const part = ' writes what can be decompressed up to the damage, also of this member, whose checksum isn’t tried. ' +
+      'Open what that gives.';
   return [code(`gzip -dc ${packed} > ${to === packed ? 'a.warc' : to}`), part];
 }
 
@@ -74,18 +76,25 @@ function unreadableNodes() {
   return [make('h2', {}, `This file can’t be read: ${fault}`), why];
 }
 
+/** @param {Gap} gap */
+const gapWords = (gap) => PACKED_WORDS[gap.kind](gap, gap.offset.toLocaleString('en'));
+
 /**
- * Where a damage is, and why no record begins there.
+ * Where a damage is, and why no record begins there, or no good member.
  * @param {Damage} damage
  */
-function damageLine({place, length, fault}) {
+function damageLine({place, length, fault, gap}) {
+  if (gap) {
+    const left = `${many(gap.length, 'compressed byte')} ${gap.length === 1 ? 'is' : 'are'} left out`;
+    return [make('bdi', {}, plainly(gap.name)), `: ${gapWords(gap)[1]} `, make('b', {}, left)];
+  }
   const bytes = room.unsought ? 'All bytes' : many(length, 'byte');
   return [`${bytes} from byte ${place.toLocaleString('en')} on${placeInFile(place)}: `, make('b', {}, fault)];
 }
 
 // What the faults of all damages mean, and what to do: once for each number.
 function faultMeanings() {
-  const numbers = new Set([...room.damages.faults.values()].map(numberOf));
+  const numbers = new Set([...room.damages.faults.values()].map(numberOf).filter((it) => it));
   const words = [...numbers].map((number) => {
     const [name, meaning, advice] = inWords(number);
     return make('p', {}, make('b', {}, `${number} ${name}`), ': ', ...prose(`${meaning} ${advice}`));
@@ -120,15 +129,36 @@ function shownPart() {
     const upTo = isOfFiles() ? `up to byte ${byte} of ${plainly(name)}` : 'before the damage';
     return make('p', {}, `Its good part is shown: ${shown}, ${upTo}. ${notSought()} ${REFUSED_WHOLE}`);
   }
-  const bad = `${many(damages.length, 'byte')} of ${file.size.toLocaleString('en')}`;
-  const all = `All good records are shown: ${shown}. ${bad} ${damages.length === 1 ? 'is' : 'are'} damaged.`;
-  return make('p', {}, `${all} ${REFUSED_WHOLE} `, ...prose(ORDER));
+  const bad = `${damagedBytes(damages.length, file.size)} ${REFUSED_WHOLE}`;
+  if (!rows.count) return make('p', {}, `It has no record that is whole. ${bad}`);
+  const order = prose(room.gaps.length ? ORDER_OF_MEMBERS : ORDER);
+  return make('p', {}, `All good records are shown: ${shown}. ${bad} `, ...order);
+}
+
+/**
+ * How much of an archive is damaged, and of its compressed files.
+ * @param {number} bytes
+ * @param {number} size of the archive
+ */
+function damagedBytes(bytes, size) {
+  const packed = room.gaps.reduce((sum, gap) => sum + gap.length, 0), isOne = (bytes || packed) === 1;
+  const ofArchive = bytes ? [`${many(bytes, 'byte')} of ${size.toLocaleString('en')}`] : [];
+  const ofFiles = packed ? [many(packed, 'compressed byte')] : [];
+  return `${[...ofArchive, ...ofFiles].join(' and ')} ${isOne ? 'is' : 'are'} damaged.`;
+}
+
+// Compressed files with one damage in all: where and why, and what is shown.
+/** @param {Gap} gap */
+function gapNodes(gap) {
+  const [short, long] = gapWords(gap), title = make('h2', {}, make('bdi', {}, plainly(gap.name)), ` ${short}`);
+  return [title, make('p', {}, `${long} `, ...packedAdvice(gap)), shownPart()];
 }
 
 // A damaged archive: where and why, and what is shown.
 function faultNodes() {
-  const {fault, damages} = room, isOne = damages.count === 1;
-  const title = isOne ? fault : `${many(damages.count, 'damage')}, the first is ${fault}`;
+  const {damages} = room, isOne = damages.count === 1, {fault, gap} = damages.at(0);
+  if (isOne && gap) return gapNodes(gap);
+  const title = plainly(isOne ? fault : `${many(damages.count, 'damage')}, the first is ${fault}`);
   const where = isOne ? make('p', {}, ...damageLine(damages.at(0)), '.') : damageList();
   return [make('h2', {}, `This archive is damaged: ${title}`), shownPart(), ...faultMeanings(), where];
 }
@@ -154,7 +184,7 @@ function showDamage() {
   place.hidden = !fault && !damage;
   byId('room').classList.toggle('unreadable', !place.hidden && !end);
   if (place.hidden) return;
-  const packed = damage ? packedNodes() : [], faulty = fault && end ? faultNodes() : [];
-  const unreadable = fault && !end ? unreadableNodes() : [];
+  const isShown = end || room.gaps.length, packed = damage ? packedNodes() : [];
+  const faulty = fault && isShown ? faultNodes() : [], unreadable = fault && !isShown ? unreadableNodes() : [];
   place.replaceChildren(...packed, ...unreadable, ...faulty, end ? savingGoodRecords() : '');
 }

@@ -112,10 +112,14 @@ const DAMAGE_NUMBERS = 4;
 
 // The damages of a file, in order.
 class Damages {
-  /** @param {{damages: Float64Array, faults: Map<number, string>}} pieces */
-  constructor({damages, faults}) {
+  /**
+   * @param {{damages: Float64Array, faults: Map<number, string>}} pieces
+   * @param {Gap[]} gaps among its compressed members, which are damages of the kinds from -1 down
+   */
+  constructor({damages, faults}, gaps = []) {
     this.numbers = damages;
     this.faults = faults;
+    this.gaps = gaps;
     this.count = damages.length / DAMAGE_NUMBERS;
     this.length = 0;  // bytes
     for (let at = 1; at < damages.length; at += DAMAGE_NUMBERS) this.length += damages[at];
@@ -141,7 +145,8 @@ class Damages {
    * @returns {Damage}
    */
   at(number) {
-    const [place, length, kind, faultAt] = this.numbers.subarray(number * DAMAGE_NUMBERS);
+    const [place, length, kind, faultAt] = this.numbers.subarray(number * DAMAGE_NUMBERS), gap = this.gaps[-kind - 1];
+    if (gap) return {place, length, fault: `${gap.why} at byte ${gap.offset} of ${gap.name}`, gap};
     return {place, length, fault: this.faults.get(kind).replace(/ at \d+$/, ` at ${faultAt}`)};
   }
 

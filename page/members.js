@@ -1,10 +1,12 @@
 // Members of gzip, one after another. pako inflates them, a port of zlib that the build puts before the scripts. A
-// member ends where its checksum and its length fit, as zlib says: no magic number is looked for.
+// member ends where its checksum and its length fit, as zlib says.
 'use strict';
 
 const GZIP = 31;  // the window bits by which zlib reads gzip, and nothing else
 const {Z_FINISH, Z_OK, Z_STREAM_END, Z_BUF_ERROR} = zlib.constants;
+const GOES_ON = new Set([Z_OK, Z_BUF_ERROR]);  // how inflating ends that may go on
 const FIRST_OF_MEMBER = 0x1f;
+const SECOND_OF_MEMBER = 0x8b;
 const MAGIC = 2;  // bytes
 
 // What is wrong with compressed bytes: 'torn', 'damaged', 'other' bytes after the last member, or 'long'. The offset is
@@ -26,19 +28,21 @@ class Damaged extends Error {
 // Bytes that gzip wrote, as they come, piece by piece.
 class Members {
   /**
-   * @param {number} room bytes that are given at once
+   * @param {Uint8Array} out for the bytes that are given at once
    * @param {number} most bytes that are given in all
    * @param {(bytes: Uint8Array) => Promise<void>|void} give takes what was decompressed, whose memory is used again
+   * @param {number} from the offset of the first member
    */
-  constructor(room, most, give) {
+  constructor(out, most, give, from = 0) {
     this.most = most;
     this.give = give;
-    this.out = new Uint8Array(room);
-    this.filled = 0;  // bytes of it
-    this.given = 0;   // bytes in all, without those
-    this.whole = 0;   // bytes in all that came of whole members
-    this.read = 0;    // compressed bytes, in all
-    this.offset = 0;  // where the member begins that is being read
+    this.out = out;
+    this.filled = 0;     // bytes of it
+    this.given = 0;      // bytes in all, without those
+    this.whole = 0;      // bytes in all that came of whole members
+    this.read = from;    // up to where compressed bytes were taken
+    this.offset = from;  // where the member begins that is being read
+    this.ended = from;   // where the last whole member ends
     /** @type {ZStream|null} */
     this.stream = null;  // null: no member is being read
     this.isPadding = false;
@@ -96,8 +100,9 @@ class Members {
         throw new Damaged('long', this.offset, `more than ${this.most} bytes by the member`);
       if (state === Z_STREAM_END) {
         this.whole = this.given + this.filled;
+        this.ended = this.read + stream.next_in;
         this.stream = null;
-      } else if (state !== Z_OK && state !== Z_BUF_ERROR)
+      } else if (!GOES_ON.has(state))
         throw stream.total_in <= MAGIC ? this.other() : new Damaged('damaged', this.offset, stream.msg);
     } while (this.stream && !stream.avail_out);
     return stream.next_in;

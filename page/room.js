@@ -30,6 +30,7 @@ function emptyRoom(file, names) {
     names,
     parts: [],
     damage: null,
+    gaps: [],
     number: Date.now(),
     rows: new Rows(),
     counts: new Counts(),
@@ -182,8 +183,8 @@ const REPORTS = {
     showProgress(read / all);
   },
 
-  joined({file, parts, damage}) {
-    Object.assign(room, {file, parts, damage});
+  joined({file, parts, damage, gaps}) {
+    Object.assign(room, {file, parts, damage, gaps});
     byId('room').classList.toggle('of-files', isOfFiles());
     showFiles();
   },
@@ -202,7 +203,7 @@ const REPORTS = {
   },
 
   listed({fault, pieces, end, holds}) {
-    const known = {runs: new Runs(pieces.runs), damages: new Damages(pieces), unsought: pieces.why};
+    const known = {runs: new Runs(pieces.runs), damages: new Damages(pieces, room.gaps), unsought: pieces.why};
     Object.assign(room, known, {fault, end, holds, listed: true, listedIn: performance.now() - room.began});
     showDamage();
     const looks = holds && Boolean(end || !(fault || room.damage)), words = looks ? ' Looking for findings…' : '';

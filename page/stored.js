@@ -110,7 +110,7 @@ async function gunzip(bytes, most) {
     if (error instanceof RangeError) throw error;
   }
   /** @type {Uint8Array[]} */
-  const parts = [], members = new Members(GIVEN_AT_ONCE, most, (part) => void parts.push(part.slice()));
+  const parts = [], members = new Members(new Uint8Array(GIVEN_AT_ONCE), most, (part) => void parts.push(part.slice()));
   try {
     await members.take(bytes);
     await members.end();

@@ -17,6 +17,7 @@ interface ZStream {
   next_in: number;
   avail_in: number;
   total_in: number;
+  total_out: number;
   output: Uint8Array | null;
   next_out: number;
   avail_out: number;
@@ -26,6 +27,7 @@ declare var ZStream: { new (): ZStream };
 declare const zlib: {
   constants: Record<"Z_FINISH" | "Z_OK" | "Z_STREAM_END" | "Z_BUF_ERROR", number>;
   inflateInit2(stream: ZStream, bits: number): number;
+  inflateReset(stream: ZStream): number;
   inflate(stream: ZStream, flush: number): number;
 };
 
@@ -51,6 +53,9 @@ type Piece = { first: number; base: number; count: number; view: DataView; words
 type Part = { name: string; size: number; start: number; isPacked: boolean };
 // Why a compressed file isn't read further than it is: the number is the offset of a member, or of what isn't one.
 type PackedDamage = { kind: string; name: string; offset: number; why: string };
+// What is left out of a compressed file, as it is no good member: its length in the file, and where in the archive the
+// bytes of the members before it end, and those of the members after it begin.
+type Gap = PackedDamage & { length: number; place: number };
 // Some bytes of the archive.
 type ByteRange = { from: number; to: number };
 // What of a file is good: the places where each run begins and ends. The damages between them, four numbers each:
@@ -63,7 +68,7 @@ type Pieces = {
   records: number;
   why?: string;
 };
-type Damage = { place: number; length: number; fault: string };
+type Damage = { place: number; length: number; fault: string; gap?: Gap };
 type Finding = { position: number | null; number: string; field: string };
 type Capture = { position: number; time: number; date: string; kind: string };
 type Target = { uri: string; place: string };
@@ -179,6 +184,7 @@ interface RoomOfFile {
   names: string[];
   parts: Part[];
   damage: PackedDamage | null;
+  gaps: Gap[];
   number: number;
   rows: Rows;
   counts: Counts;

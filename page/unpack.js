@@ -6,12 +6,14 @@
 const PACKED_PIECE = 4 * MEGABYTE;
 const UNPACKED_PIECE = 16 * MEGABYTE;
 const FIRST_BYTES = 4;
+const MOST_GAPS = 1000;  // damages of members after which the next one ends the reading
+const PASSED_OVER = new Set(['torn', 'damaged', 'other']);  // what reading goes on after
 const NO_ROOM = 'the browser has no room for what was decompressed';
 
 // What compressed a file, by its first bytes as `zwarc` reports it: gzip, zstd, or nothing.
 /** @type {(first: Uint8Array) => string} */
 function packingOf(first) {
-  if (first[0] === 0x1f && first[1] === 0x8b) return 'gzip';
+  if (first[0] === FIRST_OF_MEMBER && first[1] === SECOND_OF_MEMBER) return 'gzip';
   return [0x28, 0xb5, 0x2f, 0xfd].every((byte, number) => first[number] === byte) ? 'zstd' : '';
 }
 
@@ -32,15 +34,18 @@ class Joining {
     this.read = 0;      // bytes of the files, in all
     this.unpacked = 0;  // bytes that were decompressed, in all
     this.length = 0;    // bytes of the joined archive
+    this.out = new Uint8Array();
     /** @type {Blob[]} */
     this.pieces = [];
     /** @type {Part[]} */
     this.parts = [];
+    /** @type {Gap[]} */
+    this.gaps = [];
     /** @type {PackedDamage|null} */
-    this.damage = null;
+    this.damage = null;  // after which nothing is read
   }
 
-  // Joins all files, or those up to the first one that is damaged or can't be decompressed here. Returns the archive.
+  // Joins all files, or those up to the first one that can't be decompressed to its end here. Returns the archive.
   async join() {
     for (const file of this.files) {
       const packing = packingOf(await bytesOfFile(file, 0, Math.min(FIRST_BYTES, file.size)));
@@ -62,39 +67,62 @@ class Joining {
     this.length += piece.size;
   }
 
-  // Adds what a file decompresses to, up to its last whole member.
+  // Adds what the good members of a file decompress to, with a gap for what isn't one.
   /** @type {(file: File) => Promise<void>} */
   async unpack(file) {
+    const tell = (/** @type {number} */ at) => this.report(file, at, 0);
+    const search = new Search(file, this.limit, this.isOver, tell);
+    if (!this.out.length) this.out = new Uint8Array(UNPACKED_PIECE);
+    for (let from = 0; from < file.size && !this.damage;) {
+      const found = await this.unpackFrom(file, from);
+      if (!found || this.isOver()) break;
+      if (!PASSED_OVER.has(found.kind) || this.gaps.length === MOST_GAPS)
+        this.damage = found;
+      else {
+        from = await search.next(found.offset + 1);
+        const kind = found.kind === 'torn' && from < file.size ? 'damaged' : found.kind;
+        this.gaps.push({...found, kind, place: this.length, length: from - found.offset});
+      }
+    }
+    this.read += file.size;
+  }
+
+  // Adds what the members of a file decompress to from an offset on, up to the last whole one before a damage, which is
+  // returned.
+  /** @type {(file: File, from: number) => Promise<PackedDamage|null>} */
+  async unpackFrom(file, from) {
     /** @type {Blob[]} */
     const pieces = [];
-    const members = new Members(UNPACKED_PIECE, this.limit - this.unpacked, async (bytes) => {
+    const members = new Members(this.out, this.limit - this.unpacked, async (bytes) => {
       pieces.push(await kept(bytes));
-      this.report(file, members);
-    });
+      this.report(file, members.read, members.given + members.filled);
+    }, from);
+    let damage = null;
     try {
       await this.feed(file, members);
     } catch (error) {
       if (!(error instanceof Damaged)) throw error;
-      this.damage = {kind: error.kind, name: file.name, offset: error.offset, why: error.why};
+      damage = {kind: error.kind, name: file.name, offset: members.ended, why: error.why};
       await members.flush();
     }
     this.add(new Blob(pieces).slice(0, members.whole));
-    this.read += file.size;
     this.unpacked += members.whole;
+    return damage;
   }
 
   /** @type {(file: File, members: Members) => Promise<void>} */
   async feed(file, members) {
-    for (let at = 0; at < file.size && !this.isOver(); at += PACKED_PIECE) {
+    for (let at = members.read; at < file.size && !this.isOver(); at = members.read) {
       await members.take(await bytesOfFile(file, at, Math.min(file.size, at + PACKED_PIECE)));
-      this.report(file, members);
+      this.report(file, members.read, members.given + members.filled);
     }
     if (!this.isOver()) await members.end();
   }
 
-  /** @type {(file: File, members: Members) => void} */
-  report({name}, {read, given, filled}) {
-    this.tell({name, read: this.read + read, size: this.size, unpacked: this.unpacked + given + filled});
+  // Reports how much of a file is read, and what was decompressed since the last good members.
+  /** @type {(file: File, at: number, given: number) => void} */
+  report({name}, at, given) {
+    this.tell({name, read: this.read + at, size: this.size, unpacked: this.unpacked + given});
   }
 }
 

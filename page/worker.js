@@ -24,6 +24,7 @@ const MEMORY = 2;
 const PIECE_BYTES = 40;
 const KIND_OF_FAULT = 24;
 const ROOM_OF_PIECES = 4096;     // for how many pieces there is room at first
+const PIECES_HEAP = MEGABYTE;    // bytes of memory that looking for pieces is given at first
 const NOWHERE = 2n ** 64n - 1n;  // a position that isn't known
 const SPENT = 1024 * MEGABYTE;   // what the calls of a module are given before it is started anew
 const MOST_HEAP = 8192 * MEGABYTE;
@@ -31,10 +32,10 @@ const HELPERS = typeof Worker === 'function' ? Math.min(4, navigator.hardwareCon
 const LEAST_SHARED = 32 * MEGABYTE;  // bytes: a shorter file is listed by this worker alone
 const IS_LARGE = /** @type {any} */ (navigator).deviceMemory >= 8;
 const MOST_TWICE = IS_LARGE ? Infinity : 1024 * MEGABYTE;  // bytes: of a longer file there is no second copy in memory
-const BEGINNING = '\r\n\r\nWARC/1.';  // what a record's beginning looks like, after the end of the record before it
-const SMALL = 4096;                   // bytes of memory that a question, or a verdict, is given
-const MOST_OF_HEAD = 16 * MEGABYTE;   // bytes of memory that reading a head needs at most
-const MOST_JUDGING = 64 * MEGABYTE;   // what verdicts are given until their module is started anew
+const BEGINNING = `\r\n\r\n${RECORD}1.`;  // what a record's beginning looks like, after the end of the record before it
+const SMALL = 4096;                       // bytes of memory that a question, or a verdict, is given
+const MOST_OF_HEAD = 16 * MEGABYTE;       // bytes of memory that reading a head needs at most
+const MOST_JUDGING = 64 * MEGABYTE;       // what verdicts are given until their module is started anew
 const NO_VERDICT = 3;
 const LEAST_PAGES = 16;       // by which a memory grows at least
 const SPARE = 64 * MEGABYTE;  // what questions may use of an open archive's memory, until it is opened anew
@@ -42,6 +43,7 @@ const SPANS = 64;             // for how many parts of a body there is room at f
 const PATIENCE = 60000;       // milliseconds after which a helper counts as lost
 const SLOWEST = 10000;        // bytes that a helper looks through in a millisecond at least
 const TOO_LONG = 'the file is longer than what this page keeps in memory';
+const BAD_MEMBER = 'A member of gzip is damaged';
 
 /** @type {(number: number, to: number) => number} */
 const round = (number, to) => Math.ceil(number / to) * to;
@@ -194,22 +196,23 @@ class Keeper extends Instance {
     this.isOpen = true;
   }
 
-  // The pieces of the file: runs of good records, and damages.
-  /** @type {(length: number) => Pieces} */
-  pieces(length) {
+  // The pieces of the file between two offsets: runs of good records, and damages.
+  /** @type {(start: number, stop: number) => Pieces} */
+  pieces(start, stop) {
+    if (start === stop) return this.piecesAt(0, 0, start);
     for (let count = ROOM_OF_PIECES;;) {
       const places = this.lend('pieces', count * PIECE_BYTES);
-      const parts = [this.file, length, places, count, this.reason, TEXT, this.outcome];
-      if (this.call('page_pieces', 4 * MEGABYTE, parts, this.outcome) !== DONE) throw new Error(this.reasonText);
+      const parts = [this.file + start, stop - start, places, count, this.reason, TEXT, this.outcome];
+      if (this.call('page_pieces', PIECES_HEAP, parts, this.outcome) !== DONE) throw new Error(this.reasonText);
       const found = this.number(this.outcome + 8);
-      if (found <= count) return this.piecesAt(places, found);
+      if (found <= count) return this.piecesAt(places, found, start);
       count = found;
     }
   }
 
   // The same as they are in the memory, with the text of one fault of each kind.
-  /** @type {(places: number, count: number) => Pieces} */
-  piecesAt(places, count) {
+  /** @type {(places: number, count: number, start: number) => Pieces} */
+  piecesAt(places, count, start) {
     const view = new DataView(this.memory.buffer, places, count * PIECE_BYTES);
     const runs = new Float64Array(2 * count), damages = new Float64Array(4 * count);
     /** @type {Map<number, number>} */
@@ -220,11 +223,11 @@ class Keeper extends Instance {
           [0, 8, 16, KIND_OF_FAULT, KIND_OF_FAULT + 8].map((place) => Number(view.getBigUint64(at + place, true)));
       records += held;
       if (held) {
-        runs.set([offset, offset + length], ofRuns);
+        runs.set([start + offset, start + offset + length], ofRuns);
         ofRuns += 2;
         continue;
       }
-      damages.set([offset, length, kind, faultAt], ofDamages);
+      damages.set([start + offset, length, kind, start + faultAt], ofDamages);
       ofDamages += 4;
       if (!firsts.has(kind)) firsts.set(kind, places + at + KIND_OF_FAULT);
     }
@@ -530,8 +533,9 @@ class Archive {
     this.desk = desk;
     this.files = files;
     /** @type {Blob} */
-    this.file = new Blob();   // what they are, once they are joined
-    this.runs = Runs.one(0);  // which parts of it are the archive, as far as that is known
+    this.file = new Blob();              // what they are, once they are joined
+    this.sides = Float64Array.of(0, 0);  // where it begins, where each gap is, and where it ends
+    this.runs = Runs.one(0);             // which parts of it are the archive, as far as that is known
     this.number = number;
     this.state = 'listing';
     /** @type {Keeper|null} */
@@ -629,9 +633,10 @@ class Archive {
     const tell = (/** @type {object} */ progress) => this.tell({report: 'unpacking', ...progress});
     const joining = new Joining(this.files, this.desk.limit, () => this.isOver, tell);
     this.file = await joining.join();
-    this.runs = Runs.one(this.file.size);
-    const {parts, damage} = joining;
-    this.tell({report: 'joined', file: this.file, parts, damage});
+    const {parts, damage, gaps} = joining;
+    this.sides = Float64Array.of(0, ...gaps.map((gap) => gap.place), this.file.size);
+    this.runs = Runs.one(this.sides[1]);
+    this.tell({report: 'joined', file: this.file, parts, damage, gaps});
     return !damage;
   }
 
@@ -654,26 +659,26 @@ class Archive {
   // Finds the pieces of the file, by a helper if it can be: a file may be made so that this takes long.
   /** @type {() => Promise<Pieces>} */
   async findPieces() {
-    const {size} = this, whole = {...this.part, end: size};
+    const {file, sides} = this, {size} = file, whole = {file, runs: Float64Array.of(0, size), end: size, sides};
     if (HELPERS >= 2 && size <= MOST_TWICE)
       return (await this.helpers.ask({seek: whole}, [], PATIENCE + size / SLOWEST)).pieces;
     this.keeper = null;  // its memory is given back first
     this.keeper = await filled(this.desk.module, whole);
-    return this.keeper.pieces(size);
+    return piecesBetween(this.keeper, sides);
   }
 
   // Looks for good records after the first damage, and lists them. Returns the pieces of the file; if they can't be
   // found, the front and one damage, and why.
   /** @type {(fault: string) => Promise<Pieces|null>} */
   async listRest(fault) {
-    const {size} = this;
-    if (size > this.desk.limit) return this.frontAlone(fault, TOO_LONG);
+    const {runs} = this;
+    if (this.file.size > this.desk.limit) return this.frontAlone(fault, TOO_LONG);
     this.tell({report: 'seeking', fault});
     try {
       const pieces = await this.findPieces();
       return this.isOver || !await this.listRuns(pieces) ? null : pieces;
     } catch (error) {
-      if (this.size !== size) throw error;
+      if (this.runs !== runs) throw error;
       return this.frontAlone(fault, whyOf(error));
     }
   }
@@ -681,7 +686,7 @@ class Archive {
   // Lists the records of the runs that aren't listed. Returns whether they are still wanted.
   /** @type {(pieces: Pieces) => Promise<boolean>} */
   async listRuns(pieces) {
-    const runs = new Runs(pieces.runs), front = runs.ends[0] === 0 ? runs.ends[1] : 0;
+    const runs = new Runs(pieces.runs), front = this.sides[1] && runs.ends[0] === 0 ? runs.ends[1] : 0;
     this.helpers.stop();  // their memory is given back
     this.helpers = this.newHelpers();
     if (front !== this.end) throw new Error(CHANGED);
@@ -698,8 +703,8 @@ class Archive {
   // A file whose pieces aren't known: the front, and damage.
   /** @type {(fault: string, why: string) => Pieces} */
   frontAlone(fault, why) {
-    const {end, size} = this, place = Number(/ at (\d+)$/.exec(fault)?.[1] ?? end);
-    const damages = fault ? Float64Array.of(end, size - end, 0, place) : new Float64Array();
+    const {end, file} = this, place = Number(/ at (\d+)$/.exec(fault)?.[1] ?? end);
+    const damages = fault ? Float64Array.of(end, file.size - end, 0, place) : new Float64Array();
     return {runs: Float64Array.of(0, end), damages, faults: new Map([[0, fault]]), records: this.records, why};
   }
 
@@ -830,8 +835,9 @@ class Archive {
   async open() {
     const isWhole = !this.isOver && await this.join();
     if (this.isOver) return;
-    const fault = await (this.size <= this.desk.limit ? this.listKept() : this.listPieces());
-    if (this.isOver || fault === null) return;
+    const found = await (this.size <= this.desk.limit ? this.listKept() : this.listPieces());
+    if (this.isOver || found === null) return;
+    const fault = found || (this.sides.length > 2 ? BAD_MEMBER : '');
     const pieces = await (fault ? this.listRest(fault) : this.frontAlone('', ''));
     if (this.isOver || !pieces) return;
     this.state = 'listed';
@@ -854,6 +860,30 @@ async function filled(module, {file, runs: ends, end}) {
     keeper.bytes(keeper.file + at, bytes.length).set(bytes);
   }
   return keeper;
+}
+
+// The pieces of a file, which are looked for between its gaps alone, so that no record has bytes of both sides of one.
+// Each gap is a damage without a length, of a kind that counts from -1 down.
+/** @type {(keeper: Keeper, sides: Float64Array) => Pieces} */
+function piecesBetween(keeper, sides) {
+  const found = Array.from({length: sides.length - 1}, (_, side) => keeper.pieces(sides[side], sides[side + 1]));
+  const gaps = found.map((_, side) => Float64Array.from(side ? [sides[side], 0, -side, 0] : []));
+  return {
+    runs: joinedNumbers(found.map((it) => it.runs)),
+    damages: joinedNumbers(found.flatMap((it, side) => [gaps[side], it.damages])),
+    faults: new Map(found.flatMap((it) => [...it.faults])),
+    records: found.reduce((sum, it) => sum + it.records, 0),
+  };
+}
+
+/** @type {(parts: Float64Array[]) => Float64Array} */
+function joinedNumbers(parts) {
+  const all = new Float64Array(parts.reduce((sum, part) => sum + part.length, 0));
+  parts.reduce((at, part) => {
+    all.set(part, at);
+    return at + part.length;
+  }, 0);
+  return all;
 }
 
 // Where the page's messages arrive: it opens one archive after another, and asks questions on the last.
@@ -927,7 +957,7 @@ class HelperDesk {
       const verdicts = await this.judge.judge(judge);
       postMessage({verdicts}, [verdicts.buffer]);
     } else if (seek)
-      postMessage({pieces: (await filled(this.module, seek)).pieces(seek.end)});
+      postMessage({pieces: piecesBetween(await filled(this.module, seek), seek.sides)});
     else {
       const lines = (await filled(this.module, find)).findings(find.end, find.heap, find.records);
       postMessage({lines}, [lines.buffer]);

@@ -52,7 +52,7 @@ NAMED: dict[str, dict[str, str]] = {
     "page/record.js": {"WARC-Block-Digest": BY_NAME},
     "page/style.js": {r"\r\n?|\f": "line ends of a style, as browsers read them"},
     "page/worker.js": {
-        r"\r\n\r\nWARC/1.": "a guess where a record begins, to divide a file; the library says whether one does"
+        r"\r\n\r\n${RECORD}1.": "a guess where a record begins, to divide a file; the library says whether one does"
     },
     "python/src/zogwedu/__main__.py": {"WARC-Segment-Number": BY_NAME},
     "python/src/zogwedu/_archive.py": {"WARC-Segment-Number": BY_NAME},

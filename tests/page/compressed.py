@@ -31,7 +31,7 @@ SMALL_LIMIT = {"const LIMIT = 2 * 1024 ** 3;": "const LIMIT = 2000000;"}
 TRIES = """async (text) => {
   const whole = Uint8Array.from(atob(text), (it) => it.charCodeAt(0));
   const outcome = async (bytes) => {
-    const parts = [], members = new Members(50, 1e6, (part) => void parts.push(...part));
+    const parts = [], members = new Members(new Uint8Array(50), 1e6, (part) => void parts.push(...part));
     let damage = null;
     try {
       for (let at = 0; at < bytes.length; at += 7) await members.take(bytes.subarray(at, at + 7));
@@ -50,6 +50,13 @@ TRIES = """async (text) => {
   return [cuts, changes];
 }"""
 HOSTILE = ("<img src=x onerror='window.hacked=1'>.warc.gz", "$(touch hacked).warc.gz", "gnp\u202eexe.warc.gz")
+DAMAGES = """Array.from({length: room.damages.count}, (_, number) => {
+  const {place, length, fault, gap} = room.damages.at(number);
+  return [place, length, gap ? 'gap' : fault.split(' ')[0]];
+})"""
+SAVED = """bytesOfRanges(room.file, room.runs.ranges(0, room.runs.length)).then(
+  (bytes) => btoa(String.fromCharCode(...bytes)))"""
+NOT_KEPT = (b"Content-Length", b"WARC-Block")
 Same = Callable[..., None]
 
 
@@ -118,31 +125,74 @@ def whole_ones(tests: Any, folder: str, records: list[bytes], same: Same) -> Non
 
 
 def damaged_ones(tests: Any, folder: str, records: list[bytes], same: Same) -> None:
-    """Compressed archives that are damaged: the page says where, and shows the records before it."""
+    """Compressed archives with a damaged member, or with other bytes: the page says where, and shows the records of all
+    good members."""
     members = [gzip.compress(record) for record in records]
     ends = [sum(map(len, members[:number])) for number in range(len(members) + 1)]
     packed, at = b"".join(members), ends[5] + 40
     changed = packed[:at] + bytes([packed[at] ^ 255]) + packed[at + 1 :]
-    cases: dict[str, tuple[bytes, int, str, int]] = {
-        "torn": (packed[:at], 5, "is torn", ends[5]),
-        "torn-in-its-sum": (packed[: ends[6] - 1], 5, "is torn", ends[5]),
-        "changed": (changed, 5, "be decompressed", ends[5]),
-        "other": (packed + b"more", len(records), "that gzip didn\u2019t write", len(packed)),
-        "other-byte": (packed + b"x", len(records), "that gzip didn\u2019t write", len(packed)),
-        "other-after-zeros": (packed + bytes(9) + packed, len(records), "didn\u2019t write", len(packed) + 9),
+    without, front = [*records[:5], *records[6:]], packed[: ends[5]]
+    cases: dict[str, tuple[bytes, list[bytes], str, int, int]] = {
+        "torn": (packed[:at], records[:5], "is torn", ends[5], 40),
+        "torn-in-its-sum": (packed[: ends[6] - 1], records[:5], "is torn", ends[5], len(members[5]) - 1),
+        "changed": (changed, without, "be decompressed", ends[5], len(members[5])),
+        "first": (b"\x1f\x8b\x07" + packed[3:], records[1:], "is damaged", 0, len(members[0])),
+        "other": (packed + b"more", records, "that gzip didn\u2019t write", len(packed), 4),
+        "other-byte": (packed + b"x", records, "that gzip didn\u2019t write", len(packed), 1),
+        "other-between": (front + b"more" + packed[ends[5] :], records, "didn\u2019t write", ends[5], 4),
+        "other-after-zeros": (packed + bytes(9) + packed, records * 2, "didn\u2019t write", len(packed), 9),
     }
-    for name, (data, count, words, offset) in cases.items():
+    for name, (data, good, words, offset, length) in cases.items():
         given = save(folder, f"{name}.warc.gz", data)
-        same(tests, f"compressed, {name}", save(folder, "front.warc", b"".join(records[:count])), [given])
+        same(tests, f"compressed, {name}", save(folder, "good.warc", b"".join(good)), [given])
         browser = tests.opened(given)
-        said = browser.run(SAID)
-        tests.holds(
-            all(it in said for it in (words, f"byte {offset:,}", f"{count} records", f"{name}.warc.gz")),
-            f"compressed, {name}: says where",
-            said,
-        )
+        said, left = browser.run(SAID), f"{length:,} compressed byte"
+        wanted = (words, f"byte {offset:,}", left, f"{len(good)} records", f"{name}.warc.gz")
+        tests.holds(all(it in said for it in wanted), f"compressed, {name}: says where", said)
+        tests.holds(browser.run("room.damages.count") == 1, f"compressed, {name}: one damage")
         tests.picture(browser, f"compressed-{name}")
         browser.close()
+
+
+def on_both_sides(tests: Any, folder: str, records: list[bytes]) -> None:
+    """A record that is cut by a damage isn't closed by the bytes after it, even if they fit. Each damage is a line, and
+    a mark on the strip; what is saved is the good records."""
+    lines = [it for it in records[0].split(b"\r\n\r\n")[0].split(b"\r\n") if not it.startswith(NOT_KEPT)]
+    torn = b"\r\n".join([*lines, b"Content-Length: %d" % (len(records[1]) - 4), b"", b""])
+    good, middle = records[1:3], gzip.compress(records[3])
+    parts = [torn, b"x", *good, middle[:-9], records[4]]
+    data = b"".join(it if it in (b"x", parts[4]) else gzip.compress(it) for it in parts)
+    whole = save(folder, "whole.warc", torn + b"".join(records[1:]))
+    tests.holds(tests.warc("list", whole)[2] == 0, "compressed, both sides: without the damage it would be closed")
+    browser = tests.opened(save(folder, "sides.warc.gz", data))
+    try:
+        damages = browser.run(DAMAGES)
+        place, after = len(torn), len(torn + b"".join(good))
+        wanted = [[0, place, "F11"], [place, 0, "gap"], [after, 0, "gap"]]
+        tests.holds(damages == wanted, "compressed, both sides: damages", damages)
+        offsets = browser.run("Array.from({length: room.rows.count}, (_, it) => room.rows.row(it).offset)")
+        tests.holds(offsets == [place, place + len(good[0]), after], "compressed, both sides: records", offsets)
+        said = browser.run(SAID)
+        wanted_words = ("3 damages", "1 compressed byte is left out", "sides.warc.gz: At byte", "3 records")
+        tests.holds(all(it in said for it in wanted_words), "compressed, both sides: says where", said)
+        saved = browser.run(SAVED)
+        tests.holds(base64.b64decode(saved) == b"".join([*good, records[4]]), "compressed, both sides: what is saved")
+        browser.run("clickStrip({offsetX: byId('strip').clientWidth}); 0")
+        browser.run(f"clickStrip({{offsetX: {after} / room.file.size * byId('strip').clientWidth}}); 0")
+        words = browser.run("byId('status').textContent")
+        tests.holds("Damage 3 of 3: sides.warc.gz" in words, "compressed, both sides: a mark on the strip", words)
+        tests.picture(browser, "compressed-sides")
+    finally:
+        browser.close()
+
+
+def a_megabyte_of_heads(tests: Any, folder: str, records: list[bytes]) -> None:
+    """Each of them may begin a member, and none does. The good members around them are there."""
+    front, end = gzip.compress(records[0]), gzip.compress(records[1])
+    browser = tests.opened(save(folder, "heads.warc.gz", front + b"\x1f\x8b\x08" * 350_000 + end))
+    found = browser.run("[room.rows.count, room.gaps[0].length, room.isStopped]")
+    tests.holds(found == [2, 1_050_000, False], "compressed, a megabyte of heads", found)
+    browser.close()
 
 
 def without_records(tests: Any, folder: str, records: list[bytes]) -> None:
@@ -150,7 +200,7 @@ def without_records(tests: Any, folder: str, records: list[bytes]) -> None:
     plain = b"".join(records)
     cases = {
         "torn-whole.warc.gz": (gzip.compress(plain, 9)[:-500], "gzip -dc torn-whole.warc.gz > torn-whole.warc"),
-        "packed.warc.gz": (b"\x1f\x8b\x08\0" + b"x" * 100, "No record comes before it"),
+        "packed.warc.gz": (b"\x1f\x8b\x08\0" + b"x" * 100, "It has no record that is whole"),
         "two-bytes.warc.gz": (b"\x1f\x8b", "isn\u2019t whole"),
         "a.warc.zst": (ZSTD + bytes(50), "zstd -d a.warc.zst"),
     }
@@ -216,10 +266,11 @@ def several(tests: Any, folder: str, records: list[bytes], same: Same) -> None:
     browser = tests.opened(*paths)
     said = browser.run(SAID)
     tests.holds(
-        all(it in said for it in ("bb.warc.gz is torn", "5 records", "3 files after it aren\u2019t opened")),
-        "files: a torn one",
+        "bb.warc.gz is torn" in said and f"{len(records)} records" in said,
+        "files: a torn one, and those after it",
         said,
     )
+    tests.holds(browser.run(FILES) == wanted, "files: which one a record is from, after a torn one")
     browser.close()
     torn = [paths[0], save(folder, "b2.warc", records[4][:-10]), paths[4]]
     browser = tests.opened(*torn)
@@ -303,6 +354,8 @@ def compressed(tests: Any, folder: str, same: Same) -> None:
     each_byte(tests, records)
     whole_ones(tests, folder, records, same)
     damaged_ones(tests, folder, records, same)
+    on_both_sides(tests, folder, records)
+    a_megabyte_of_heads(tests, folder, records)
     without_records(tests, folder, records)
     beyond_limits(tests, folder, records)
     several(tests, folder, records, same)
