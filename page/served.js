@@ -6,8 +6,9 @@ const FIRST_REASON = /^(?:chosen .* )?([PE]\d+ [A-Z]\w*.*)$/m;
 const IN_PATH = /[A-Za-z0-9._~-]/;
 const LATER = '9999';  // how a view writes a moment after all captures
 const LATEST = '99991231235959';
-const DIGITS = 23;        // of an instant with nanoseconds
-const LIST_LIMIT = 5000;  // captures that are shown as points
+const DIGITS = 23;          // of an instant with nanoseconds
+const LIST_LIMIT = 5000;    // captures that are shown as points
+const FIRST_PAGES = '0-0';  // where the pages of packages begin
 
 /** @type {{visit: number, asked: number, urls: string[]}} */
 const served = {
@@ -426,6 +427,49 @@ async function showFound(front) {
       make('div', {className: 'panel'}, make('ul', {className: 'plain-list found'}, ...lines)));
 }
 
+/**
+ * A page that a package lists, as a place to begin: as of its own time, or of its first capture if that is later.
+ * @param {ServedPage} page
+ */
+function pageLine({path, title, instant, later}) {
+  const target = targetIn(path), link = roomLink(target, instant ?? LATEST, title ? plainly(title) : seen(target));
+  const when = later ? `first captured later, at ${dateOf(later)}` : instant ? dateIn(instant) : 'the latest capture';
+  const about = make('span', {className: 'small'}, ' ', make('bdi', {}, seen(target)), `, ${when}`);
+  return make('li', {}, make('bdi', {}, link), about);
+}
+
+/**
+ * The pages of packages after a place among them, as lines, and where the next ones are.
+ * @param {string} place
+ */
+async function pagesFrom(place) {
+  const reply = await fetch(`${TOP}/room/pages/${place}`, {redirect: 'error'});
+  if (!reply.ok) return {lines: [], next: ''};
+  const {found, next} = await reply.json();
+  return {lines: found.map(pageLine), next};
+}
+
+// Shows the pages that packages list, before a reader asks for one. Pages that a reader may not see aren't among them.
+async function showPages() {
+  const visit = served.visit += 1, list = make('ul', {className: 'plain-list found'});
+  const more = button('button quiet', () => add(), {}, 'More pages');
+  let place = FIRST_PAGES;
+  async function add() {
+    const {lines, next} = await pagesFrom(place);
+    if (visit !== served.visit) return;
+    list.append(...lines);
+    place = next;
+    more.hidden = !next;
+  }
+  byId('record').hidden = true;
+  await add();
+  if (visit !== served.visit || (!list.childNodes.length && more.hidden)) return;
+  const about = make('div', {className: 'sub'}, SCRIPTED);
+  show(
+      make('header', {}, make('h2', {}, 'Pages of packages'), about),
+      make('div', {className: 'panel'}, list, make('div', {className: 'actions'}, more)));
+}
+
 // ---------------------------------------------------------------- beginning
 
 /** @param {any} error */
@@ -440,7 +484,7 @@ async function follow() {
     else if (hash.startsWith('?') && hash.length > 1)
       await showFound(targetIn(hash.slice(1)));
     else
-      byId('record').hidden = true;
+      await showPages();
   } catch (error) {
     byId('status').textContent = noReply(error);
   }

@@ -131,6 +131,14 @@ interface ServedAnswer extends Omit<Answer, "chosen" | "given"> {
   location?: string | null;
   stored?: Uint8Array;
 }
+// A page that a package lists, and as of when it is shown, if it has a time; `later` is the date of its first capture,
+// where that is later than its own time.
+interface ServedPage {
+  path: string;
+  title: string | null;
+  instant: string | null;
+  later: string | null;
+}
 // Captures of a URI in order; whether there are more after them.
 type ServedCaptures = { list: ServedCapture[]; isCut: boolean };
 interface ServedCapture {

@@ -8,6 +8,10 @@ const numberOf = (report) => /^[A-Z]\d+/.exec(report)?.[0] ?? '';
 const DATE_FORMS = 'A date is written YYYY, YYYY-MM, YYYY-MM-DD, YYYY-MM-DDThh:mmZ, YYYY-MM-DDThh:mm:ssZ or ' +
     'YYYY-MM-DDThh:mm:ss.fZ, in UTC.';
 
+// What is said of packages: browser-based crawlers write them, often of sites that need scripts.
+const SCRIPTED =
+    'Pages that are built by scripts show blank here, since nothing that is archived runs. That is no damage.';
+
 const ANOTHER = 'Choose another capture of this URI.';
 const SPELLINGS = 'Look for it in another spelling: with http or https, with or without www. or a slash at its end.';
 

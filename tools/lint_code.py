@@ -108,7 +108,7 @@ UNIT = (
 )
 NIGHTS = (
     *(*scripts("tests/collection"), *scripts("tests/collection/standin")),
-    *("tests/reference/warc_reference.py", "tests/stress/memento_client.py"),
+    *("tests/reference/warc_reference.py", PACKAGES, "tests/stress/memento_client.py"),
 )
 SERVER = tuple(f"tests/stress/{name}.py" for name in ("serve", "serve_trial", "memento_client"))
 

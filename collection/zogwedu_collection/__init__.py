@@ -6,8 +6,8 @@ capture gives, the program says. docs/COLLECTIONS.md describes each command.
 """
 import os
 
-# How members of gzip follow each other is read by a module of the Python package. The one file that is made of this
-# package has it beside the others; in a checkout it is where it belongs.
+# How members of gzip follow each other, and what is in a package, is read by modules of the Python package. The one
+# file that is made of this package has them beside the others; in a checkout they are where they belong.
 PYTHON_PACKAGE = os.path.join(os.path.dirname(os.path.abspath(__file__)), "..", "..", "python", "src", "zogwedu")
 if os.path.isdir(PYTHON_PACKAGE):
     __path__.append(PYTHON_PACKAGE)

@@ -63,8 +63,12 @@ TABLES = {
     "findings": "file BIGINT, line BIGINT, position BIGINT, finding TEXT, field TEXT, PRIMARY KEY (file, line)",
     "years": "file BIGINT, year TEXT, kind TEXT, records BIGINT, bytes BIGINT, PRIMARY KEY (file, year, kind)",
     "hosts": "file BIGINT, host TEXT, captures BIGINT, bytes BIGINT, PRIMARY KEY (file, host)",
+    # Of a package: its files, and its pages in their order.
+    "resources": "file BIGINT, line BIGINT, path TEXT, verdict TEXT, stated TEXT, bytes BIGINT, at_offset BIGINT,"
+    " PRIMARY KEY (file, line)",
+    "pages": "file BIGINT, line BIGINT, url TEXT, instant TEXT, stated TEXT, title TEXT, PRIMARY KEY (file, line)",
 }
-OF_A_FILE = ("records", "captures", "digests", "payloads", "findings", "years", "hosts")
+OF_A_FILE = ("records", "captures", "digests", "payloads", "findings", "years", "hosts", "resources", "pages")
 INDEXES = (
     "captures_by_target ON captures (target, instant)",
     "records_by_id ON records (lower(trim(id, '<>')))",

@@ -17,7 +17,7 @@ from .states import TRIED_AGAIN
 from .texts import counted, inform, real_path, say, shown, stored_path
 from .watched import LIST, MANIFEST, NAMING, NOT_THERE, Watched
 
-SUFFIXES = (b".warc", b".warc.gz", b".warc.zst")
+SUFFIXES = (b".warc", b".warc.gz", b".warc.zst", b".wacz")
 # What the system says of a file that isn't there. Of any other error nothing follows.
 # What a file takes at least, and how fast it is read: for how many files are a job.
 FILE_SECONDS = 0.1

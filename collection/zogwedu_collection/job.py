@@ -11,15 +11,16 @@ import subprocess
 import time
 from typing import Any, Dict, IO, Iterator, List, NamedTuple, Optional, Sequence, Tuple
 
-from .damaged import Pieces, TooSlow, counted_pieces, good_of_members, good_records, patience_for
+from .damaged import Pieces, TooSlow, counted_pieces, good_records, patience_for
 from .disk import Stamp, open_regular, open_stamp, reason_of, stamp_of, temporary_folder
 from .pace import Pace
+from .packages import About, Joined, good_of_parts, has_good_parts, is_package, pieces_of
 from .parts import SURVEY, Parts, Tally
 from .program import Settings, said
 from .space import Full, Room
 from .states import DAMAGED, READ
 from .texts import counted
-from .unpack import PIECE, Damaged, Unsupported, is_of_gzip, pieces_of, unpacked, write_all
+from .unpack import PIECE, Damaged, Unsupported, unpacked, write_all
 
 # The words of each command, by the name of what it writes, and the statuses with which it is done.
 COMMANDS = {
@@ -107,7 +108,9 @@ class Source:
         self.seekable: Optional[IO[bytes]] = file
         if pieces is not None:
             pace.take(os.fstat(file.fileno()).st_size)
-            self.seekable = unpacked(pieces, temporary, room)
+            self.seekable = unpacked(iter(pieces), temporary, room)
+        # Where the archives of a package begin; None for another file.
+        self.begins = pieces.begins if isinstance(pieces, Joined) else None
 
     def run(self, words: List[str], out: IO[bytes]) -> Tuple[int, str]:
         """Runs the program over it. Returns its exit status and its message."""
@@ -160,6 +163,10 @@ def failure_of(command: str, status: int, message: str) -> Optional[Tuple[str, s
     return "failed", "%s: %s" % (command, why)
 
 
+class TornArchive(Exception):
+    """An archive of a package isn't one by itself."""
+
+
 class Job:
     """The commands over one file."""
 
@@ -193,12 +200,19 @@ class Job:
         """Reads the file. Returns its state and a few words about it."""
         self.outcome.digests = digests_of(file, self.item.algorithms, self.pace)
         file.seek(0)
+        state, detail = self.verdict_on_records(file)
+        return self.judge_package(file, state, detail) if is_package(file) else (state, detail)
+
+    def verdict_on_records(self, file: IO[bytes]) -> Tuple[str, str]:
+        """The same for what the file holds."""
         try:
             source = Source(file, self.where, self.pace, self.room)
             with contextlib.closing(source):
                 return self.judge(source)
         except Damaged as damage:
             return self.judge_compressed(file, str(damage))
+        except TornArchive as fault:
+            return self.judge_compressed(file, str(fault), "refused")
         except Unsupported as reason:
             return "unsupported", str(reason)
         finally:
@@ -209,6 +223,8 @@ class Job:
         state, detail = self.run_commands(source)
         if state != "refused":
             return state, detail
+        if source.begins is not None:
+            raise TornArchive(detail)
         statuses = dict(self.outcome.statuses)
         try:
             return self.judge_damaged(source, detail)
@@ -241,25 +257,27 @@ class Job:
         self.outcome.pieces = pieces
         return "refused", detail
 
-    def judge_compressed(self, file: IO[bytes], fault: str) -> Tuple[str, str]:
-        """Counts the pieces of a compressed file that is damaged, and runs the commands over a copy of the good records
-        in its good members. Frames of zstd aren't looked for."""
+    def judge_compressed(self, file: IO[bytes], fault: str, state: str = "gunzip") -> Tuple[str, str]:
+        """Counts the pieces of a compressed file or a package that is damaged, and runs the commands over a copy of the
+        good records in its good members. Frames of zstd aren't looked for."""
         self.room.release()
-        if not is_of_gzip(file):
-            return "gunzip", fault
+        if not has_good_parts(file):
+            return state, fault
         self.pace.take(os.fstat(file.fileno()).st_size)
         try:
-            return self.judge_members(file, fault)
+            return self.judge_members(file, fault, state)
         except TooSlow as error:
-            return "gunzip", "%s; its good records aren't known: %s" % (fault, error)
+            return state, "%s; its good records aren't known: %s" % (fault, error)
+        except Damaged:  # of a package nothing can be read
+            return state, fault
         finally:
             self.outcome.statuses = {}
 
-    def judge_members(self, file: IO[bytes], fault: str) -> Tuple[str, str]:
+    def judge_members(self, file: IO[bytes], fault: str, of_whole: str) -> Tuple[str, str]:
         """Does that. Damage is raised where the file changed."""
         pieces = Pieces()
         try:
-            found = good_of_members(self.settings.warc, file, self.kept, pieces)
+            found = good_of_parts(self.settings.warc, file, self.kept, pieces)
             copy = unpacked(found, self.where, self.room)
         except Full:
             copy = None
@@ -275,7 +293,21 @@ class Job:
                     return state, words
                 detail += words
         self.outcome.pieces = pieces
-        return "gunzip", detail
+        return of_whole, detail
+
+    def judge_package(self, file: IO[bytes], state: str, detail: str) -> Tuple[str, str]:
+        """Judges the files of a package, and adds what is said of them, and its pages, to what the program wrote."""
+        try:
+            about = About(file)
+        except Damaged:
+            return state, detail
+        self.pace.take(os.fstat(file.fileno()).st_size)
+        with open(self.path, "ab") as out:
+            for name, lines in (("resources", about.resource_lines()), ("pages", about.page_lines())):
+                begin = out.tell()
+                out.writelines(lines)
+                self.outcome.places[name] = [begin, out.tell()]
+        return about.state_of(state, detail)
 
     def kept(self, pieces: Iterator[bytes]) -> IO[bytes]:
         """What is unpacked, in a file without a name. Full where there is no room."""
@@ -334,11 +366,14 @@ class Job:
     def verdict(self, source: Source, out: IO[bytes], parts: Sequence[str]) -> Tuple[str, str]:
         """The state of a file that could be read, and why it isn't better."""
         tally = Tally(source.seekable)
+        tally.begins = set(source.begins or ())
         try:
             with open(self.path, "rb") as written:
                 tally.read(written, parts)
         except ValueError as error:
             return "failed", "survey: %s" % error
+        if tally.begins:
+            return "refused", "an archive of the package isn't one by itself"
         self.outcome.places = tally.places
         if source.seekable is not None:
             self.outcome.statuses.update(self.part_statuses(tally))

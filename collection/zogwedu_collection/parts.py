@@ -62,6 +62,7 @@ class Tally:
         self.places: Dict[str, List[int]] = {}
         self.hashes = bytearray()
         self.waiting: Optional[List[bytes]] = None
+        self.begins: Set[int] = set()  # where a record has to begin that wasn't seen yet
         self.revisits: Set[int] = set()
         self.bad = self.unchecked = self.findings = self.payloads = 0
         self.empty: Set[int] = set()
@@ -110,6 +111,8 @@ class Tally:
         row = line.split(b"\t", 3)
         if row[3][:8].lower() == b"revisit\t":
             self.revisits.add(int(row[0]))
+        if self.begins:
+            self.begins.discard(int(row[1]))
         if self.source is not None:
             if self.waiting is not None:
                 self.add_hash(self.source, self.waiting, int(row[1]))

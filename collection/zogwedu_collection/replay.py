@@ -31,12 +31,13 @@ from typing import (
 
 from .captures import GIVES, Capture, captures_where
 from .catalogue import Catalogue, Known
-from .damaged import Pieces, good_of_members, good_records
+from .damaged import Pieces, good_records
 from .disk import Stamp, open_regular, open_stamp, reason_of, stamp_of, temporary_folder
 from .package import package_for
+from .packages import good_of_parts, has_good_parts, pieces_of
 from .program import instant_of, said
 from .texts import Stored, Trouble, decoded, escaped, path_bytes, real_path, say
-from .unpack import PIECE, Damaged, Unsupported, is_of_gzip, pieces_of, write_all
+from .unpack import PIECE, Damaged, Unsupported, write_all
 
 MOST_CANDIDATES = 64
 # The most captures that are asked what they lack, for one that is replayed.
@@ -233,15 +234,15 @@ class Files:
                 yield out
 
     @contextlib.contextmanager
-    def pieces_in(self, known: Known, file: IO[bytes]) -> Iterator[Optional[Iterator[bytes]]]:
+    def pieces_in(self, known: Known, file: IO[bytes]) -> Iterator[Optional[Iterable[bytes]]]:
         """What is given of an open file, in pieces, or None where that is the file itself."""
         pieces = pieces_of(file)
         if not known.damaged:
             yield pieces
             return
         with contextlib.ExitStack() as stack:
-            if is_of_gzip(file):
-                found = good_of_members(self.warc, file, self.kept, Pieces())
+            if has_good_parts(file):
+                found = good_of_parts(self.warc, file, self.kept, Pieces())
                 yield stack.enter_context(contextlib.closing(self.counted(known, found)))
                 return
             if pieces is not None:

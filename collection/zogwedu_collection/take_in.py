@@ -19,6 +19,7 @@ from .job_folders import drop_folders, folders_of, names_in
 from .lines import Sums, capture_rows, digest_rows, finding_rows, payload_rows, payloads_of, record_rows
 from .manifest import compare_stated
 from .moves import settle_moves
+from .packages import load_package
 from .parts import Parts
 from .states import ABOUT_BYTES, as_list
 from .texts import decoded, now, say, shown, stored_path
@@ -328,6 +329,7 @@ def load_rows(catalogue: Catalogue, parts: Parts, outcome: Outcome, reading: Rea
     digests = put("INSERT INTO digests VALUES (?, ?, ?, ?, ?)", digest_rows(file, parts)).rowcount
     put("INSERT INTO payloads VALUES (?, ?, ?, ?, ?, ?)", payload_rows(file, parts))
     put("INSERT INTO findings VALUES (?, ?, ?, ?, ?)", finding_rows(file, parts))
+    load_package(catalogue, file, parts)
     whole = [int(summary["records"]), int(summary["captures"]), bad + unchecked]
     seen = [max(count, 0) for count in (records, captures, digests)]
     if not reading.is_whole:

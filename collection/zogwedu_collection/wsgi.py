@@ -32,6 +32,7 @@ from .memento import TIMEMAPS, Around, NotOne, Paths, digits_of, head_links, htt
 from .memento import instants_of, json_timemap, key_in, link_timemap, referred, target_in
 from .near import as_rows, near_captures, targets_below
 from .package import package_for
+from .packages import pages_from
 from .program import BadDate, instant_of, usable_program
 from .responses import ASKED_EACH_TIME, FORBIDS_ALL, VISIBLE, Headers, Refusal, Response, close, moved, phrase, plain
 from .room import Pages
@@ -172,6 +173,7 @@ class Application:
             ("/room/answer/", "answer", self.room_answer),
             ("/room/found/", "found", self.room_found),
             ("/room/near/", "near", self.room_near),
+            ("/room/pages/", "pages", self.room_pages),
             ("/room/instant/", "instant", self.room_instant),
             ("/health", "health", self.health),
             ("/metrics", "metrics", self.metrics),
@@ -384,6 +386,15 @@ class Application:
         target = target_in(text)
         with self.desks.one(asking.noted) as catalogue:
             return as_json({"found": as_rows(near_captures(catalogue, target, asking.access, asking.address))})
+
+    def room_pages(self, asking: Asking, text: str) -> Response:
+        """The pages that packages list, as places to begin: some of them, after a file and a line."""
+        file, _, line = text.partition("-")
+        if not all(part.isdigit() and part.isascii() and len(part) < 16 for part in (file, line)):
+            raise NotOne("no place among pages")
+        with self.desks.one(asking.noted) as catalogue:
+            found, last = pages_from(catalogue, (int(file), int(line)), asking.access, asking.address)
+        return as_json({"found": found, "next": None if last is None else "%d-%d" % last})
 
     def room_instant(self, _asking: Asking, text: str) -> Response:
         """The instant that a date means. The program reads the date, in each form that it has."""

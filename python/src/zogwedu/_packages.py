@@ -3,11 +3,9 @@ import contextlib
 import functools
 import mmap
 import os
-import re
 import stat
 import sys
 import tempfile
-from datetime import datetime, timedelta, timezone
 from itertools import zip_longest
 from typing import IO, Any, ContextManager, Dict, List, NamedTuple, Optional, TYPE_CHECKING, Union
 
@@ -15,7 +13,7 @@ from . import _library as library
 from ._archive import Archive
 from ._files import Joined, Upon, copied, join_package, path_of, pieces_in
 from ._problems import CompressedError, NoBody, WarcError
-from ._wacz import Package, Page, Pages, Resource
+from ._wacz import LIGHT, SEVERE, Package, Page, Pages, Resource, instant_of
 from ._writing import write_parts
 from ._zip import BadZip
 
@@ -23,10 +21,6 @@ if TYPE_CHECKING:
     Path = Union[str, "os.PathLike[str]"]
 
 NOT_YET = 102
-RFC3339 = re.compile(
-    r"(\d{4})-(\d\d)-(\d\d)[Tt ](\d\d):(\d\d):(\d\d)(?:\.(\d{1,6})\d*)?(?:[Zz]|([+-])(\d\d):(\d\d))", re.ASCII
-)
-SEVERE, LIGHT = ("bad", "missing"), ("unchecked", "unlisted", "absent")
 
 
 class Entry(NamedTuple):
@@ -113,21 +107,6 @@ def entry_point(archive: Archive, page: Page) -> Optional[Entry]:
             captured = instant_of(captures[0].date)
             return Entry(captures[0].date, None if captured is None else (captured - begun).total_seconds())
     return Entry(page.instant, None)
-
-
-def instant_of(text: Optional[str]) -> Optional[datetime]:
-    """The instant of a date as RFC 3339 has it, to the microsecond."""
-    found = RFC3339.fullmatch(text or "")
-    if found is None:
-        return None
-    day, time, sign = [int(it) for it in found.group(1, 2, 3)], [int(it) for it in found.group(4, 5, 6)], found[8]
-    ahead = timedelta(hours=int(found[9] or 0), minutes=int(found[10] or 0))
-    fraction = int((found[7] or "").ljust(6, "0"))
-    try:
-        local = datetime(day[0], day[1], day[2], time[0], time[1], time[2], fraction, timezone.utc)
-        return local + ahead if sign == "-" else local - ahead
-    except (ValueError, OverflowError):
-        return None
 
 
 def _read_at(file: Any, count: int, offset: int) -> bytes:

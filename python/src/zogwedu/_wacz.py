@@ -6,6 +6,7 @@ nothing is fetched. No part of this is proved.
 import hashlib
 import json
 import re
+from datetime import datetime, timedelta, timezone
 from typing import Any, Dict, Iterator, List, NamedTuple, Optional, Sequence, Tuple
 
 from ._members import GZIP, Damaged, Members, Read
@@ -21,8 +22,12 @@ MOST_JSON = MOST_LINE = 16 << 20
 MOST_PAGES = 100_000
 MOST_URL = 65_536  # bytes: no head of a record holds a longer one
 MOST_TITLE = 1_000
-# The verdicts on a path, the worst first, of which one stands for several.
-ORDER = ("bad", "missing", "unlisted", "absent", "unchecked", "good")
+RFC3339 = re.compile(
+    r"(\d{4})-(\d\d)-(\d\d)[Tt ](\d\d):(\d\d):(\d\d)(?:\.(\d{1,6})\d*)?(?:[Zz]|([+-])(\d\d):(\d\d))", re.ASCII
+)
+SEVERE, LIGHT = ("bad", "missing"), ("unchecked", "unlisted", "absent")
+# The verdicts that come of several statements on a file: the first one counts.
+ORDER = ("bad", "unchecked", "good")
 
 
 class Resource(NamedTuple):
@@ -339,3 +344,18 @@ def _text_of(value: object) -> Optional[str]:
     if not isinstance(value, str) or not value:
         return None
     return value.encode("utf-16", "surrogatepass").decode("utf-16", "replace")
+
+
+def instant_of(text: Optional[str]) -> Optional[datetime]:
+    """The instant of a date as RFC 3339 has it, to the microsecond."""
+    found = RFC3339.fullmatch(text or "")
+    if found is None:
+        return None
+    day, time, sign = [int(it) for it in found.group(1, 2, 3)], [int(it) for it in found.group(4, 5, 6)], found[8]
+    ahead = timedelta(hours=int(found[9] or 0), minutes=int(found[10] or 0))
+    fraction = int((found[7] or "").ljust(6, "0"))
+    try:
+        local = datetime(day[0], day[1], day[2], time[0], time[1], time[2], fraction, timezone.utc)
+        return local + ahead if sign == "-" else local - ahead
+    except (ValueError, OverflowError):
+        return None
