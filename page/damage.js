@@ -37,6 +37,11 @@ const PACKED_WORDS = {
        `This page decompresses up to ${size(LIMIT)}. The gzip member at byte ${offset} leads beyond that.`,
 ],
   zstd: () => ['is compressed by zstd', 'This page decompresses gzip alone.'],
+  zip: ({why}, offset) => ['is refused', `Its ZIP contradicts itself, at byte ${offset}. ${plainly(why)}.`],
+  entry: (
+      {why}, offset) => ['isn’t what was packed', `Its bytes, from byte ${offset} of the package on: ${plainly(why)}.`],
+  crossing: (_, offset) =>
+      ['isn’t an archive by itself', `Its last record, at its byte ${offset}, goes on in the file after it.`],
 };
 
 /**
@@ -44,6 +49,9 @@ const PACKED_WORDS = {
  * @param {PackedDamage} damage
  */
 function packedAdvice({kind, name}) {
+  if (kind === 'zip') return ['One program would show of it what another one didn’t check. Fetch it again.'];
+  if (kind === 'entry') return ['Fetch the package again.'];
+  if (kind === 'crossing') return ['That record was never captured so. Open the files one by one.'];
   const packed = inShell(name, kind === 'zstd' ? 'a.warc.zst' : 'a.warc.gz'), to = packed.replace(/(\.gz|\.zst)?$/, '');
   if (kind === 'zstd') return ['Decompress it first, as by ', code(`zstd -d ${packed}`), ', and open what that gives.'];
   if (kind === 'long') return ['Decompress it first, as by ', code(`gunzip ${packed}`), ', and open what that gives.'];
@@ -55,11 +63,10 @@ function packedAdvice({kind, name}) {
 
 // A compressed file that isn't read to its end: where and why, what to do, and what is shown.
 function packedNodes() {
-  const {damage, names, parts, end, rows} = room;
+  const {damage, left, end, rows} = room;
   const [short, long] = PACKED_WORDS[damage.kind](damage, damage.offset.toLocaleString('en'));
   const whole = room.damages.count ? 'What is good of the bytes before it' : 'What comes before it';
   const part = `${whole} is shown: ${many(rows.count, 'record')}, ${size(end)} decompressed. Nothing is repaired.`;
-  const left = names.length - parts.length;
   const after = left ? ` ${many(left, 'file')} after it ${left === 1 ? 'isn’t' : 'aren’t'} opened.` : '';
   return [
     make('h2', {}, make('bdi', {}, plainly(damage.name)), ` ${short}`),

@@ -31,6 +31,8 @@ function emptyRoom(file, names) {
     parts: [],
     damage: null,
     gaps: [],
+    left: 0,
+    packages: new Map(),
     number: Date.now(),
     rows: new Rows(),
     counts: new Counts(),
@@ -73,7 +75,8 @@ function hostOf(target) {
 const isOfFiles = () => room.parts.length > 1;
 
 // A name for the uncompressed bytes of the archive.
-const nameWhenJoined = () => (room.names.length > 1 ? 'archive.warc' : room.names[0].replace(/\.gz$/i, ''));
+const nameWhenJoined = () =>
+    (room.names.length > 1 ? 'archive.warc' : room.names[0].replace(/\.gz$/i, '').replace(/\.wacz$/i, '.warc'));
 
 /**
  * The number of the file that has a byte of the archive.
@@ -99,6 +102,18 @@ function placeInFile(offset) {
   const {name, start, isPacked} = room.parts[fileAt(offset)], packed = isPacked ? ', decompressed' : '';
   const where = isOfFiles() ? ` (byte ${(offset - start).toLocaleString('en')} of ${plainly(name)}${packed})` : '';
   return where || (isPacked ? ' of what the file decompresses to' : '');
+}
+
+// A file that isn't an archive by itself: its last record ends in the next file. None if no record does so.
+function crossing() {
+  const {rows, parts} = room;
+  for (let number = 1; number < parts.length && rows.count; number += 1) {
+    const {start} = parts[number], row = rows.row(lastOf(rows.count, (position) => rows.offset(position) <= start));
+    const before = parts[fileAt(row.offset)];
+    if (row.offset < start && row.blockStart + row.blockLength > start && before.start < start)
+      return {kind: 'crossing', name: before.name, offset: row.offset - before.start, why: ''};
+  }
+  return null;
 }
 
 /** @param {Row} row */
@@ -149,6 +164,8 @@ function openFiles(files) {
   byId('room').classList.remove('unreadable', 'of-files');
   byId('another').hidden = false;
   byId('damage').hidden = true;
+  byId('package').hidden = true;
+  byId('package').replaceChildren();
   byId('opened').hidden = false;
   showFiles();
   if (matchMedia('(max-width: 44em)').matches) foldPlots(true);
@@ -183,8 +200,8 @@ const REPORTS = {
     showProgress(read / all);
   },
 
-  joined({file, parts, damage, gaps}) {
-    Object.assign(room, {file, parts, damage, gaps});
+  joined({file, parts, damage, gaps, left}) {
+    Object.assign(room, {file, parts, damage, gaps, left});
     byId('room').classList.toggle('of-files', isOfFiles());
     showFiles();
   },
@@ -205,12 +222,21 @@ const REPORTS = {
   listed({fault, pieces, end, holds}) {
     const known = {runs: new Runs(pieces.runs), damages: new Damages(pieces, room.gaps), unsought: pieces.why};
     Object.assign(room, known, {fault, end, holds, listed: true, listedIn: performance.now() - room.began});
+    room.damage ??= crossing();
     showDamage();
     const looks = holds && Boolean(end || !(fault || room.damage)), words = looks ? ' Looking for findings…' : '';
     const tooLong = holds ? '' : ' This archive is too long to be replayed here.';
     say(`${many(room.rows.count, 'record')} read in ${seconds(room.listedIn)}.${words}${tooLong}`);
     showProgress(looks ? -1 : null);
     soon();
+  },
+
+  package({name, pages}) {
+    showPackage(name, pages);
+  },
+
+  packed({name, resources, signer}) {
+    room.packages.get(name)?.replaceChildren(...fileNodes(resources, signer));
   },
 
   verdicts({first, verdicts}) {

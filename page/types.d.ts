@@ -193,6 +193,8 @@ interface RoomOfFile {
   parts: Part[];
   damage: PackedDamage | null;
   gaps: Gap[];
+  left: number; // files after the damage, which aren't opened
+  packages: Map<string, HTMLElement>; // what is said of the files of each
   number: number;
   rows: Rows;
   counts: Counts;
@@ -231,6 +233,28 @@ interface Room extends RoomOfFile {
   tab: string;
 }
 
+// Where the directory of a ZIP is, and an entry: where its heads and its bytes are, and what these are to become.
+type ZipPlace = { offset: number; length: number; entries: number };
+interface ZipEntry {
+  name: string;
+  raw: Uint8Array; // its name
+  file: Blob;
+  head: number; // in the directory
+  offset: number;
+  begin: number;
+  packed: number;
+  size: number;
+  crc: number;
+  flags: number;
+  method: number;
+}
+
+// A file, or an archive in a package. What a package says of a file, compared with it; and the pages that it lists.
+type NamedBlob = Blob & { name: string };
+type PackedFile = { path: string; verdict: string };
+type PackedPage = { url: string; moment: string; title: string };
+type PackedPages = { list: PackedPage[]; others: number; isCut: boolean };
+type JudgeOfFile = (task: JudgeTask) => Promise<Uint8Array>;
 // What a module lists at the front of bytes.
 type Front = { records: number; texts: number; end: number; fault: string; rows: ArrayBuffer; words: ArrayBuffer };
 type JudgeTask = { file: Blob; ranges: ByteRange[]; rows: ArrayBuffer };

@@ -17,16 +17,24 @@ function packingOf(first) {
   return [0x28, 0xb5, 0x2f, 0xfd].every((byte, number) => first[number] === byte) ? 'zstd' : '';
 }
 
+// The order of the names of files: that of their bytes, as in every other program.
+/** @type {(one: {name: string}, other: {name: string}) => number} */
+function byName({name: one}, {name: other}) {
+  const [left, right] = [one, other].map((name) => new TextEncoder().encode(name));
+  const at = left.findIndex((byte, place) => byte !== right[place]);
+  return at < 0 ? left.length - right.length : left[at] - (right[at] ?? -1);
+}
+
 // Files that are joined.
 class Joining {
   /**
-   * @param {File[]} files
+   * @param {NamedBlob[]} files
    * @param {number} limit bytes that all of them may decompress to
    * @param {() => boolean} isOver whether nobody wants them any more
    * @param {(progress: {name: string, read: number, size: number, unpacked: number}) => void} tell
    */
   constructor(files, limit, isOver, tell) {
-    this.files = [...files].sort((one, other) => (one.name < other.name ? -1 : Number(one.name > other.name)));
+    this.files = [...files].sort(byName);
     this.limit = limit;
     this.isOver = isOver;
     this.tell = tell;
@@ -68,7 +76,7 @@ class Joining {
   }
 
   // Adds what the good members of a file decompress to, with a gap for what isn't one.
-  /** @type {(file: File) => Promise<void>} */
+  /** @type {(file: NamedBlob) => Promise<void>} */
   async unpack(file) {
     const tell = (/** @type {number} */ at) => this.report(file, at, 0);
     const search = new Search(file, this.limit, this.isOver, tell);
@@ -89,7 +97,7 @@ class Joining {
 
   // Adds what the members of a file decompress to from an offset on, up to the last whole one before a damage, which is
   // returned.
-  /** @type {(file: File, from: number) => Promise<PackedDamage|null>} */
+  /** @type {(file: NamedBlob, from: number) => Promise<PackedDamage|null>} */
   async unpackFrom(file, from) {
     /** @type {Blob[]} */
     const pieces = [];
@@ -110,7 +118,7 @@ class Joining {
     return damage;
   }
 
-  /** @type {(file: File, members: Members) => Promise<void>} */
+  /** @type {(file: NamedBlob, members: Members) => Promise<void>} */
   async feed(file, members) {
     for (let at = members.read; at < file.size && !this.isOver(); at = members.read) {
       await members.take(await bytesOfFile(file, at, Math.min(file.size, at + PACKED_PIECE)));
@@ -120,7 +128,7 @@ class Joining {
   }
 
   // Reports how much of a file is read, and what was decompressed since the last good members.
-  /** @type {(file: File, at: number, given: number) => void} */
+  /** @type {(file: NamedBlob, at: number, given: number) => void} */
   report({name}, at, given) {
     this.tell({name, read: this.read + at, size: this.size, unpacked: this.unpacked + given});
   }

@@ -631,12 +631,15 @@ class Archive {
   // Joins the files, and reports what they are. Returns whether they are whole.
   async join() {
     const tell = (/** @type {object} */ progress) => this.tell({report: 'unpacking', ...progress});
-    const joining = new Joining(this.files, this.desk.limit, () => this.isOver, tell);
+    const opening = new Opening(this.files, () => this.isOver, tell), archives = await opening.archives();
+    const joining = new Joining(archives, this.desk.limit, () => this.isOver, tell);
     this.file = await joining.join();
-    const {parts, damage, gaps} = joining;
+    const {parts, gaps} = joining, damage = joining.damage ?? opening.damage;
+    const left = opening.left + archives.length - parts.length;
+    this.packages = opening.packages;
     this.sides = Float64Array.of(0, ...gaps.map((gap) => gap.place), this.file.size);
     this.runs = Runs.one(this.sides[1]);
-    this.tell({report: 'joined', file: this.file, parts, damage, gaps});
+    this.tell({report: 'joined', file: this.file, parts, damage, gaps, left});
     return !damage;
   }
 
@@ -824,10 +827,24 @@ class Archive {
     }
   }
 
+  // The pages that packages list.
+  async tellPages() {
+    for (const it of this.packages) this.tell({report: 'package', name: it.name, pages: await it.pages()});
+  }
+
+  // What packages say of their files, compared with them.
+  async judgePackages() {
+    for (const it of this.packages) {
+      const signer = await it.signer(), resources = await it.resources((task) => this.verdicts(task));
+      this.tell({report: 'packed', name: it.name, signer, resources});
+    }
+  }
+
   // What takes hashes, beside the questions.
   async work() {
     const report = (/** @type {any} */ error) => this.fail(error);
-    const found = this.holds ? this.find().catch(report) : null, judged = this.judgeAll().catch(report);
+    const found = this.holds ? this.find().catch(report) : null;
+    const judged = this.tellPages().then(() => this.judgeAll()).then(() => this.judgePackages()).catch(report);
     Promise.all([found, judged]).then(() => this.helpers.stop());
     if (this.isAlone) await found;
   }

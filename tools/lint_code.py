@@ -163,7 +163,7 @@ CHECKS = [
     Check("types of tests/compatibility", (*TYPES, *COMPATIBILITY)),
     Check(
         "types of the tests of the page",
-        ("mypy", "--strict", "--follow-imports=silent", *PAGE_PYTHON, *SERVER[1:], TRIALS[2]),
+        ("mypy", "--strict", "--follow-imports=silent", *PAGE_PYTHON, PACKAGES, *SERVER[1:], TRIALS[2]),
     ),
 ]
 

@@ -15,7 +15,7 @@ from .conftest import built, needs
 
 PARTS = (
     *("building", "charsets", "codings", "damaged", "heads", "hostile", "unguarded", "keyboard", "saved", "long"),
-    *("missing", "selection", "faithful", "views", "styles"),
+    *("missing", "selection", "faithful", "views", "styles", "wacz"),
 )
 Room = Tuple[test_served.Tests, Listener, Trial]
 

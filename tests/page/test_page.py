@@ -40,6 +40,7 @@ import selection
 import stations
 import styles
 import unguarded
+import wacz
 from browser import Browser
 from variant import variant
 
@@ -665,20 +666,8 @@ def compare_all(tests: Tests, folder: str, crawled: str) -> None:
 
 ALL = (
     *("building", "charsets", "codings", "compare", "compressed", "damaged", "heads", "hostile", "unguarded"),
-    *(
-        "connections",
-        "firefox",
-        "burdens",
-        "robust",
-        "faithful",
-        "views",
-        "keyboard",
-        "saved",
-        "selection",
-        "pieces",
-        "missing",
-    ),
-    *("long", "many", "segments", "styles", "unguarded-leaks"),
+    *("connections", "firefox", "burdens", "robust", "faithful", "views", "keyboard", "saved", "selection", "pieces"),
+    *("missing", "long", "many", "segments", "styles", "wacz", "unguarded-leaks"),
 )
 OVER_A_CRAWL = {"compare", "pieces", "views"}
 
@@ -707,6 +696,7 @@ def parts(tests: Tests, folder: str, crawled: str, where: str) -> dict[str, Call
         "styles": lambda: styles.styles(tests),
         "saved": lambda: saved_bytes(tests, folder, small),
         "selection": lambda: selection.selection(tests, folder),
+        "wacz": lambda: wacz.wacz(tests, folder),
         "pieces": lambda: pieces.pieces(tests, folder, crawled, same_as_program),
         "missing": lambda: missing.missing(tests),
         "long": lambda: too_long(tests, folder, small),

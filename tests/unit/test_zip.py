@@ -9,11 +9,13 @@ import struct
 import sys
 import zipfile
 import zlib
-from typing import TYPE_CHECKING, Any, Callable, Dict, List
+from typing import TYPE_CHECKING, Any, Callable, Dict, List, Sequence
 
+import build_page
 import pytest
 
-TOP = os.path.dirname(os.path.dirname(os.path.dirname(os.path.abspath(__file__))))
+from .in_node import TOP, in_node, without
+
 sys.path.insert(0, os.path.join(TOP, "tests", "reference"))
 from packages import DEFLATED, ONES, STREAMED, Item, wide_field, zip_of  # noqa: E402
 
@@ -285,3 +287,59 @@ def test_each_changed_byte() -> None:
                 except (_zip.BadZip, _zip.BadEntry):
                     continue
                 assert found == whole, at
+
+
+IN_PAGE = """async (files) => {
+  const found = [];
+  for (const file of files) {
+    const bytes = Uint8Array.from(Buffer.from(file, 'hex')), names = {};
+    try {
+      for (const entry of await entriesOf(new Blob([bytes]))) {
+        const pieces = [];
+        for await (const piece of contentOf(entry)) pieces.push(piece);
+        names[entry.name] = Buffer.concat(pieces).toString('hex');
+      }
+      found.push(names);
+    } catch (error) {
+      if (!(error instanceof BadZip || error instanceof BadEntry)) throw error;
+      found.push(error.fault ?? String(error.message));
+    }
+  }
+  return found;
+}"""
+
+
+def in_page(files: Sequence[bytes]) -> List[Any]:
+    """What the page's reader finds in ZIP files: names with their bytes, a fault, or why bytes differ."""
+    if not os.path.exists(build_page.INFLATER):
+        without("node-pako")
+    scripts = ("shared.js", "members.js", "zip.js")
+    return list(in_node(scripts, IN_PAGE, [data.hex() for data in files], before=build_page.inflater()))
+
+
+def test_good_files_in_the_page() -> None:
+    wanted = {name: data.hex() for name, data in GOOD.items()}
+    assert in_page(FORMS) == [wanted] * len(FORMS)
+
+
+def test_faults_in_the_page() -> None:
+    """The page refuses the same files, for the same faults."""
+    pairs = [(fault, data) for fault, many in FAULTS.items() for data in many if len(data) < 1 << 20]
+    pairs.append(("TooMany", FAULTS["TooMany"][0]))
+    assert in_page([data for _, data in pairs]) == [fault for fault, _ in pairs]
+
+
+def test_bytes_that_differ_in_the_page() -> None:
+    chance, small = random.Random(2), [Item(b"a", b"abc"), Item(b"b", b"abcabcabc", DEFLATED), Item(b"c", b"")]
+    data, changed = zip_of(small, wide={}, **WIDE_END), []
+    for at in range(len(data)):
+        changed += [data[:at] + bytes([data[at] ^ 1 << chance.randrange(8)]) + data[at + 1 :]]
+    for found, its in zip(in_page(changed), changed):
+        try:
+            wanted: Any = {name: content.hex() for name, content in contents_of(its).items()}
+        except _zip.BadZip as bad:
+            wanted = bad.fault
+        except _zip.BadEntry as bad_entry:
+            assert isinstance(found, str), bad_entry
+            continue
+        assert found == wanted
