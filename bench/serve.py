@@ -6,15 +6,18 @@ Usage: serve.py WARC [REQUESTS]
 20 files, one of them compressed, have 500 captures each of 10,000 bytes, in a catalogue of 1,000,000 captures. After a
 pass over all of them, wrk asks for captures that are drawn evenly, 100 a second for a minute; then so again beside
 2,000 idle connections and 200 readers of a body of 8 MB who take a little of it each second; then, as fast as it can,
-until REQUESTS (100,000 if left out) were answered. Prints how long the first answer of each file takes, which opens the
-file, the latencies, and the memory of the server before and after. PYTHONPATH has to hold the package that
-`make python` makes.
+until REQUESTS (100,000 if left out) were answered. Prints how long the first answer of each file takes, the latencies,
+and the memory of the server before and after. Before that, how long first answers take of a .warc.gz of 1 GB with a
+member for each record, by members and by the whole file, and what a run over it takes. PYTHONPATH has to hold the
+package that `make python` makes.
 """
 from __future__ import annotations
 
+import contextlib
 import gzip
 import http.client
 import os
+import random
 import re
 import resource
 import socket
@@ -37,6 +40,8 @@ SECONDS = 60
 IDLE, SLOW, LARGE = 2_000, 200, 8_000_000
 # Connections of each address, and how many bytes a slow reader takes in a second.
 OF_ADDRESS, TAKEN = 40, 2_000
+# The captures of the file with members, how many of them are asked for, and the bytes of their bodies.
+PAGES, ASKED, LEAST_PAGE, MOST_PAGE = 25_000, 300, 20_000, 60_000
 # Less than the time after which the server closes an idle connection.
 IDLE_SECONDS = 30
 LIMITS = ["--archives", "32", "--unpacked", "1G"]
@@ -91,6 +96,41 @@ def write_large(folder: str) -> None:
             out.write(crawl_record("response", FILES * EACH + number, f"http://s.example/large{number}", data))
 
 
+def page_of(number: int) -> bytes:
+    """A body of random bytes, which no gzip makes smaller."""
+    numbers = random.Random(number)
+    return numbers.randbytes(numbers.randrange(LEAST_PAGE, MOST_PAGE))
+
+
+def write_members(path: str) -> None:
+    """A file of 1 GB, with a member of gzip for each record."""
+    with open(path, "wb") as out:
+        for number in range(PAGES):
+            data = crawl_record("response", number, f"http://s.example/{number}", HEAD + page_of(number))
+            out.write(gzip.compress(data, 1))
+
+
+def first_bodies(folder: str, warc: str, words: list[str]) -> None:
+    """The first answers of a file with members: nothing of it is open or in memory of the server."""
+    disk, program = f"{folder}/members", words[0]
+    os.makedirs(disk)
+    write_members(f"{disk}/a.warc.gz")
+    begun = time.perf_counter()
+    subprocess.run([program, "-c", f"{disk}/c", "run", "--quiet", "--warc", warc, disk], check=True)
+    seconds, size = time.perf_counter() - begun, os.path.getsize(f"{disk}/a.warc.gz")
+    print(f"a .warc.gz of {size:,} bytes and {PAGES:,} records: read in {seconds:.1f} s", flush=True)
+    asked: list[tuple[list[str], int]] = [([], ASKED), (["--whole"], 1)]
+    for ways, count in asked:
+        listen = [program, "-c", f"{disk}/c", "serve", "--warc", warc, "--listen", "127.0.0.1:0", *ways]
+        with started(listen) as (_, port):
+            drawn = random.Random(7).sample(range(PAGES), count)
+            took = sorted(timed(port, path_of(number), len(page_of(number))) for number in drawn)
+        middle, most = statistics.median(took), took[-1 - count // 100]
+        print(
+            f"first body, {' '.join(ways) or 'by members'}: median {middle:.1f} ms, 99 of 100 {most:.1f} ms", flush=True
+        )
+
+
 def other_captures() -> Iterator[tuple[object, ...]]:
     """Rows of captures in a file that nobody asks for."""
     date, instant = "2020-01-01T00:00:00Z", "2020-01-01T00:00:00.000000000Z"
@@ -108,13 +148,13 @@ def fill(catalogue: str) -> None:
     base.close()
 
 
-def timed(port: int, path: str) -> float:
+def timed(port: int, path: str, size: int = SIZE) -> float:
     """How many milliseconds an answer takes. It must be a memento."""
     begun = time.perf_counter()
     connection = http.client.HTTPConnection("127.0.0.1", port, timeout=60)
     connection.request("GET", path)
     reply = connection.getresponse()
-    if reply.status != 200 or len(reply.read()) != SIZE:
+    if reply.status != 200 or len(reply.read()) != size:
         sys.exit(f"{path}: {reply.status}")
     connection.close()
     return (time.perf_counter() - begun) * 1000
@@ -224,6 +264,20 @@ def measure(folder: str, server: subprocess.Popen[bytes], port: int, wanted: int
     print(f"after {answered} requests more: {memory(server.pid)}")
 
 
+@contextlib.contextmanager
+def started(words: list[str]) -> Iterator[tuple[subprocess.Popen[bytes], int]]:
+    """A server, and its port."""
+    with subprocess.Popen(words, stderr=subprocess.PIPE) as server:
+        try:
+            assert server.stderr is not None
+            found = re.search(rb":(\d+)/", server.stderr.readline())
+            if found is None:
+                sys.exit("the server doesn't begin")
+            yield server, int(found[1])
+        finally:
+            server.terminate()
+
+
 def main() -> None:
     warc = os.path.abspath(sys.argv[1])
     wanted = int((sys.argv[2:] or ["100000"])[0])
@@ -236,16 +290,10 @@ def main() -> None:
         words = [program, "-c", catalogue]
         subprocess.run([*words, "run", "--quiet", "--warc", warc, f"{folder}/disk"], check=True)
         fill(catalogue)
+        first_bodies(folder, warc, words)
         listen = [*words, "serve", "--warc", warc, "--listen", "127.0.0.1:0", *LIMITS]
-        with subprocess.Popen(listen, stderr=subprocess.PIPE) as server:
-            try:
-                assert server.stderr is not None
-                found = re.search(rb":(\d+)/", server.stderr.readline())
-                if found is None:
-                    sys.exit("the server doesn't begin")
-                measure(folder, server, int(found[1]), wanted)
-            finally:
-                server.terminate()
+        with started(listen) as (server, port):
+            measure(folder, server, port, wanted)
 
 
 if __name__ == "__main__":

@@ -126,9 +126,10 @@ def spooled(pieces: Iterator[bytes], count: int, folder: str, end: Callable[[], 
 
 
 def tag_of(answer: Lent) -> str:
-    """The tag of the bytes that an answer gives, by the files that it is from, and where it is in them."""
+    """The tag of the bytes that an answer gives, by the files that it is from, and which record of them gives it."""
     stamps = [(it.stamp.size, it.stamp.modified) if it.stamp else None for it in answer.files]
-    words = repr((stamps, answer.at, answer.about, answer.codings, answer.reason, answer.position))
+    given = None if answer.file is None else [it.file for it in answer.files].index(answer.file.file)
+    words = repr((stamps, given, answer.about, answer.codings, answer.reason, answer.position))
     return '"%s"' % hashlib.sha256(words.encode("utf-8", "surrogateescape")).hexdigest()[:32]
 
 

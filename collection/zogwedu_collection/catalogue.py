@@ -14,7 +14,7 @@ from .disk import Stamp, is_on_local_disk
 from .states import DAMAGED, READ, as_list
 from .texts import Stored, Trouble, say, shown, stored_path
 
-VERSION = 5
+VERSION = 6
 CACHE_KIB = 1_000_000
 # How long a question waits for the end of a transaction, and a run for a reader before it says that it waits.
 BUSY_SECONDS = 600.0
@@ -54,7 +54,7 @@ TABLES = {
     "stated": "file BIGINT, algorithm TEXT, manifest TEXT, digest TEXT, stated_on TEXT, found TEXT, accepted TEXT,"
     " PRIMARY KEY (file, algorithm, manifest)",
     "records": "file BIGINT, position BIGINT, at_offset BIGINT, length BIGINT, kind TEXT, date TEXT, id TEXT,"
-    " target TEXT, hash TEXT, PRIMARY KEY (file, position)",
+    " target TEXT, hash TEXT, packed_at BIGINT, packed_length BIGINT, packed_crc BIGINT, PRIMARY KEY (file, position)",
     "captures": "file BIGINT, position BIGINT, date TEXT, instant TEXT, kind TEXT, given BIGINT, status BIGINT,"
     " media TEXT, length BIGINT, reason TEXT, target TEXT, PRIMARY KEY (file, position)",
     "digests": "file BIGINT, position BIGINT, verdict TEXT, id TEXT, digest TEXT, PRIMARY KEY (file, position)",
@@ -125,6 +125,9 @@ TO_VERSION_5 = (
     # It knew nothing of the good members of a damaged file, which is read once more.
     "UPDATE files SET changed = NULL WHERE state = 'gunzip'",
 )
+# From one of version 5, which knew nothing of members: those of a file are known once it is read again.
+TO_VERSION_6 = tuple("ALTER TABLE records ADD COLUMN packed_%s BIGINT" % name for name in ("at", "length", "crc"))
+STEPS = ((2, TO_VERSION_2), (3, TO_VERSION_3), (4, TO_VERSION_4), (5, TO_VERSION_5), (6, TO_VERSION_6))
 
 
 @dataclasses.dataclass(frozen=True)
@@ -255,7 +258,7 @@ class Catalogue:
         """Changes the tables of an older catalogue. Returns whether it is one."""
         is_there = self.one("SELECT count(*) FROM sqlite_master WHERE name = 'files'")[0]
         version = self.one("PRAGMA user_version")[0] if is_there else VERSION
-        for later, steps in ((2, TO_VERSION_2), (3, TO_VERSION_3), (4, TO_VERSION_4), (5, TO_VERSION_5)):
+        for later, steps in STEPS:
             for statement in steps if version < later else ():
                 self.base.execute(statement)
         return bool(version < VERSION)

@@ -181,6 +181,7 @@ def add_questions(command: Command) -> None:
     add_request(made)
     made.add_argument("date", metavar="DATE")
     add_codings(made)
+    add_whole(made)
     add_server(command("serve", "serves the collection to browsers and to Memento clients, for reading alone"))
     made = command("access", "says which line of the access rules decides for a URI")
     made.add_argument("--access", metavar="FILE", required=True, help="the file with the rules")
@@ -208,11 +209,17 @@ def add_server(parser: argparse.ArgumentParser) -> None:
     on_site = "the networks of readers on site, as 192.0.2.0/24"
     add("--onsite", nargs="+", action="extend", default=[], metavar="NETWORK", help=on_site)
     add("--log", metavar="FILE", help="a line for each answer; no log without it")
+    add_whole(parser)
     add_program_options(parser)
 
 
 def add_access(parser: argparse.ArgumentParser) -> None:
     parser.add_argument("--access", metavar="FILE", help="the file that says who may see what")
+
+
+def add_whole(parser: argparse.ArgumentParser) -> None:
+    what = "reads all of each file, and not the records alone that a capture needs"
+    parser.add_argument("--whole", action="store_true", help=what)
 
 
 def add_codings(parser: argparse.ArgumentParser) -> None:

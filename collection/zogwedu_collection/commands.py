@@ -137,7 +137,7 @@ def find_command(options: Options) -> int:
 def replay_command(options: Options) -> int:
     catalogue, request = Catalogue(options.catalogue), Request(options.uri, options.uri_hex, options.date)
     warc, decoder = usable_program(options.warc), Decoder() if options.form == "decoded" else None
-    replayer = Replayer(catalogue, warc, options.temporary, options.form != "plain")
+    replayer = Replayer(catalogue, warc, options.temporary, options.form != "plain", options.whole)
     with catalogue.one_state():
         warn_of_unknown(catalogue, request.target())
         chosen = chosen_captures(catalogue, request, warc)
@@ -229,7 +229,8 @@ def serve_command(options: Options) -> int:
     address = None if options.listen == "systemd" else address_of(options.listen)[0]
     site = site_for(address, options.host, options.base_url, options.behind_proxy, options.paths)
     words = options.listen, options.catalogue, options.warc, options.temporary, limits, site
-    return serve(Place(*words, functools.partial(read_access, options.access, options.onsite), options.log))
+    rules = functools.partial(read_access, options.access, options.onsite)
+    return serve(Place(*words, rules, options.log, is_whole=options.whole))
 
 
 def access_command(options: Options) -> int:

@@ -13,10 +13,12 @@ from typing import Any, Dict, IO, Iterator, List, NamedTuple, Optional, Sequence
 
 from .damaged import Pieces, TooSlow, counted_pieces, good_records, patience_for
 from .disk import Stamp, open_regular, open_stamp, reason_of, stamp_of, temporary_folder
+from .members import Noted
 from .pace import Pace
 from .packages import About, Joined, good_of_parts, has_good_parts, is_package, pieces_of
 from .parts import SURVEY, Parts, Tally
 from .program import Settings, said
+from .sample import Sample
 from .space import Full, Room
 from .states import DAMAGED, READ
 from .texts import counted
@@ -104,7 +106,8 @@ class Source:
         self.file = file
         self.pace = pace
         self.room = room
-        pieces = pieces_of(file)
+        self.noted = Noted(file)
+        pieces = pieces_of(file, self.noted.note)
         self.seekable: Optional[IO[bytes]] = file
         if pieces is not None:
             pace.take(os.fstat(file.fileno()).st_size)
@@ -365,7 +368,7 @@ class Job:
 
     def verdict(self, source: Source, out: IO[bytes], parts: Sequence[str]) -> Tuple[str, str]:
         """The state of a file that could be read, and why it isn't better."""
-        tally = Tally(source.seekable)
+        tally = Tally(source.seekable, source.noted if source.noted.begins else None)
         tally.begins = set(source.begins or ())
         try:
             with open(self.path, "rb") as written:
@@ -377,15 +380,26 @@ class Job:
         self.outcome.places = tally.places
         if source.seekable is not None:
             self.outcome.statuses.update(self.part_statuses(tally))
-            self.put_hashes(out, tally)
+            self.put_part(out, "hashes", tally.hashes)
+            if tally.members:
+                self.put_part(out, "members", tally.members)
+                why = self.differs(source, tally)
+                if why:
+                    return "failed", "members: " + why
         self.outcome.no_bytes = len(tally.empty)
         return self.state_of(tally, source)
 
-    def put_hashes(self, out: IO[bytes], tally: Tally) -> None:
-        """Writes the hashes of the records after what the program wrote."""
+    def put_part(self, out: IO[bytes], name: str, lines: bytearray) -> None:
+        """Writes a line for each record after what the program wrote."""
         begin = out.seek(0, os.SEEK_END)
-        write_all(out, bytes(tally.hashes))
-        self.outcome.places["hashes"] = [begin, begin + len(tally.hashes)]
+        write_all(out, bytes(lines))
+        self.outcome.places[name] = [begin, begin + len(lines)]
+
+    def differs(self, source: Source, tally: Tally) -> Optional[str]:
+        """How some captures of a compressed file differ if their members alone are read, if they do."""
+        assert source.seekable is not None
+        words = self.settings.warc, source.file, source.seekable, source.noted, tally, self.where
+        return Sample(*words).difference(Parts(self.path, tally.places))
 
     def state_of(self, it: Tally, source: Source) -> Tuple[str, str]:
         about = (

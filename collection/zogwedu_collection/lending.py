@@ -9,7 +9,9 @@ from typing import Any, Callable, Iterator, List, Optional, Sequence, Tuple
 
 from .captures import Capture
 from .catalogue import Catalogue, Known
-from .replay import CODED, DISAGREE, Answer, Names, Replayer, check_path, do_agree, names_in, place_in
+from .members import NoMember
+from .needed import Names, Selection
+from .replay import CODED, DISAGREE, Answer, Replayer, check_path, do_agree, names_of
 from .shelf import Shelf
 from .texts import Stored, Trouble, escaped
 
@@ -26,10 +28,12 @@ UNKNOWN_MEDIA = "application/octet-stream"
 
 @dataclasses.dataclass(frozen=True)
 class Lent(Answer):
-    """What a capture gives. Its bytes are in an archive on the shelf, in which the capture has the position `at`."""
+    """What a capture gives. Its bytes are in an archive of the shelf, in which the record that gives them, or leads to
+    it, has the position `at`."""
 
     at: int = 0
     reader: Optional[Reader] = None
+    selection: Selection = Selection(())
 
     def own_reader(self) -> Reader:
         """What reads its bytes."""
@@ -96,45 +100,55 @@ class Reader(Replayer):
         warc: str,
         shelf: Shelf,
         judge: Callable[[Stored, str], None] = lambda _target, _instant: None,
+        is_whole: bool = False,
     ) -> None:
         """Before anything is given of a record, `judge` hears its target and its instant, and may raise."""
-        super().__init__(catalogue, warc, shelf.temporary)
+        super().__init__(catalogue, warc, shelf.temporary, is_whole=is_whole)
         self.shelf = shelf
         self.package = shelf.package
         self.judge = judge
 
-    def body(self, capture: Capture, before: Sequence[int] = ()) -> Answer:
-        files = tuple(self.known(file) for file in (*before, capture.file))
-        at = sum(file.records for file in files[:-1]) + capture.position
+    def body_in(self, capture: Capture, selection: Selection, at: int) -> Answer:
+        files = selection.files
         file: Optional[Known]
-        with self.shelf.lent(files) as archive:
+        with self.shelf.lent(selection) as archive:
             try:
                 body = archive[at].body()
             except self.package.NoBody as reason:
-                file, position = self.judged(files, reason.given)
-                return Lent(capture, files, None, None, file, position, "", "", reason.text, at, self)
+                file, position = self.judged(selection, reason.given)
+                return Lent(capture, files, None, None, file, position, "", "", reason.text, at, self, selection)
             except self.package.WarcError as error:
                 raise Trouble("%s: %s" % (escaped(capture.path), escaped(str(error)))) from None
-            file, position = self.judged(files, body.given)
+            file, position = self.judged(selection, body.given)
             words = body.status or "-", "yes" if body.truncated else "no", len(body)
             about = "status %s truncated %s length %d" % words
-            return Lent(capture, files, None, None, file, position, about, "", None, at, self)
+            return Lent(capture, files, None, None, file, position, about, "", None, at, self, selection)
 
-    def judged(self, files: Sequence[Known], given: Optional[int]) -> Tuple[Optional[Known], int]:
+    def without_body(self, capture: Capture, files: Tuple[Known, ...]) -> Answer:
+        return Lent(capture, files, reason=capture.reason, reader=self)
+
+    def judged(self, selection: Selection, given: Optional[int]) -> Tuple[Optional[Known], int]:
         """The record that gives a body, or the reason why there is none, if it may be given: a revisit may lead to a
         record of another URI."""
         if given is None:
             return None, 0
-        file, position = place_in(files, given)
+        file, position = selection.record_at(given)
         query = "SELECT target, instant FROM captures WHERE file = ? AND position = ?"
         row = self.catalogue.one(query, (file.file, position))
         if row is not None and row[0] is not None:
             self.judge(row[0], row[1])
         return file, position
 
-    def named(self, capture: Capture) -> Names:
-        with self.shelf.lent([self.known(capture.file)]) as archive:
-            return names_in(archive[capture.position].headers)
+    def names_in(self, known: Known, position: int) -> Names:
+        try:
+            return self.names_at(self.one(known, position), 0)
+        except NoMember:
+            return self.names_at(Selection((known,)), position)
+
+    def names_at(self, selection: Selection, at: int) -> Names:
+        """What the head of a revisit at a place of an archive names."""
+        with self.shelf.lent(selection) as archive:
+            return names_of(archive[at].headers)
 
     def answer(self, captures: Sequence[Capture]) -> Lent:
         """What captures of one instant give, if they agree."""
@@ -149,7 +163,7 @@ class Reader(Replayer):
     def digest(self, answer: Lent) -> str:
         """The SHA-256 of the bytes of an answer."""
         digest = hashlib.sha256()
-        with self.shelf.lent(answer.files) as archive:
+        with self.shelf.lent(answer.selection) as archive:
             content = self.content(answer, archive)
             for part in content.parts:
                 digest.update(part)

@@ -25,6 +25,9 @@ class RecordRow(NamedTuple):
     name: Stored
     target: Optional[Stored]
     hash: Optional[str]
+    packed_at: Optional[int] = None
+    packed_length: Optional[int] = None
+    packed_crc: Optional[int] = None
 
 
 class CaptureRow(NamedTuple):
@@ -113,8 +116,9 @@ def list_columns(line: bytes) -> List[bytes]:
 
 
 def record_rows(file: int, parts: Parts, sums: Sums) -> Iterator[RecordRow]:
-    """The rows of `list`, each with the hash of its record, where the job wrote these."""
-    hashes, has_hashes = parts.lines("hashes"), parts.has("hashes")
+    """The rows of `list`, each with the hash of its record and the member that holds it alone, where the job wrote
+    these."""
+    hashes, has_hashes, members = parts.lines("hashes"), parts.has("hashes"), parts.lines("members")
     for line in parts.lines("list"):
         position, offset, length, kind, date, name, target = list_columns(line)
         key = date[:4], kind.lower()
@@ -124,9 +128,10 @@ def record_rows(file: int, parts: Parts, sums: Sums) -> Iterator[RecordRow]:
         hashed = next(hashes, None)
         if hashed is None and has_hashes:
             raise ValueError("a record without a hash")
-        yield RecordRow(
-            file, int(position), int(offset), int(length), *texts, None if hashed is None else hashed.decode("ascii")
-        )
+        place = next(members, b"-")
+        columns = (None, None, None) if place == b"-" else map(int, place.split(b" ", 2))
+        own = None if hashed is None else hashed.decode("ascii")
+        yield RecordRow(file, int(position), int(offset), int(length), *texts, own, *columns)
 
 
 def capture_rows(file: int, parts: Parts, sums: Sums) -> Iterator[CaptureRow]:

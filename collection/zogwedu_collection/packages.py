@@ -83,9 +83,10 @@ def held_by(package: _wacz.Package, entry: _zip.Entry) -> Iterator[bytes]:
         raise Damaged("%s: %s" % (_zip.shown(entry.name), reason_of(damaged.why))) from None
 
 
-def pieces_of(file: IO[bytes]) -> Optional[Iterable[bytes]]:
-    """What a compressed file or a package holds, in pieces, or None for another file."""
-    return Joined(file) if is_package(file) else pieces_of_compressed(file)
+def pieces_of(file: IO[bytes], note: _members.Note = lambda *_places: None) -> Optional[Iterable[bytes]]:
+    """What a compressed file or a package holds, in pieces, or None for another file. `note` hears of each member of a
+    file that gzip wrote."""
+    return Joined(file) if is_package(file) else pieces_of_compressed(file, note)
 
 
 def has_good_parts(file: IO[bytes]) -> bool:

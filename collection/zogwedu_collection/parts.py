@@ -1,10 +1,14 @@
 """What the program wrote over a file: one stream, in which the part of each command follows a line with its name."""
 from __future__ import annotations
 
+import array
 import dataclasses
 import hashlib
 import os
-from typing import IO, Dict, Iterator, List, Optional, Sequence, Set
+from typing import IO, TYPE_CHECKING, Dict, Iterator, List, Optional, Sequence, Set
+
+if TYPE_CHECKING:
+    from .members import Noted
 
 # The commands of a survey, in the order of their parts.
 SURVEY = ("list", "fixity", "check", "summary", "captures")
@@ -57,8 +61,12 @@ class Tally:
     """Reads what the program wrote, once: where each part is, the hashes of the records, and what the state of the file
     follows from."""
 
-    def __init__(self, source: Optional[IO[bytes]]) -> None:
+    def __init__(self, source: Optional[IO[bytes]], noted: Optional[Noted] = None) -> None:
+        """Of a compressed file it is noted where its members lie."""
         self.source = source
+        self.noted = noted
+        self.offsets = array.array("q")
+        self.members = bytearray()
         self.places: Dict[str, List[int]] = {}
         self.hashes = bytearray()
         self.waiting: Optional[List[bytes]] = None
@@ -131,6 +139,10 @@ class Tally:
         beside = min(max(end - int(offset) - int(length), 0), MOST_HASHED)
         head = os.pread(source.fileno(), beside, int(offset))
         self.hashes += hashlib.sha256(words + b"\n" + head).hexdigest()[:HASH_DIGITS].encode("ascii") + b"\n"
+        if self.noted is not None:
+            place = self.noted.of(int(offset), end)
+            self.offsets.append(int(offset))
+            self.members += b"-\n" if place is None else b"%d %d %d\n" % place
 
     def of_fixity(self, line: bytes) -> None:
         """Revisits with the digest of no bytes are counted apart: they are no damage."""

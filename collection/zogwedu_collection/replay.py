@@ -33,11 +33,13 @@ from .captures import GIVES, Capture, captures_where
 from .catalogue import Catalogue, Known
 from .damaged import Pieces, good_records
 from .disk import Stamp, open_regular, open_stamp, reason_of, stamp_of, temporary_folder
+from .members import NoMember, Other, Row, record_at
+from .needed import Chooser, Names, Selection, ids_like
 from .package import package_for
 from .packages import good_of_parts, has_good_parts, pieces_of
 from .program import instant_of, said
-from .texts import Stored, Trouble, decoded, escaped, path_bytes, real_path, say
-from .unpack import PIECE, Damaged, Unsupported, write_all
+from .texts import Stored, Trouble, decoded, escaped, real_path, say
+from .unpack import PIECE, Damaged, Unsupported, is_of_gzip, write_all
 
 MOST_CANDIDATES = 64
 # The most captures that are asked what they lack, for one that is replayed.
@@ -46,14 +48,14 @@ MOST_ASKED = 256
 MOST_IN_ROW = 16
 UNRESOLVED = ("P4", "P5", "P7 Segment G2", "P7 Segment G4")
 NAMES = ("WARC-Refers-To", "WARC-Refers-To-Target-URI", "WARC-Refers-To-Date")
-Names = List[Optional[Stored]]
 Asked = TypeVar("Asked")
-UUID = re.compile(rb"urn:uuid:[0-9a-f]{8}(?:-[0-9a-f]{4}){3}-[0-9a-f]{12}", re.IGNORECASE)
 # The most bytes of a record that the Python package gets, and of a body that it decodes.
 MOST_READ = 1 << 30
 # What the program says of a body: the record that it is of, its facts, and the fields that name its codings.
 GIVEN = re.compile(r"chosen \d+ given (\d+) (.*?)( coded .*)?", re.DOTALL)
 CODED = "P10 "
+# The facts of a body that the catalogue has too.
+FACTS = re.compile(r"status (\d+|-) truncated (?:yes|no) length (\d+)")
 # A file in such a state is asked where no other one has the capture.
 DOUBTED = ("bad", "rotten")
 DISAGREE = "files disagree on this capture"
@@ -109,25 +111,10 @@ def bare(value: bytes) -> Optional[Stored]:
     return decoded((value if b"<" in inner or b">" in inner else inner).strip(b" \t")) or None
 
 
-def names_in(headers: Any) -> Names:
+def names_of(headers: Any) -> Names:
     """What the fields of a head name, as the Python package has them. Of several fields with a name the first one
     counts."""
     return [bare(headers.get(name, "").encode("utf-8", "surrogateescape")) for name in NAMES]
-
-
-def ids_like(name: Stored, is_indexed: bool = True) -> Tuple[str, List[bytes]]:
-    """A query for the records with an id, and its values. Those with spaces within their brackets are found if these
-    are indexed, as they are from the next run on. Two ids are the same if their bare texts are the same bytes, or the
-    same UUID in any case, as the program compares them. SQLite's `lower` knows ASCII alone, and so has to Python's."""
-    value = path_bytes(name)
-    lower = value.lower()
-    # Of a valid id, whose bare text has none of these, it takes away what isn't bare text.
-    exactly = "" if UUID.fullmatch(value) else " AND trim(id, '<> \t') = +CAST(? AS TEXT)"
-    query = "SELECT file, position FROM records WHERE %s = +CAST(? AS TEXT)" + exactly
-    odd = "trim(id, '<>') <> trim(id, '<> \t') AND lower(trim(id, '<> \t'))"
-    values = [lower] + ([value] if exactly else [])
-    plain = query % "lower(trim(id, '<>'))"
-    return (plain + " UNION ALL " + query % odd, values + values) if is_indexed else (plain, values)
 
 
 def is_unresolved(reason: Optional[str]) -> bool:
@@ -143,10 +130,15 @@ def digest_of(file: IO[bytes]) -> str:
     return digest.hexdigest()
 
 
+def other_bytes(known: Known) -> Trouble:
+    """What is said of a file with other bytes."""
+    return Trouble("%s doesn't have the bytes that run %s read" % (escaped(known.path), known.read_run))
+
+
 def check(known: Known, stamp: Stamp) -> None:
     """Refuses a file that isn't the one that was read."""
     if known.state == "rotten":
-        raise Trouble("%s doesn't have the bytes that run %s read" % (escaped(known.path), known.read_run))
+        raise other_bytes(known)
     if known.stamp is None or not known.stamp.is_of(stamp):
         run = "" if known.read_run is None else " since run %d read it" % known.read_run
         raise Trouble("%s changed%s: run again" % (escaped(known.path), run))
@@ -209,18 +201,39 @@ class Files:
             raise Trouble("%s: %s" % (escaped(known.path), reason_of(error, path))) from None
 
     @contextlib.contextmanager
-    def joined(self, files: Sequence[Known]) -> Iterator[IO[bytes]]:
-        """The bytes of files, unpacked, one after another. A lone file that is neither compressed nor damaged is given
-        as it is."""
-        if len(files) == 1:
+    def joined(self, selection: Selection) -> Iterator[IO[bytes]]:
+        """The bytes of files or of some of their records, unpacked, one after another. A lone file that is neither
+        compressed nor damaged is given as it is. NoMember where records can't be read by themselves."""
+        files = selection.files
+        if len(files) == 1 and selection.rows is None:
             with self.alone(files[0]) as file:
                 yield file
             return
         with tempfile.TemporaryFile(dir=self.temporary, buffering=0) as joined:
-            for known in files:
+            if selection.rows is not None:
+                self.write_pieces(joined, self.some(selection))
+            for known in files if selection.rows is None else ():
                 with self.opened(known) as file, self.pieces_in(known, file) as pieces:
                     self.write_pieces(joined, pieces or whole_pieces(file))
             yield joined
+
+    def some(self, selection: Selection) -> Iterator[bytes]:
+        """The bytes of some records, in pieces. No byte counts before all are given: they may be other ones than those
+        that were read, which is a Trouble."""
+        for known, rows in zip(selection.files, selection.rows or ()):
+            with self.opened(known) as file:
+                check_places(file, rows)
+                try:
+                    for row in rows:
+                        yield from record_at(file, row)
+                except Other:
+                    raise other_bytes(known) from None
+
+    def check(self, selection: Selection) -> None:
+        """Compares the files of some records with what was read, without reading these."""
+        for known, rows in zip(selection.files, selection.rows or ()):
+            with self.opened(known) as file:
+                check_places(file, rows)
 
     @contextlib.contextmanager
     def alone(self, known: Known) -> Iterator[IO[bytes]]:
@@ -280,21 +293,41 @@ class Files:
             write_all(out, piece)
 
 
+def check_places(file: IO[bytes], rows: Sequence[Row]) -> None:
+    """NoMember unless a file that gzip wrote has a member of its own for each record, or it isn't compressed."""
+    is_of_members = is_of_gzip(file)
+    if not is_of_members and pieces_of(file) is not None:
+        raise NoMember("no members of gzip")
+    if any((row.place is not None) != is_of_members for row in rows):
+        raise NoMember("a record has no member of its own")
+
+
 def whole_pieces(file: IO[bytes]) -> Iterator[bytes]:
     """The bytes of a file, in pieces."""
     return iter(functools.partial(file.read, PIECE), b"")
 
 
 class Replayer:
-    """Gives the bodies of captures; coded ones too where these are asked for as they are stored."""
+    """Gives the bodies of captures; coded ones too where these are asked for as they are stored. Where `is_whole`, all
+    of each file is read."""
 
-    def __init__(self, catalogue: Catalogue, warc: str, temporary: Optional[str], is_stored: bool = False) -> None:
+    def __init__(
+        self,
+        catalogue: Catalogue,
+        warc: str,
+        temporary: Optional[str],
+        is_stored: bool = False,
+        is_whole: bool = False,
+    ) -> None:
         self.catalogue = catalogue
         self.warc = warc
         self.files = Files(warc, temporary)
         self.temporary = temporary_folder(temporary)
         self.options = ["--stored"] if is_stored else []
+        self.is_whole = is_whole
+        self.chooser = Chooser(catalogue, warc, self.named)
         self.asked: Dict[Tuple[int, Optional[int]], List[Capture]] = {}
+        self.names: Dict[Tuple[int, int], Names] = {}
         self.passed: List[str] = []
 
     def known(self, file: int) -> Known:
@@ -312,11 +345,61 @@ class Replayer:
         return out, done.returncode, said(done.stderr)
 
     def body(self, capture: Capture, before: Sequence[int] = ()) -> Answer:
-        """What a capture gives, with the files `before` joined in front of its own."""
+        """What a capture gives, with the files `before` joined in front of its own: by the records that it needs, or by
+        whole files where that can't be."""
         files = tuple(self.known(file) for file in (*before, capture.file))
-        first = sum(file.records for file in files[:-1])
-        with self.files.joined(files) as source:
-            out, status, message = self.program("body", source, first + capture.position, self.options)
+        with contextlib.suppress(NoMember):
+            return self.by_records(capture, files)
+        selection = Selection(files)
+        return self.body_in(capture, selection, selection.at(len(files) - 1, capture.position))
+
+    def by_records(self, capture: Capture, files: Tuple[Known, ...]) -> Answer:
+        """What a capture gives, by the records that it needs. In a file of its own it gives what its origin gives, or
+        the reason that the catalogue has, by which the program found none."""
+        if self.is_whole:
+            raise NoMember("whole files are asked for")
+        if len(files) > 1:
+            selection, position = self.chooser.joined(files, capture.file, capture.position), capture.position
+        elif capture.given is not None:
+            selection, position = self.chooser.given(files[0], capture.given), capture.given
+        else:
+            self.files.check(self.chooser.alone(files[0], capture.position))
+            return self.without_body(capture, files)
+        answer = self.body_in(capture, selection, selection.at(len(files) - 1, position))
+        if not self.is_expected(answer):
+            raise other_bytes(files[-1] if answer.file is None else answer.file)
+        return answer
+
+    def without_body(self, capture: Capture, files: Tuple[Known, ...]) -> Answer:
+        """The answer of a capture for which the program found no origin in its file."""
+        return Answer(capture, files, reason=capture.reason)
+
+    def is_expected(self, answer: Answer) -> bool:
+        """Whether an answer has the facts that the catalogue has: of its capture, or where files are joined of the
+        record that gives it, unless that lacked something in its own file."""
+        capture = answer.capture
+        if len(answer.files) > 1:
+            if answer.reason is not None or answer.file is None:
+                return True
+            values = answer.file.file, answer.position
+            capture = captures_where(self.catalogue, "captures.file = ? AND position = ?", values)[0]
+            if is_unresolved(capture.reason):
+                return True
+        elif answer.reason is not None:
+            return answer.reason == capture.reason
+        facts = FACTS.fullmatch(answer.about)
+        if facts is None or capture.given != answer.position:
+            return False
+        status, length = None if facts[1] == "-" else int(facts[1]), int(facts[2])
+        if (capture.reason or "").startswith(CODED):
+            return bool(answer.codings) and capture.status == status
+        return capture.reason is None and (capture.status, capture.length) == (status, length)
+
+    def body_in(self, capture: Capture, selection: Selection, at: int) -> Answer:
+        """What the record at a place of an archive gives."""
+        files = selection.files
+        with self.files.joined(selection) as source:
+            out, status, message = self.program("body", source, at, self.options)
         if status == 1:
             out.close()
             return Answer(capture, files, reason=message)
@@ -324,34 +407,46 @@ class Replayer:
         if status != 0 or given is None:
             out.close()
             raise Trouble("%s: %s" % (", ".join(escaped(file.path) for file in files), escaped(message)))
-        place = place_in(files, int(given[1]))
+        place = selection.record_at(int(given[1]))
         return Answer(capture, files, out, digest_of(out), *place, given[2], given[3] or "")
 
     def record(self, known: Known, position: int, instead: str = "") -> bytes:
         """The bytes of a record, up to the beginning of the next one. If they are too many, a line says what there is
         instead."""
+        with contextlib.suppress(NoMember):
+            selection = self.one(known, position)
+            refuse_long(known, position, selection.size(), instead)
+            return b"".join(self.files.some(selection))
         query = "SELECT at_offset FROM records WHERE file = ? AND position BETWEEN ? AND ? ORDER BY position"
         places = [row[0] for row in self.catalogue.rows(query, (known.file, position, position + 1))]
         if not places:
             raise Trouble("%s was read again: try again" % escaped(known.path))
-        with self.files.joined([known]) as source:
+        with self.files.joined(Selection((known,))) as source:
             end = places[1] if len(places) > 1 else source.seek(0, os.SEEK_END)
-            if end - places[0] > MOST_READ:
-                what = escaped(known.path), position, MOST_READ, instead
-                raise Trouble("%s, record %d: more than %d bytes are stored%s" % what)
+            refuse_long(known, position, end - places[0], instead)
             source.seek(places[0])
             return b"".join(iter(lambda: source.read(min(PIECE, end - source.tell())), b""))
 
-    def named(self, capture: Capture) -> Names:
-        """What the head of a revisit names: the id, the target and the date of its referent. The Python package reads
-        it."""
+    def one(self, known: Known, position: int) -> Selection:
+        """One record by itself. NoMember where whole files are asked for."""
+        if self.is_whole:
+            raise NoMember("whole files are asked for")
+        return self.chooser.alone(known, position)
+
+    def named(self, file: int, position: int) -> Names:
+        """What the head of a revisit names: the id, the target and the date of its referent."""
+        if (file, position) not in self.names:
+            self.names[file, position] = self.names_in(self.known(file), position)
+        return self.names[file, position]
+
+    def names_in(self, known: Known, position: int) -> Names:
+        """The same, which the Python package reads of the head."""
         package = package_for("a body that may be in another file", ("Archive", "WarcError"))
-        record = self.record(self.known(capture.file), capture.position)
         try:
-            with package.Archive(record) as archive:
-                return names_in(archive[0].headers)
+            with package.Archive(self.record(known, position)) as archive:
+                return names_of(archive[0].headers)
         except package.WarcError as error:
-            raise Trouble("%s: %s" % (escaped(capture.path), escaped(str(error)))) from None
+            raise Trouble("%s: %s" % (escaped(known.path), escaped(str(error)))) from None
 
     def candidates(self, capture: Capture) -> List[Capture]:
         """Captures of other files that may be what a capture lacks. The program judges whether they are. No capture is
@@ -389,7 +484,7 @@ class Replayer:
         visited: Set[int] = set()
         while True:
             visited.add(capture.position)
-            names = self.named(capture)
+            names = self.named(capture.file, capture.position)
             own = self.with_id(names[0], "captures.file = ?", capture.file, "position") if names[0] else []
             if not own or own[0].position in visited:
                 return capture, names
@@ -480,13 +575,11 @@ class Replayer:
         return answers
 
 
-def place_in(files: Sequence[Known], position: int) -> Tuple[Known, int]:
-    """The file and the position in it of a record of joined files."""
-    for file in files:
-        if position < file.records:
-            return file, position
-        position -= file.records
-    raise Trouble("a record is in none of the joined files")
+def refuse_long(known: Known, position: int, count: int, instead: str) -> None:
+    """Refuses a record that is too long for the Python package. A line says what there is instead."""
+    if count > MOST_READ:
+        what = escaped(known.path), position, MOST_READ, instead
+        raise Trouble("%s, record %d: more than %d bytes are stored%s" % what)
 
 
 def do_agree(answers: Sequence[Answer]) -> bool:

@@ -242,6 +242,7 @@ class Place:
     rules: Callable[[], Access]
     log: Optional[str] = None
     of_address: int = MOST_OF_ADDRESS
+    is_whole: bool = False
 
 
 def address_of(listen: str) -> Tuple[str, int]:
@@ -313,7 +314,7 @@ def run_and_exit(place: Place, listener: socket.socket) -> NoReturn:
     try:
         hear_waitress()
         words = place.catalogue, place.warc, place.temporary, place.limits, place.site, place.rules, place.log
-        application = Application(*words)
+        application = Application(*words, place.is_whole)
         hear_reload(application)
         server = Server(listener, application, place)
         say("serving http://%s/" % shown_address(listener))

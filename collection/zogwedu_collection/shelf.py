@@ -11,8 +11,7 @@ import threading
 import time
 from typing import Any, Iterator, Optional, OrderedDict, Sequence, Set, Tuple, Union
 
-from .catalogue import Known
-from .disk import Stamp
+from .needed import Key, Selection, Span
 from .replay import Files, check_path
 from .texts import Trouble, escaped, say
 
@@ -20,7 +19,8 @@ from .texts import Trouble, escaped, say
 PATIENCE_SECONDS = 20.0
 # The most lines about files that were passed over.
 MOST_PASSED = 1000
-Key = Tuple[Tuple[int, Optional[Stamp]], ...]
+# Some records with fewer bytes are read into memory, each time that they are asked for.
+IN_MEMORY = 16 << 20
 
 
 @dataclasses.dataclass
@@ -60,26 +60,53 @@ class Shelf:
         self.changed = threading.Condition()
 
     @contextlib.contextmanager
-    def lent(self, files: Sequence[Known]) -> Iterator[Any]:
-        """The archive of files, whose bytes are those that were read. It stays open until it is given back."""
-        for file in files:
+    def lent(self, selection: Selection) -> Iterator[Any]:
+        """The archive of files, or of some of their records, whose bytes are those that were read. It stays open until
+        it is given back. NoMember where records can't be read by themselves."""
+        for file in selection.files:
             check_path(file)
-        key = key_of(files)
+        if selection.rows is not None and selection.size() <= IN_MEMORY:
+            with self.small(selection) as archive:
+                yield archive
+            return
+        key = selection.key()
         held, is_new = self.take(key)
         try:
             if is_new:
-                self.open(key, held, files)
+                self.open(key, held, selection)
             yield held.archive
         finally:
             with self.changed:
                 held.users -= 1
                 self.changed.notify_all()
 
-    def is_file_itself(self, files: Sequence[Known]) -> bool:
-        """Whether the bytes of an archive that the caller has are those of its file, neither unpacked nor joined."""
+    @contextlib.contextmanager
+    def small(self, selection: Selection) -> Iterator[Any]:
+        """An archive of some records in memory. It has no place on the shelf."""
+        data = b"".join(Files(self.warc, self.temporary).some(selection))
+        with self.refused(selection):
+            archive = self.package.Archive(data)
+        try:
+            yield archive
+        finally:
+            archive.__exit__(None, None, None)
+
+    @contextlib.contextmanager
+    def refused(self, selection: Selection) -> Iterator[None]:
+        """Names the files of an archive that the package refuses to open."""
+        try:
+            yield
+        except self.package.WarcError as error:
+            names = ", ".join(escaped(file.path) for file in selection.files)
+            raise Trouble("%s: %s" % (names, escaped(str(error)))) from None
+
+    def in_file(self, selection: Selection, spans: Sequence[Span]) -> Optional[Sequence[Span]]:
+        """Where bytes of an archive that the caller has are in its file, if they are neither unpacked nor joined."""
+        if selection.rows is not None:
+            return selection.in_file(spans)
         with self.changed:
-            held = self.held.get(key_of(files))
-            return held is not None and not held.unpacked and len(files) == 1
+            held = self.held.get(selection.key())
+            return None if held is None or held.unpacked or len(selection.files) > 1 else spans
 
     def counts(self) -> Tuple[int, int]:
         """How many archives are open, and how many bytes are unpacked, joined or on their way out."""
@@ -124,20 +151,18 @@ class Shelf:
         self.unpacked -= held.unpacked
         held.close()
 
-    def open(self, key: Key, held: Held, files: Sequence[Known]) -> None:
+    def open(self, key: Key, held: Held, selection: Selection) -> None:
         """Opens an archive that has its place on the shelf. Where that fails it loses the place."""
+        files = Files(self.warc, self.temporary, lambda count: self.reserve(held, count))
         try:
-            with Files(self.warc, self.temporary, lambda count: self.reserve(held, count)).joined(files) as source:
+            with self.refused(selection), files.joined(selection) as source:
                 if os.fstat(source.fileno()).st_size:
                     held.data = mmap.mmap(source.fileno(), 0, access=mmap.ACCESS_READ)
                 held.archive = self.package.Archive(held.data)
-        except BaseException as error:
+        except BaseException:
             with self.changed:
                 self.drop(key, held)
                 self.changed.notify_all()
-            if isinstance(error, self.package.WarcError):
-                names = ", ".join(escaped(file.path) for file in files)
-                raise Trouble("%s: %s" % (names, escaped(str(error)))) from None
             raise
         with self.changed:
             held.is_ready = True
@@ -161,8 +186,3 @@ class Shelf:
         with self.changed:
             self.unpacked -= count
             self.changed.notify_all()
-
-
-def key_of(files: Sequence[Known]) -> Key:
-    """What an archive is known by: its files, as they were read."""
-    return tuple((file.file, file.stamp) for file in files)

@@ -16,7 +16,7 @@ from .disk import Stamp
 from .job import COMMANDS, Outcome, outcome_of
 from .jobs import all_files, files_of
 from .job_folders import drop_folders, folders_of, names_in
-from .lines import Sums, capture_rows, digest_rows, finding_rows, payload_rows, payloads_of, record_rows
+from .lines import RecordRow, Sums, capture_rows, digest_rows, finding_rows, payload_rows, payloads_of, record_rows
 from .manifest import compare_stated
 from .moves import settle_moves
 from .packages import load_package
@@ -322,7 +322,8 @@ def load_rows(catalogue: Catalogue, parts: Parts, outcome: Outcome, reading: Rea
     sums, put = Sums(), catalogue.base.executemany
     summary = parts.summary()
     good, bad, unchecked = (int(summary[name]) for name in ("good", "bad", "unchecked"))
-    records = put("INSERT INTO records VALUES (?, ?, ?, ?, ?, ?, ?, ?, ?)", record_rows(file, parts, sums)).rowcount
+    marks = ", ".join("?" * len(RecordRow._fields))
+    records = put("INSERT INTO records VALUES (%s)" % marks, record_rows(file, parts, sums)).rowcount
     captures = put(
         "INSERT INTO captures VALUES (?, ?, ?, ?, ?, ?, ?, ?, ?, ?, ?)", capture_rows(file, parts, sums)
     ).rowcount

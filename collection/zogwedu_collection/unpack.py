@@ -53,12 +53,12 @@ class Unsupported(Exception):
     """The file is compressed in a way that isn't read here."""
 
 
-def pieces_of(file: IO[bytes]) -> Optional[Iterator[bytes]]:
+def pieces_of(file: IO[bytes], note: _members.Note = lambda *_places: None) -> Optional[Iterator[bytes]]:
     """What a compressed file holds, in pieces, or None for one that isn't compressed. Its first bytes decide, and never
-    its name."""
+    its name. `note` hears of each member of gzip."""
     beginning = os.pread(file.fileno(), len(OF_ZSTD), 0)
     if beginning.startswith(OF_GZIP):
-        return members_of(file)
+        return members_of(file, note)
     is_skipped = beginning[1:] == OF_SKIPPED and beginning[0] & 0xF0 == SKIPPED
     return frames_of(file, beginning) if beginning == OF_ZSTD or is_skipped else None
 
@@ -162,11 +162,11 @@ def judge_zstd(status: int, message: str) -> None:
     raise OSError(errno.EIO, "zstd was ended by signal %d" % -status if status < 0 else "zstd: " + why)
 
 
-def members_of(file: IO[bytes]) -> Iterator[bytes]:
+def members_of(file: IO[bytes], note: _members.Note = lambda *_places: None) -> Iterator[bytes]:
     """What the members of a file hold that gzip wrote, in pieces."""
     file.seek(0)
     try:
-        yield from _members.Members(iter(functools.partial(file.read, PIECE), b""), _members.GZIP)
+        yield from _members.Members(iter(functools.partial(file.read, PIECE), b""), _members.GZIP, note)
     except _members.Damaged as error:
         raise Damaged(MEMBER_FAULTS.get(type(error.why)) or reason_of(error.why), error.offset) from None
 

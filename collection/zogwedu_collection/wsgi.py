@@ -144,10 +144,12 @@ class Application:
         site: Site,
         rules: Callable[[], Access] = lambda: read_access(None),
         log: Optional[str] = None,
+        is_whole: bool = False,
     ) -> None:
         package = package_for("the server", NAMES)
         self.warc = usable_program(warc)
         self.site = site
+        self.is_whole = is_whole
         self.rules = rules
         self.access = rules()
         self.trouble: Optional[str] = None
@@ -265,7 +267,7 @@ class Application:
         return plain(500, "a fault of this program")
 
     def reader(self, catalogue: Catalogue, asking: Asking) -> Reader:
-        return Reader(catalogue, self.warc, self.shelf, asking.judge)
+        return Reader(catalogue, self.warc, self.shelf, asking.judge, self.is_whole)
 
     # Memento
 
@@ -446,7 +448,7 @@ class Application:
         with contextlib.ExitStack() as stack:
             if answer.reason is not None:
                 stack.enter_context(self.one_decoded())
-            archive = stack.enter_context(self.shelf.lent(answer.files))
+            archive = stack.enter_context(self.shelf.lent(answer.selection))
             content = given(lambda: answer.own_reader().content(answer, archive), *links)
             stack.callback(content.release)
             if content.length() > MOST_BODY:
@@ -478,8 +480,9 @@ class Application:
         pieces = answer.own_reader().pieces(answer, content, first, count)
         if count <= SMALL:
             return list(pieces)
-        if content.spans and self.shelf.is_file_itself(answer.files):
-            return opened_again(answer.files[0], within(content.spans, first, count))
+        spans = self.shelf.in_file(answer.selection, content.spans) if content.spans else None
+        if spans:
+            return opened_again(answer.files[0], within(spans, first, count))
         self.shelf.take_room(count)
         give_back = functools.partial(self.shelf.give_room, count)
         try:
@@ -588,7 +591,8 @@ def own_application() -> Application:
     is_set = [bool(known.get("WARC_SERVE_" + name)) for name in ("BEHIND_PROXY", "PATHS")]
     site = site_for(None, words["HOST"], known.get("WARC_SERVE_BASE_URL"), *is_set)
     rules = functools.partial(read_access, known.get("WARC_SERVE_ACCESS"), words["ONSITE"])
-    return Application(folder, None, None, limits_in(known), site, rules, known.get("WARC_SERVE_LOG"))
+    about = limits_in(known), site, rules, known.get("WARC_SERVE_LOG"), bool(known.get("WARC_SERVE_WHOLE"))
+    return Application(folder, None, None, *about)
 
 
 def application(environ: Environ, start: Start) -> Iterable[bytes]:

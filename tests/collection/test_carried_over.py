@@ -1,16 +1,18 @@
 """A catalogue of an earlier version goes on: what it knew is kept, and what it didn't know stays unknown."""
 from __future__ import annotations
 
+import gzip
 import os
 import shutil
 import sqlite3
 
 import pytest
-from conftest import Collection, put, record, to_read
+from conftest import Collection, put, record, to_read, unchanged
 
 HERE = os.path.dirname(os.path.abspath(__file__))
 VERSIONS = ("catalogue-0.2.0.sql", "catalogue-4.sql")
 READ_THEN = 1_600_000_000
+SEVENTH, EIGHTH = "http://a.example/7", "http://a.example/8"
 
 
 def archive(collection: Collection, name: str, *parts: bytes) -> str:
@@ -95,3 +97,25 @@ def test_status_counts_what_is_compared_by_less(collection: Collection) -> None:
     shutil.move(collection.path("off"), collection.path("disk"))
     collection.night()
     assert collection.status()["unhashed"] == 0
+
+
+def test_the_version_before(collection: Collection) -> None:
+    """It knew nothing of members: a file is unpacked as a whole until it is read again."""
+    carry(collection, "catalogue-5.sql")
+    members = [gzip.compress(record(7, b"seven", SEVENTH), 0), gzip.compress(record(8, b"eight", EIGHTH), 0)]
+    path = archive(collection, "packed.warc.gz", *members)
+    assert to_read(collection.night()) == 0
+    good = dict.fromkeys(("a.warc", "cut.warc", "packed.warc.gz"), "good")
+    assert collection.states() == {**good, "damaged.warc": "refused", "away.warc": "gone"}
+    known = "SELECT count(*) FROM records WHERE packed_at IS NOT NULL"
+    assert collection.ask(known) == [(0,)]
+    assert collection.run("replay", EIGHTH, "9999").stdout == b"eight"
+    torn = members[0][:-1] + b"x" + members[1]
+    unchanged(path, torn)
+    assert collection.run("replay", EIGHTH, "9999").returncode == 3, "all of it is read"
+    unchanged(path, *members)
+    collection.night("--all")
+    assert collection.ask(known) == [(2,)]
+    unchanged(path, torn)
+    assert collection.run("replay", EIGHTH, "9999").stdout == b"eight", "one member is read"
+    assert collection.run("replay", "--whole", EIGHTH, "9999").returncode == 3

@@ -87,7 +87,7 @@ def test_without_the_package(spelled: Collection) -> None:
 
 def test_an_id_is_looked_up_by_an_index(spelled: Collection) -> None:
     """Not by reading all records."""
-    from zogwedu_collection.replay import ids_like
+    from zogwedu_collection.needed import ids_like
 
     query, values = ids_like("urn:x:spaces")
     plan = spelled.ask("EXPLAIN QUERY PLAN " + query, *values)

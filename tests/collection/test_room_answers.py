@@ -292,10 +292,11 @@ def begun(room: Room, path: str) -> Any:
     return room.app({**environ, "SERVER_PROTOCOL": "HTTP/1.1"}, lambda _status, _headers: None)
 
 
+@pytest.mark.parametrize("is_whole", [False, True])
 @pytest.mark.parametrize("name", ["plain", "packed", "chunked"])
-def test_a_slow_reader_keeps_no_archive(films: Collection, name: str) -> None:
+def test_a_slow_reader_keeps_no_archive(films: Collection, name: str, is_whole: bool) -> None:
     """Others have theirs meanwhile, and the slow one has all of it in the end."""
-    room = Room(films, limits={"archives": 1})
+    room = Room(films, is_whole=is_whole, limits={"archives": 1})
     bodies = [begun(room, film(name)) for _ in range(4)]
     assert not any(held.users for held in room.app.shelf.held.values())
     assert room.ask(film("short")).status == room.ask(film("packed")).status == 200
@@ -306,13 +307,14 @@ def test_a_slow_reader_keeps_no_archive(films: Collection, name: str) -> None:
 
 def test_bytes_on_their_way_out_are_counted(films: Collection) -> None:
     """Those of compressed files are in a file without a name; those who go away leave nothing."""
-    room = Room(films, limits={"unpacked": len(LONG) * 3 + 10_000})
-    bodies = [begun(room, film("packed")) for _ in range(2)]
-    assert room.app.shelf.counts()[1] >= 3 * len(LONG)
-    assert room.ask(film("packed")).status == 503
-    for body in bodies:
-        body.close()
-    assert room.app.shelf.counts()[1] < 2 * len(LONG) and room.ask(film("packed")).body == LONG
+    for is_whole in (False, True):
+        room = Room(films, is_whole=is_whole, limits={"unpacked": len(LONG) * (2 + is_whole) + 10_000})
+        bodies = [begun(room, film("packed")) for _ in range(2)]
+        assert room.app.shelf.counts()[1] >= (2 + is_whole) * len(LONG)
+        assert room.ask(film("packed")).status == 503
+        for body in bodies:
+            body.close()
+        assert room.app.shelf.counts()[1] < (1 + is_whole) * len(LONG) and room.ask(film("packed")).body == LONG
 
 
 def test_a_file_that_changes_while_it_is_sent(collection: Collection, capfd: Any) -> None:
@@ -360,7 +362,7 @@ def test_another_catalogue_is_taken_up(collection: Collection) -> None:
 
 
 def test_metrics(films: Collection) -> None:
-    room = Room(films)
+    room = Room(films, is_whole=True)
     for path in (film("short"), film("short"), film("nothing"), "/timegate/" + URI + "short", "/nothing"):
         room.ask(path)
     text = room.ask("/metrics").text

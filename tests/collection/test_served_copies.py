@@ -80,7 +80,7 @@ class Room:
         chosen = chosen_captures(self.catalogue, Request(URI, False, "9999"), self.collection.warc)
         reader = Reader(self.catalogue, self.collection.warc, self.shelf)
         answer = reader.answer(chosen)
-        with self.shelf.lent(answer.files) as archive:
+        with self.shelf.lent(answer.selection) as archive:
             content = reader.content(answer, archive)
             return b"".join(reader.pieces(answer, content, 0, sum(map(len, content.parts))))
 

@@ -1510,7 +1510,7 @@ TEARS_OF_SURVEYS = {
 
 
 COLUMNS_OF_HASHES = {
-    "records": "hash",
+    "records": "hash packed_at packed_length packed_crc",
     "readings": "found_state found_detail found_sha256 is_hashed seen",
     "files": "due seen state_there detail_there",
 }

@@ -20,6 +20,8 @@ PIECE = 1 << 20
 
 # Reads bytes of a file, by their number and their offset, as os.pread does.
 Read = Callable[[int, int], bytes]
+# Hears of a good member: where it begins and ends, and how many bytes all members before it hold, and those up to it.
+Note = Callable[[int, int, int, int], None]
 
 
 class Form(NamedTuple):
@@ -66,12 +68,15 @@ class Damaged(Exception):
 class Members:
     """Gives what the members of a stream hold, in pieces. Raises Damaged at the first that is damaged or isn't whole.
 
-    `given` is how many bytes the members before it hold.
+    `given` is how many bytes the members before it hold. `note` hears of each member that is good.
     """
 
-    def __init__(self, source: Iterator[Union[bytes, memoryview]], form: Form) -> None:
+    def __init__(
+        self, source: Iterator[Union[bytes, memoryview]], form: Form, note: Note = lambda *_places: None
+    ) -> None:
         self._source = source
         self._form = form
+        self._note = note
         self._view = memoryview(b"")
         self._offset = 0
         self.given = 0
@@ -105,6 +110,7 @@ class Members:
             self._take(len(data) - len(member.unused_data))
             given += len(piece)
             yield piece
+        self._note(begin, self._offset, self.given, given)
         self.given = given
 
     def _has_more(self) -> bool:

@@ -87,6 +87,16 @@ class Body:
         self.own, self.undone = body, ("chunked",)
 
 
+def spans_after(parts: List[reference.Record], begin: int) -> List[Tuple[int, int]]:
+    """Where the blocks of records are, but for the first bytes of them all."""
+    spans = []
+    for part in parts:
+        left = min(begin, len(part.block))
+        spans.append((part.offset + len(part.head) + left, len(part.block) - left))
+        begin -= left
+    return spans
+
+
 class Record:
     """A record of an archive."""
 
@@ -111,10 +121,11 @@ class Record:
                 raise reference.Reason("P10 Coded")
         except reference.Reason as reason:
             raise NoBody(str(reason), given) from None
-        http = Http(origin.block) if reference.is_http_response(origin) else None
-        begin = http.start if http else 0
-        span = origin.offset + len(origin.head) + begin, len(origin.block) - begin
-        body = Body(self.archive, origin.position, [span], http)
+        parts = reference.joined(self.archive.records, origin)
+        block = b"".join(part.block for part in parts)
+        http = Http(block) if reference.is_http_response(origin) else None
+        spans = spans_after(parts, http.start if http else 0)
+        body = Body(self.archive, origin.position, spans, http)
         if decoded and stored.is_transfer_coded:
             body.undo_chunks()
         return body

@@ -1,0 +1,123 @@
+"""A record that a member of gzip holds alone is read without the rest of its file, and only if its bytes are those that
+a run read."""
+from __future__ import annotations
+
+import gzip
+import os
+import sys
+from typing import List, Optional
+
+import pytest
+from conftest import PROJECT, URI, Collection, record, unchanged
+
+sys.path.insert(0, os.path.join(PROJECT, "collection"))
+from zogwedu_collection import members  # noqa: E402
+from zogwedu_collection.unpack import members_of  # noqa: E402
+
+PAGES = [record(place, b"page %d" % place, URI + str(place)) for place in range(4)]
+READ_THEN = 1_600_000_000
+MEMBERS = [gzip.compress(page, 0) for page in PAGES]
+
+
+def places(collection: Collection) -> List[Optional[int]]:
+    """Where the members of the only file's records are."""
+    return [row[0] for row in collection.ask("SELECT packed_at FROM records ORDER BY position")]
+
+
+def test_where_members_are(collection: Collection) -> None:
+    """Two records in a member, and one in two, have none of their own. Empty members and padding belong to none."""
+    empty = gzip.compress(b"")
+    parts = [empty, MEMBERS[0], empty, gzip.compress(PAGES[1] + PAGES[2]), gzip.compress(PAGES[3][:50])]
+    parts += [gzip.compress(PAGES[3][50:]), MEMBERS[0].replace(b"-000000000000>", b"-000000000009>"), bytes(99)]
+    again = gzip.compress(record(9, b"page 9", URI + "9"))
+    parts[-2] = again
+    path = collection.put("disk/a.warc.gz", *parts)
+    assert collection.night("disk").returncode == 0
+    first, last = len(empty), os.path.getsize(path) - 99 - len(again)
+    assert places(collection) == [first, None, None, None, last]
+    rows = collection.ask("SELECT packed_at, packed_length, packed_crc FROM records WHERE packed_at IS NOT NULL")
+    with open(path, "rb") as file:
+        for (at, length, crc), page in zip(rows, (PAGES[0], record(9, b"page 9", URI + "9"))):
+            own = members.Place(at, length, crc)
+            assert b"".join(members.held_by(file, own, len(page))) == page
+    for place in range(4):
+        assert collection.run("replay", URI + str(place), "9999").stdout == b"page %d" % place
+
+
+def test_files_without_members(collection: Collection) -> None:
+    """Neither a file that isn't compressed nor a damaged one has any."""
+    collection.put("disk/a.warc", *PAGES)
+    collection.put("disk/b.warc.gz", *MEMBERS[:3], MEMBERS[3][:-1])
+    collection.night("disk")
+    assert places(collection) == [None] * 7
+    assert [collection.run("replay", URI + str(place), "9999").stdout for place in (0, 3)] == [b"page 0", b"page 3"]
+
+
+@pytest.mark.parametrize("name", ("a.warc", "a.warc.gz"))
+def test_other_bytes_with_the_same_time(collection: Collection, name: str) -> None:
+    """Another head or block, another CRC, or a member that ends elsewhere: nothing is written."""
+    parts = MEMBERS if name.endswith(".gz") else PAGES
+    path = collection.put("disk/" + name, *parts)
+    os.utime(path, (READ_THEN, READ_THEN))
+    collection.night("disk")
+    head, block = (parts[1].replace(*pair) for pair in ((b"urn:uuid", b"urn:UUID"), (b"page 1", b"page x")))
+    others = {"head": head, "moved": parts[1][1:] + b"\r"}
+    if name.endswith(".gz"):
+        anew = gzip.compress(PAGES[1].replace(b"page 1", b"page x"), 0)
+        crc = parts[1][:-8] + bytes([parts[1][-8] ^ 1]) + parts[1][-7:]
+        length = parts[1][:-1] + b"\1"
+        shorter = gzip.compress(PAGES[1][:-20], 0).ljust(len(parts[1]), b"\0")
+        others.update(block=block, anew=anew, crc=crc, length=length, shorter=shorter, none=bytes(len(parts[1])))
+    for what, other in others.items():
+        assert len(other) == len(parts[1]), what
+        unchanged(path, parts[0], other, *parts[2:])
+        done = collection.run("replay", URI + "1", "9999")
+        assert (done.returncode, done.stdout) == (3, b""), (what, done)
+        assert b"a.warc" in done.stderr and b"doesn't have the bytes that run 1 read" in done.stderr, (what, done)
+        assert collection.run("replay", URI + "2", "9999").stdout == b"page 2", what
+    unchanged(path, *parts)
+    assert collection.run("replay", URI + "1", "9999").stdout == b"page 1"
+
+
+def test_a_member_that_holds_more(collection: Collection) -> None:
+    """No more is unpacked than a record had."""
+    large = gzip.compress(record(1, bytes(1 << 24), URI + "1"))
+    path = collection.put("a.gz", large)
+    with open(path, "rb") as file:
+        noted = members.Noted(file)
+        size = sum(map(len, members_of(file, noted.note)))
+        place = noted.of(0, size)
+        assert place is not None and place.length == len(large)
+        given = 0
+        with pytest.raises(members.Other, match="more"):
+            for piece in members.held_by(file, place, 1 << 22):
+                given += len(piece)
+        assert given <= 1 << 22
+
+
+def test_what_is_compared_in_a_job(collection: Collection, monkeypatch: pytest.MonkeyPatch) -> None:
+    """A fault in the places of members is a file that failed, and nothing of it is taken in."""
+    from zogwedu_collection.job import Item, Job
+    from zogwedu_collection.program import Settings
+
+    path = collection.put("disk/a.warc.gz", *MEMBERS)
+    settings = Settings(collection.warc, "", collection.folder)
+
+    def state() -> str:
+        found = Job(settings, Item(os.path.getsize(path), path), collection.folder, collection.folder).do()
+        return "%s %s" % (found.state, found.detail)
+
+    assert state() == "good "
+    own = members.Noted.of
+
+    def next_one(self: members.Noted, begin: int, end: int) -> Optional[members.Place]:
+        """The member after the right one."""
+        place = own(self, begin, end)
+        at = place and self.offsets.index(place.offset) + 1
+        if place is None or at == len(self.offsets):
+            return place
+        assert at is not None
+        return members.Place(self.offsets[at], self.lengths[at], self.crcs[at])
+
+    monkeypatch.setattr(members.Noted, "of", next_one)
+    assert state().startswith("failed members: record ")
