@@ -89,7 +89,7 @@ TYPES = ("mypy", "--strict", "--python-version=3.9")
 LAYOUT = ("black", "--quiet", "--check", "--line-length=120")
 COLLECTION = (
     *("collection/__main__.py", "collection/zogwedu_collection"),
-    *(f"python/src/zogwedu/{name}.py" for name in ("_members", "_wacz", "_zip")),
+    *(f"python/src/zogwedu/{name}.py" for name in ("_members", "_wacz", "_zip", "_surt", "_cdxj")),
 )
 # The second reading and the generator are checked with the trials of the program.
 TRIALS = (

@@ -29,7 +29,8 @@ SERVER_LICENCE = "/usr/share/doc/python3-waitress/copyright"
 # It is for the command line of waitress, which isn't used.
 LEFT_OUT = ("runner.py", "__main__.py")
 ROOM = "zogwedu_collection/room"
-OF_PYTHON = ("_members.py", "_wacz.py", "_zip.py")
+# Modules of the Python package that this one needs too.
+OF_PYTHON = ("_members.py", "_wacz.py", "_zip.py", "_surt.py", "_cdxj.py")
 # Those of zogwedu.html that don't need the module, and the one that asks the server.
 SCRIPTS = (
     *("shared.js", "elements.js", "members.js", "words.js", "stored.js", "nodes.js", "allowed.js", "style.js"),
@@ -46,8 +47,8 @@ It also holds the tokenizer of css-tree, as Debian has it, under the MIT (Expat)
 
 
 def members() -> list[tuple[str, bytes]]:
-    """The files of the package, with their names below collection/, those of the room, and the Python package's modules
-    of members and packages."""
+    """The files of the package, with their names below collection/, those of the room, and the modules of the Python
+    package."""
     found = [os.path.join(at, name) for at, _, names in os.walk(SOURCE) for name in names]
     names = [os.path.relpath(path, SOURCE) for path in found if path.endswith(SUFFIXES)]
     of_python = ((f"zogwedu_collection/{name}", read(f"python/src/zogwedu/{name}").encode()) for name in OF_PYTHON)

@@ -238,11 +238,22 @@ def add_request(parser: argparse.ArgumentParser) -> None:
     add_program_options(parser)
 
 
+def add_index(parser: argparse.ArgumentParser) -> None:
+    """The options of an index."""
+    add = parser.add_argument
+    add("--cdx11", action="store_true", help="as CDX with eleven fields, and not as CDXJ")
+    add("--paths", metavar="FILE", help="writes the names and the paths of the files that it has to FILE")
+    add("--relative", metavar="FOLDER", help="names files by their paths below FOLDER, and not by their last part")
+    add_access(parser)
+    add("--temporary", metavar="FOLDER", help="where lines are sorted; TMPDIR or /tmp without it")
+
+
 def add_upkeep(command: Command) -> None:
     """The commands over the catalogue itself."""
     made = command("report", "writes the report, one HTML file")
     made.add_argument("path", metavar="FILE")
     add_forms(made, "in its place the files that need a look,")
+    add_index(command("cdxj", "prints an index of the captures, by which other programs of web archives find them"))
     made = command("export", "writes the tables as text, and a script for PostgreSQL's psql")
     made.add_argument("folder", metavar="FOLDER", nargs="?")
     sums = "writes the SHA-256 of each file that is known, as sha256sum does"

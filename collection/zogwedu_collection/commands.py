@@ -14,8 +14,9 @@ from .ages import is_late
 from .alarm import Alarm, acknowledge, rings
 from .captures import Request, chosen_captures, warn_of_unknown
 from .catalogue import Catalogue
+from .cdxj import NAMES, index, put_index
 from .compared import accept
-from .decode import Decoder
+from .decode import Decoder, package_for
 from .export import export
 from .hosts import site_for
 from .limits import Limits
@@ -220,6 +221,13 @@ def prune_command(options: Options) -> int:
     return 0
 
 
+def cdxj_command(options: Options) -> int:
+    package, seen = package_for("cdxj", NAMES), Seen(read_access(options.access))
+    words = options.cdx11, options.temporary, options.relative
+    indexer = index(Catalogue(options.catalogue), package, seen, *words)
+    return put_index(indexer, sys.stdout.buffer, options.paths)
+
+
 def serve_command(options: Options) -> int:
     try:
         from .serve import Place, address_of, serve  # here, since others do without a server
@@ -252,6 +260,7 @@ COMMANDS = {
     "replay": replay_command,
     "serve": serve_command,
     "access": access_command,
+    "cdxj": cdxj_command,
     "report": report_command,
     "export": export_command,
     "accept": accept_command,

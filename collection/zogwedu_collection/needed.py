@@ -199,13 +199,19 @@ class Chooser:
         """The records of a file at these positions."""
         if known.state not in READ or known.damaged or known.good_bytes is None:
             raise NoMember("the file isn't good")
-        query = ROWS + "position IN (%s) ORDER BY position" % ", ".join("?" * len(positions))
-        rows = tuple(row_of(row, known.good_bytes) for row in self.catalogue.rows(query, (known.file, *positions)))
-        if len(rows) != len(positions):
-            raise Trouble("%s was read again: try again" % escaped(known.path))
+        rows = rows_of(self.catalogue, known, positions, known.good_bytes)
         if any(row.hash is None or (row.place is None and row.size() > MOST_COPIED) for row in rows):
             raise NoMember("a record isn't known well enough, or is too long to be copied")
         return rows
+
+
+def rows_of(catalogue: Catalogue, known: Known, positions: Sequence[int], whole: int) -> Tuple[Row, ...]:
+    """The records of a file at these positions, as the catalogue has them. The file holds this number of bytes."""
+    query = ROWS + "position IN (%s) ORDER BY position" % ", ".join("?" * len(positions))
+    rows = tuple(row_of(row, whole) for row in catalogue.rows(query, (known.file, *positions)))
+    if len(rows) != len(positions):
+        raise Trouble("%s was read again: try again" % escaped(known.path))
+    return rows
 
 
 def row_of(columns: Sequence[Any], whole: int) -> Row:

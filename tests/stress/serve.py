@@ -1010,8 +1010,8 @@ def broken(trial: Trial, _script: Script) -> None:
     for number, (name, old, new, part) in enumerate(BROKEN):
         folder = trial.path("broken-%d" % number)
         shutil.copytree(os.path.join(TOP, "collection"), folder)
-        for name in ("_members.py", "_wacz.py", "_zip.py"):
-            shutil.copy(os.path.join(TOP, "python", "src", "zogwedu", name), f"{folder}/zogwedu_collection")
+        for module in ("_members.py", "_wacz.py", "_zip.py", "_surt.py", "_cdxj.py"):
+            shutil.copy(os.path.join(TOP, "python", "src", "zogwedu", module), f"{folder}/zogwedu_collection")
         path = os.path.join(folder, "zogwedu_collection", name)
         with open(path, encoding="utf-8") as file:
             text = file.read()

@@ -5,19 +5,24 @@ python -m zogwedu salvage ARCHIVE OUT: writes all good records of an archive, co
 python -m zogwedu wacz FILE: prints the archives of a package, the verdicts on its files, and its pages.
 
 python -m zogwedu join FILE: writes what the archives of a package hold, one after another, to standard output.
+
+python -m zogwedu cdxj [--cdx11] ARCHIVE: prints an index of its captures, in CDXJ or in CDX with eleven fields.
 """
 import os
 import sys
 from typing import BinaryIO, List, NamedTuple, Sequence, Union
 
 from . import Archive, Body, CompressedError, NoBody, Record, Refused, Undecodable, WarcError, salvage
+from ._cdxj import HEAD_11, is_fit, line_11_of, line_of
+from ._indexed import indexed
 from ._library import CODED
 from ._packages import run
 
 USAGE = """usage: python -m zogwedu unpack [--stored] ARCHIVE FOLDER
        python -m zogwedu salvage ARCHIVE OUT
        python -m zogwedu wacz [--verdicts] FILE
-       python -m zogwedu join FILE"""
+       python -m zogwedu join FILE
+       python -m zogwedu cdxj [--cdx11] ARCHIVE"""
 CAPTURES = ("response", "resource", "revisit")
 COLUMNS = ("position", "file", "given", "status", "length", "coding", "type", "date", "target", "reason")
 
@@ -124,11 +129,38 @@ def save(path: str, out: str) -> int:
     return 2 if salvaged.damage else 0
 
 
+def put_index(path: str, has_11: bool) -> int:
+    """Prints an index, and says how many captures it leaves out; answers the exit status."""
+    if has_11 and not is_fit(os.path.basename(path)):
+        raise OSError(f"{os.path.basename(path)!r} can't be a field of CDX")
+    found = indexed(path)
+    lines = sorted(map(line_11_of if has_11 else line_of, found.entries))
+    sys.stdout.writelines([HEAD_11, *lines] if has_11 else lines)
+    if found.left_out:
+        print(f"zogwedu: {found.left_out} captures without a member of gzip of their own are left out", file=sys.stderr)
+    return 1 if found.left_out else 0
+
+
+def index_command(words: List[str]) -> int:
+    """Does `cdxj`; answers the exit status."""
+    has_11 = words[:1] == ["--cdx11"]
+    try:
+        return put_index(words[-1], has_11)
+    except (CompressedError, OSError) as error:
+        print(f"zogwedu: {error}", file=sys.stderr)
+        return 3
+    except WarcError as error:
+        print(f"zogwedu: {error}", file=sys.stderr)
+        return 2
+
+
 def main(words: List[str]) -> int:
     """Runs the command, and answers the exit status: 0, 2 for an archive that is refused, 3 for anything else."""
     status = run(words)
     if status is not None:
         return status
+    if words[:1] == ["cdxj"] and len(words) == 2 + (words[1:2] == ["--cdx11"]):
+        return index_command(words[1:])
     if words[:1] == ["salvage"] and len(words) == 3:
         try:
             return save(words[1], words[2])
