@@ -10,6 +10,7 @@ import struct
 from typing import IO, TYPE_CHECKING, Iterator, NamedTuple, Optional
 
 from .parts import HASH_DIGITS, MOST_HASHED
+from .texts import Trouble
 
 if TYPE_CHECKING:
     from zogwedu import _members
@@ -56,8 +57,8 @@ class Row(NamedTuple):
         return self.size() if self.place is None else self.place.length
 
 
-class NoMember(Exception):
-    """A record can't be read without the rest of its file, or too many would have to be."""
+class NoMember(Trouble):
+    """A record can't be read without the rest of its file, or too many would have to be. Whole files are read then."""
 
 
 class Other(Exception):

@@ -4,6 +4,7 @@ import gzip
 import http.server
 import importlib.util
 import io
+import json
 import os
 import shutil
 import subprocess
@@ -289,6 +290,51 @@ class Damaged(InFolder):
             with self.assertRaises(OSError) as raised:
                 zogwedu.Archive.open(Failing(self.whole[:count]))
             self.assertEqual(raised.exception.errno, 5)
+
+
+class Indexes(InFolder):
+    """`cdxj`: each line leads to its record."""
+
+    def index(self, data: bytes, *words: str) -> Tuple[List[str], "subprocess.CompletedProcess[str]"]:
+        """The lines of an index."""
+        whole = [sys.executable, "-m", "zogwedu", "cdxj", *words, self.file(data)]
+        done = subprocess.run(whole, capture_output=True, text=True, check=False)
+        self.assertNotIn("Traceback", done.stderr)
+        return done.stdout.splitlines(), done
+
+    def wanted(self) -> List[bytes]:
+        """The records that have a line."""
+        with zogwedu.Archive.open(CRAWL) as archive:
+            kinds = [record.type in ("response", "resource", "revisit") and bool(record.target) for record in archive]
+        return [record for record, is_one in zip(records(), kinds) if is_one]
+
+    def test_each_line(self) -> None:
+        members = b"".join(gzip.compress(record) + gzip.compress(b"") for record in records()) + bytes(9)
+        for data, tail in ((members, b""), (contents(CRAWL), b"\r\n\r\n")):
+            lines, done = self.index(data)
+            self.assertEqual((done.returncode, lines), (0, sorted(lines)), done.stderr)
+            found = []
+            for line in lines:
+                fields = json.loads(line.split(" ", 2)[2])
+                begin, length = int(fields["offset"]), int(fields["length"])
+                part = data[begin : begin + length]
+                found.append(part + tail if tail else zlib.decompress(part, zlib.MAX_WBITS | 16))
+                self.assertIn(b"WARC-Target-URI: " + fields["url"].encode(), found[-1].replace(b"<", b""))
+            self.assertEqual(sorted(found), sorted(self.wanted()))
+            elevens, _ = self.index(data, "--cdx11")
+            self.assertEqual(elevens[0], " CDX N b a m s k r M S V g")
+            self.assertEqual([line.split(" ")[:2] for line in elevens[1:]], [it.split(" ")[:2] for it in lines])
+            self.assertEqual({len(line.split(" ")) for line in elevens[1:]}, {11})
+
+    def test_records_without_a_place(self) -> None:
+        lines, done = self.index(gzip.compress(contents(CRAWL)))
+        self.assertEqual((lines, done.returncode), ([], 1))
+        self.assertIn("%d captures without" % len(self.wanted()), done.stderr)
+
+    def test_files_that_are_refused(self) -> None:
+        for data, status in ((contents(CRAWL)[:-1], 2), (gzip.compress(contents(CRAWL))[:-1], 3)):
+            lines, done = self.index(data)
+            self.assertEqual((lines, done.returncode), ([], status))
 
 
 class GoodMembers(InFolder):

@@ -5,13 +5,16 @@ from __future__ import annotations
 import gzip
 import os
 import sys
-from typing import List, Optional
+from typing import IO, List, Optional
 
 import pytest
 from conftest import PROJECT, URI, Collection, record, unchanged
+from rooms import ID, program
 
 sys.path.insert(0, os.path.join(PROJECT, "collection"))
-from zogwedu_collection import members  # noqa: E402
+from zogwedu_collection import members, sample  # noqa: E402
+from zogwedu_collection.job import Item, Job  # noqa: E402
+from zogwedu_collection.program import Settings  # noqa: E402
 from zogwedu_collection.unpack import members_of  # noqa: E402
 
 PAGES = [record(place, b"page %d" % place, URI + str(place)) for place in range(4)]
@@ -95,29 +98,57 @@ def test_a_member_that_holds_more(collection: Collection) -> None:
         assert given <= 1 << 22
 
 
-def test_what_is_compared_in_a_job(collection: Collection, monkeypatch: pytest.MonkeyPatch) -> None:
+def state_of(warc: str, folder: str, path: str) -> str:
+    """The state that a job gives a file, and why."""
+    found = Job(Settings(warc, "", folder), Item(os.path.getsize(path), path), folder, folder).do()
+    return "%s %s" % (found.state, found.detail)
+
+
+def test_places_are_compared_in_a_job(collection: Collection, monkeypatch: pytest.MonkeyPatch) -> None:
     """A fault in the places of members is a file that failed, and nothing of it is taken in."""
-    from zogwedu_collection.job import Item, Job
-    from zogwedu_collection.program import Settings
-
     path = collection.put("disk/a.warc.gz", *MEMBERS)
-    settings = Settings(collection.warc, "", collection.folder)
-
-    def state() -> str:
-        found = Job(settings, Item(os.path.getsize(path), path), collection.folder, collection.folder).do()
-        return "%s %s" % (found.state, found.detail)
-
-    assert state() == "good "
+    assert state_of(collection.warc, collection.folder, path) == "good "
     own = members.Noted.of
 
     def next_one(self: members.Noted, begin: int, end: int) -> Optional[members.Place]:
         """The member after the right one."""
         place = own(self, begin, end)
-        at = place and self.offsets.index(place.offset) + 1
-        if place is None or at == len(self.offsets):
+        at = len(self.offsets) if place is None else self.offsets.index(place.offset) + 1
+        if at == len(self.offsets):
             return place
-        assert at is not None
         return members.Place(self.offsets[at], self.lengths[at], self.crcs[at])
 
     monkeypatch.setattr(members.Noted, "of", next_one)
-    assert state().startswith("failed members: record ")
+    assert state_of(collection.warc, collection.folder, path).startswith("failed members: record ")
+
+
+def test_facts_are_compared_in_a_job(collection: Collection, monkeypatch: pytest.MonkeyPatch) -> None:
+    """So is one in the choosing of records."""
+    first = record(1, b"abc", URI, WARC_Segment_Number="1")
+    of = {"WARC_Segment_Origin_ID": ID % 1, "WARC_Segment_Number": "2", "WARC_Segment_Total_Length": "6"}
+    second = record(2, b"def", URI, WARC_Type="continuation", **of)
+    path = collection.put("disk/a.warc.gz", *map(gzip.compress, (second, first, PAGES[3])))
+    assert state_of(program(), collection.folder, path) == "good "
+    monkeypatch.setattr(sample.Sample, "continuations", lambda *_: set())
+    assert state_of(program(), collection.folder, path).startswith("failed members: capture 1 gives other facts")
+
+
+def test_how_much_is_compared_in_a_job(collection: Collection, monkeypatch: pytest.MonkeyPatch) -> None:
+    """Twenty captures, any of them; of long ones fewer."""
+    copied: List[int] = []
+    copy = sample.Sample.copy
+
+    def counted(self: sample.Sample, position: int, archive: IO[bytes]) -> bool:
+        copied.append(position)
+        return copy(self, position, archive)
+
+    monkeypatch.setattr(sample.Sample, "copy", counted)
+    pages = [gzip.compress(record(place, b"%d" % place, URI + str(place))) for place in range(300)]
+    path = collection.put("disk/a.warc.gz", *pages)
+    assert state_of(collection.warc, collection.folder, path) == "good "
+    assert len(copied) == 20 and max(copied) > 30, copied
+    long = [gzip.compress(record(place, bytes(300_000), URI + str(place)), 1) for place in range(30)]
+    path = collection.put("disk/b.warc.gz", *long)
+    copied.clear()
+    assert state_of(collection.warc, collection.folder, path) == "good "
+    assert len(copied) == 3
