@@ -191,8 +191,13 @@ def sorting(out: IO[bytes], temporary: str) -> Iterator[IO[bytes]]:
     with subprocess.Popen(words, stdin=subprocess.PIPE, stdout=subprocess.PIPE, env=how) as child:
         assert child.stdin is not None and child.stdout is not None
         try:
-            yield child.stdin
-            child.stdin.close()
+            try:
+                yield child.stdin
+                child.stdin.close()
+            except BrokenPipeError:
+                with contextlib.suppress(BrokenPipeError):
+                    child.stdin.close()
+                raise Trouble("sort ended before it had all lines: the index isn't whole") from None
             shutil.copyfileobj(child.stdout, out)
         except BaseException:
             child.kill()

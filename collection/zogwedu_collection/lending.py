@@ -9,7 +9,6 @@ from typing import Any, Callable, Iterator, List, Optional, Sequence, Tuple
 
 from .captures import Capture
 from .catalogue import Catalogue, Known
-from .members import NoMember
 from .needed import Names, Selection
 from .replay import CODED, DISAGREE, Answer, Replayer, check_path, do_agree, names_of
 from .shelf import Shelf
@@ -139,14 +138,7 @@ class Reader(Replayer):
             self.judge(row[0], row[1])
         return file, position
 
-    def names_in(self, known: Known, position: int) -> Names:
-        try:
-            return self.names_at(self.one(known, position), 0)
-        except NoMember:
-            return self.names_at(Selection((known,)), position)
-
-    def names_at(self, selection: Selection, at: int) -> Names:
-        """What the head of a revisit at a place of an archive names."""
+    def names_in(self, selection: Selection, at: int) -> Names:
         with self.shelf.lent(selection) as archive:
             return names_of(archive[at].headers)
 

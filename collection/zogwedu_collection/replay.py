@@ -325,7 +325,7 @@ class Replayer:
         self.temporary = temporary_folder(temporary)
         self.options = ["--stored"] if is_stored else []
         self.is_whole = is_whole
-        self.chooser = Chooser(catalogue, warc, self.named)
+        self.chooser = Chooser(catalogue, warc, self.named_alone)
         self.asked: Dict[Tuple[int, Optional[int]], List[Capture]] = {}
         self.names: Dict[Tuple[int, int], Names] = {}
         self.passed: List[str] = []
@@ -413,17 +413,24 @@ class Replayer:
     def record(self, known: Known, position: int, instead: str = "") -> bytes:
         """The bytes of a record, up to the beginning of the next one. If they are too many, a line says what there is
         instead."""
-        with contextlib.suppress(NoMember):
-            selection = self.one(known, position)
-            refuse_long(known, position, selection.size(), instead)
+        try:
+            return self.record_in(self.one(known, position), 0, instead)
+        except NoMember:
+            return self.record_in(Selection((known,)), position, instead)
+
+    def record_in(self, selection: Selection, at: int, instead: str = "") -> bytes:
+        """The bytes of the record at a place of the archive of one record, or of one file."""
+        known = selection.files[0]
+        if selection.rows is not None:
+            refuse_long(known, selection.rows[0][at].position, selection.size(), instead)
             return b"".join(self.files.some(selection))
         query = "SELECT at_offset FROM records WHERE file = ? AND position BETWEEN ? AND ? ORDER BY position"
-        places = [row[0] for row in self.catalogue.rows(query, (known.file, position, position + 1))]
+        places = [row[0] for row in self.catalogue.rows(query, (known.file, at, at + 1))]
         if not places:
             raise Trouble("%s was read again: try again" % escaped(known.path))
-        with self.files.joined(Selection((known,))) as source:
+        with self.files.joined(selection) as source:
             end = places[1] if len(places) > 1 else source.seek(0, os.SEEK_END)
-            refuse_long(known, position, end - places[0], instead)
+            refuse_long(known, at, end - places[0], instead)
             source.seek(places[0])
             return b"".join(iter(lambda: source.read(min(PIECE, end - source.tell())), b""))
 
@@ -435,18 +442,26 @@ class Replayer:
 
     def named(self, file: int, position: int) -> Names:
         """What the head of a revisit names: the id, the target and the date of its referent."""
+        try:
+            return self.named_alone(file, position)
+        except NoMember:
+            self.names[file, position] = self.names_in(Selection((self.known(file),)), position)
+            return self.names[file, position]
+
+    def named_alone(self, file: int, position: int) -> Names:
+        """The same, by its own record. NoMember where it can't be read by itself."""
         if (file, position) not in self.names:
-            self.names[file, position] = self.names_in(self.known(file), position)
+            self.names[file, position] = self.names_in(self.one(self.known(file), position), 0)
         return self.names[file, position]
 
-    def names_in(self, known: Known, position: int) -> Names:
-        """The same, which the Python package reads of the head."""
+    def names_in(self, selection: Selection, at: int) -> Names:
+        """What the head of a revisit at a place of an archive names. The Python package reads it."""
         package = package_for("a body that may be in another file", ("Archive", "WarcError"))
         try:
-            with package.Archive(self.record(known, position)) as archive:
+            with package.Archive(self.record_in(selection, at)) as archive:
                 return names_of(archive[0].headers)
         except package.WarcError as error:
-            raise Trouble("%s: %s" % (escaped(known.path), escaped(str(error)))) from None
+            raise Trouble("%s: %s" % (escaped(selection.files[0].path), escaped(str(error)))) from None
 
     def candidates(self, capture: Capture) -> List[Capture]:
         """Captures of other files that may be what a capture lacks. The program judges whether they are. No capture is

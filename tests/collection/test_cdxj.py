@@ -9,7 +9,7 @@ import zlib
 from typing import Any, Dict, List, Tuple
 
 import pytest
-from conftest import Collection, Done, put, record
+from conftest import Collection, Done, put, record, script
 from rooms import HTTP, ID, PACKAGE, new_collection, read, response, revisit
 
 FIRST, SECOND = "2020-01-01T00:00:00Z", "2021-06-01T12:30:00.5Z"
@@ -211,8 +211,8 @@ def test_a_full_disk(collection: Collection) -> None:
     collection.put("disk/a.warc", RECORDS[1])
     read(collection)
     assert index(collection, "--temporary", collection.path("nowhere")).returncode == 3
-    failing = put(collection.path("bin/sort"), b"#!/bin/sh\ncat > /dev/null; exit 2\n")
-    os.chmod(failing, 0o755)
-    path = os.path.dirname(failing) + ":" + os.environ["PATH"]
-    done: Any = collection.run("cdxj", env={"PYTHONPATH": PACKAGE, "PATH": path})
-    assert done.returncode == 3 and b"the index isn't whole" in done.stderr
+    for what in ("cat > /dev/null; exit 2", "exec <&-; exit 2"):
+        failing = script(collection.path("bin/sort"), what + "\n")
+        path = os.path.dirname(failing) + ":" + os.environ["PATH"]
+        done: Any = collection.run("cdxj", env={"PYTHONPATH": PACKAGE, "PATH": path})
+        assert done.returncode == 3 and b"the index isn't whole" in done.stderr, what
