@@ -25,6 +25,7 @@ CRLF = re.compile(r"\r\n|\\r\\?\??\\n|\\x0d\\x0a", re.IGNORECASE)
 BY_NAME = "asks for a field of a head that the library has read, by its name"
 OWN_ANSWER = "a field of an answer of the server itself"
 CHUNKS = "undoes chunks, which are no head"
+MADE = "makes a head with the hash of a file, so that the library judges the file"
 # The texts of each file that may be there, and why.
 NAMED: dict[str, dict[str, str]] = {
     "collection/zogwedu_collection/access.py": {
@@ -51,16 +52,23 @@ NAMED: dict[str, dict[str, str]] = {
     "page/elements.js": {r"\r\n": "a head that is shown whole, with the line ends of a page"},
     "page/record.js": {"WARC-Block-Digest": BY_NAME},
     "page/style.js": {r"\r\n?|\f": "line ends of a style, as browsers read them"},
+    "page/wacz.js": {
+        r"WARC/1.1\r\nWARC-Type: metadata\r\nWARC-Date: 2020-01-01\r\n": MADE,
+        r"WARC-Record-ID: <urn:uuid:00000000-0000-4000-8000-000000000001>\r\n": MADE,
+        r"WARC-Block-Digest: ${algorithm}:${digits}\r\nContent-Length: ${entry.size}\r\n\r\n": MADE,
+    },
     "page/worker.js": {
         r"\r\n\r\n${RECORD}1.": "a guess where a record begins, to divide a file; the library says whether one does"
     },
     "python/src/zogwedu/__main__.py": {"WARC-Segment-Number": BY_NAME},
     "python/src/zogwedu/_archive.py": {"WARC-Segment-Number": BY_NAME},
+    "python/src/zogwedu/_cdxj.py": {"WARC-Payload-Digest": BY_NAME},
     "python/src/zogwedu/_decoding.py": {
         r"([0-9A-Fa-f]{1,15})[ \t]*(?:;[^\n]*)?\r?\n": CHUNKS,
         r"\r?\n": CHUNKS,
     },
     "python/src/zogwedu/_heads.py": {"HTTP/1.": "makes the text of a version that the library has read"},
+    "python/src/zogwedu/_surt.py": {r"[\t\r\n]": "characters that are taken out of a URL"},
 }
 # What a script of the page is made of: comments, texts, and regular expressions, which a slash begins that divides
 # nothing.

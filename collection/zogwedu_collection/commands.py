@@ -16,7 +16,7 @@ from .captures import Request, chosen_captures, warn_of_unknown
 from .catalogue import Catalogue
 from .cdxj import NAMES, index, put_index
 from .compared import accept
-from .decode import Decoder, package_for
+from .decode import Decoder
 from .export import export
 from .hosts import site_for
 from .limits import Limits
@@ -24,6 +24,7 @@ from .listing import capture_line, is_partly_unread, put, status_pieces
 from .manifest import told_unknown, write_manifest
 from .metrics import check_metrics, write_metrics
 from .moves import forget_files, prune
+from .package import package_for
 from .program import usable_program
 from .replay import Answer, Replayer, settled, without_troubled, write_body
 from .report import write_report

@@ -15,7 +15,6 @@ from .damaged import Pieces, TooSlow, counted_pieces, good_records, patience_for
 from .disk import Stamp, open_regular, open_stamp, reason_of, stamp_of, temporary_folder
 from .members import Noted
 from .pace import Pace
-from .packages import About, Joined, good_of_parts, has_good_parts, is_package, pieces_of
 from .parts import SURVEY, Parts, Tally
 from .program import Settings, said
 from .sample import Sample
@@ -23,6 +22,7 @@ from .space import Full, Room
 from .states import DAMAGED, READ
 from .texts import counted
 from .unpack import PIECE, Damaged, Unsupported, unpacked, write_all
+from .wacz import About, Joined, good_of_parts, has_good_parts, is_package, pieces_of
 
 # The words of each command, by the name of what it writes, and the statuses with which it is done.
 COMMANDS = {

@@ -36,10 +36,10 @@ from .disk import Stamp, open_regular, open_stamp, reason_of, stamp_of, temporar
 from .members import NoMember, Other, Row, record_at
 from .needed import Chooser, Names, Selection, ids_like
 from .package import package_for
-from .packages import good_of_parts, has_good_parts, pieces_of
 from .program import instant_of, said
 from .texts import Stored, Trouble, decoded, escaped, real_path, say
 from .unpack import PIECE, Damaged, Unsupported, is_of_gzip, write_all
+from .wacz import good_of_parts, has_good_parts, pieces_of
 
 MOST_CANDIDATES = 64
 # The most captures that are asked what they lack, for one that is replayed.

@@ -19,10 +19,10 @@ from .job_folders import drop_folders, folders_of, names_in
 from .lines import RecordRow, Sums, capture_rows, digest_rows, finding_rows, payload_rows, payloads_of, record_rows
 from .manifest import compare_stated
 from .moves import settle_moves
-from .packages import load_package
 from .parts import Parts
 from .states import ABOUT_BYTES, as_list
 from .texts import decoded, now, say, shown, stored_path
+from .wacz import load_package
 
 MOST_ROWS = 200_000
 # The columns of a reading that count something, in the order in which they are counted.

@@ -32,13 +32,13 @@ from .memento import TIMEMAPS, Around, NotOne, Paths, digits_of, head_links, htt
 from .memento import instants_of, json_timemap, key_in, link_timemap, referred, target_in
 from .near import as_rows, near_captures, targets_below
 from .package import package_for
-from .packages import pages_from
 from .program import BadDate, instant_of, usable_program
 from .responses import ASKED_EACH_TIME, FORBIDS_ALL, VISIBLE, Headers, Refusal, Response, close, moved, phrase, plain
 from .room import Pages
 from .shelf import PATIENCE_SECONDS, Shelf
 from .texts import Stored, Trouble, escaped, say
 from .timemaps import Listing, Seen
+from .wacz import pages_from
 from .watch import METRICS, Watch
 
 NAMES = ("Archive", "NoBody", "Undecodable", "WarcError")

@@ -20,7 +20,7 @@ if TYPE_CHECKING:
 else:
     from zogwedu_collection import _wacz
 
-SCRIPTS = ("shared.js", "members.js", "zip.js", "wacz.js", "unpack.js")
+SCRIPTS = ("shared.js", "members.js", "search.js", "zip.js", "wacz.js", "unpack.js")
 # The library judges a block by the digest that its head states; here node does.
 READ = """async (files) => {
   const crypto = require('crypto');
@@ -41,7 +41,8 @@ READ = """async (files) => {
     for (const it of opening.packages)
       said.push({resources: await it.resources(judge), pages: await it.pages(), signer: await it.signer()});
     const bytes = new Uint8Array(await joined.arrayBuffer());
-    found.push({bytes, names: joining.parts.map(({name}) => name), damage: joining.damage ?? opening.damage, said});
+    const damage = joining.damage ?? opening.damage ?? joining.gaps[0] ?? null;
+    found.push({bytes, names: joining.parts.map(({name}) => name), damage, said});
   }
   return found;
 }"""
