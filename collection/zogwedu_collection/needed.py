@@ -179,7 +179,8 @@ class Chooser:
         return found
 
     def continuations_of(self, known: Known) -> List[int]:
-        query = "SELECT position FROM records WHERE file = ? AND lower(kind) = 'continuation' LIMIT ?"
+        # By the index of continuations: not all records of the file are looked at.
+        query = "SELECT position FROM records WHERE +file = ? AND lower(kind) = 'continuation' LIMIT ?"
         return [row[0] for row in self.catalogue.rows(query, (known.file, MOST_CONTINUATIONS + 1))]
 
     def is_segmented(self, known: Known) -> bool:
