@@ -23,6 +23,8 @@ MOST_SECONDS = 600
 # As the tests are run over a project that was mended, or over one that wasn't.
 PROJECT = os.environ.get("COLLECTION_PROJECT", TOP)
 USES_WARC = ("run", "plan", "find", "replay")
+# Whether answers are by whole files, and not by members: the same tests hold.
+IS_WHOLE = bool(os.environ.get("COLLECTION_WHOLE"))
 Done = subprocess.CompletedProcess
 
 
@@ -85,8 +87,9 @@ class Collection:
         return self.put(name, *(record(place, b"page %d" % place, URI + str(place)) for place in range(count)))
 
     def words(self, command: str, *words: str, catalogue: str = "catalogue") -> List[str]:
-        warc = ["--warc", self.warc] if command in USES_WARC and "--warc" not in words else []
-        return [*self.script(), "-c", self.path(catalogue), command, *warc, *words]
+        more = ["--warc", self.warc] if command in USES_WARC and "--warc" not in words else []
+        more += ["--whole"] if command == "replay" and IS_WHOLE else []
+        return [*self.script(), "-c", self.path(catalogue), command, *more, *words]
 
     def script(self) -> List[str]:
         """What runs the package."""

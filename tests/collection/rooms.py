@@ -1,6 +1,7 @@
 """What the tests of the room share: a collection that is read, and the application over it, asked without a network."""
 from __future__ import annotations
 
+import functools
 import io
 import json
 import os
@@ -9,7 +10,7 @@ import sys
 from typing import Any, Dict, Iterable, List, Optional, Sequence, Tuple
 
 import pytest
-from conftest import PACKAGE, PROJECT, TOP, Collection, record
+from conftest import IS_WHOLE, PACKAGE, PROJECT, TOP, Collection, record
 
 sys.path.insert(0, os.path.join(PROJECT, "collection"))
 sys.path.insert(0, PACKAGE)
@@ -83,9 +84,9 @@ class Room:
         site = site_for(None, hosts, base_url, is_behind_proxy, words.pop("has_paths", False))
         limits = Limits(**words.pop("limits", {}))
         folder = collection.path("catalogue")
-        self.app = Application(
-            folder, program(), collection.folder, limits, site, lambda: read_access(access, networks), **words
-        )
+        rules = functools.partial(read_access, access, networks)
+        words.setdefault("is_whole", IS_WHOLE)
+        self.app = Application(folder, program(), collection.folder, limits, site, rules, **words)
 
     def ask(self, path: str, method: str = "GET", environ: Any = None, **fields: Any) -> Reply:
         """Asks for a path, as waitress would, with fields of a head."""

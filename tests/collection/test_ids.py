@@ -1,7 +1,7 @@
 """A revisit finds the record that it names in another file, however both spell the id, as the program compares ids."""
 from __future__ import annotations
 
-from typing import List
+from typing import List, Sequence
 
 import pytest
 from conftest import URI, Collection, record
@@ -43,11 +43,12 @@ def spelled_fixture(tmp_path_factory: pytest.TempPathFactory) -> Collection:
     return collection
 
 
+@pytest.mark.parametrize("ways", [(), ("--whole",)])
 @pytest.mark.parametrize("number", range(len(SAME) + len(OTHER)))
-def test_ids(spelled: Collection, number: int) -> None:
+def test_ids(spelled: Collection, number: int, ways: Sequence[str]) -> None:
     uri = "%sy%d" % (URI, number)
-    reply = Room(spelled).ask("/memento/20210601120000/" + uri)
-    done = spelled.run("replay", uri, "9999")
+    reply = Room(spelled, is_whole=bool(ways)).ask("/memento/20210601120000/" + uri)
+    done = spelled.run("replay", *ways, uri, "9999")
     if number < len(SAME):
         assert (reply.status, reply.body, done.stdout) == (200, b"body %d" % number, b"body %d" % number), (reply, done)
     else:
