@@ -218,7 +218,7 @@ class Packages(unittest.TestCase):
         with written(good) as path:
             self.assertEqual([run(*command, path)[0] for command in (["wacz"], ["wacz", "--verdicts"])], [0, 0])
             self.assertEqual(run("join", path), (0, CRAWL, b""))
-            self.assertEqual(run("join", "/dev/stdin", stdin=good), (0, CRAWL, b""))
+            self.assertEqual(run("join", "-", stdin=good), (0, CRAWL, b""))
             self.assertEqual(run("wacz", f"{path}.none")[0], 3)
         for files in (files_of(SEAM)[:-1], [*files_of(SEAM), ("x", b"")], files_of(SEAM)[:-2]):
             with written(packed_files(files)) as path:

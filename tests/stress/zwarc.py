@@ -265,9 +265,10 @@ def bad_packages(trials: Trials, archives: Mapping[str, bytes]) -> None:
             (["list", "-"], path, None),
             (["list", "-"], None, data),
         ):
-            judge_bad(trials, words, standard, piped)
             seen = trials.run(["zwarc", *words], standard, piped)
-            trials.judge(seen.message.startswith(line), words, seen)
+            is_named = b"\nzwarc: %s isn't decompressed to its end" % words[1].encode() in seen.message
+            is_right = (seen.out, seen.status) == (b"", 3) and seen.message.startswith(line) and is_named
+            trials.judge(is_right, words, seen)
     path = trials.file("torn.wacz", wacz_of({"a.warc": PLAIN[:-1]}))
     trials.compare(["list", path], ["list", trials.file("plain", PLAIN[:-1])])
     tool(trials, "python3", "exit 1")

@@ -183,8 +183,10 @@ def judge_package(path: str) -> int:
 
 
 def join(path: str) -> int:
-    """Writes what the archives of a package hold, one after another, to standard output."""
-    with open(path, "rb") as given, _seekable(given) as file:
+    """Writes what the archives of a package hold, one after another, to standard output. `-` is standard input, whose
+    pipe isn't opened anew: nobody may be there who writes to it."""
+    given: IO[bytes] = open(0, "rb", closefd=False) if path == "-" else open(path, "rb")
+    with given, _seekable(given) as file:
         if _is_empty_file(sys.stdout.fileno()):
             with open(sys.stdout.fileno(), "wb", buffering=0, closefd=False) as out, open("/dev/stdout", "rb") as own:
                 return _judge_parts(own, join_package(file, out, Upon.RAISE))
