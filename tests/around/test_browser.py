@@ -32,6 +32,15 @@ def test_part_of_the_page(part: str, warc: str, tmp_path: Path) -> None:
     assert tests.passed > 0 and tests.failed == 0
 
 
+@pytest.mark.xdist_group("served-page")
+def test_pages_of_packages(warc: str, tmp_path: Path) -> None:
+    needs("chromium", "parallel")
+    built("out/python/zogwedu/libwarc.so")
+    trial = Trial(warc, str(tmp_path))
+    tests = test_served.packages(trial)
+    assert tests.passed > 0 and tests.failed == 0 and trial.surprises == 0
+
+
 @pytest.fixture(name="room", scope="module")
 def room_fixture(warc: str, tmp_path_factory: pytest.TempPathFactory) -> Iterator[Room]:
     """A browser over a server over a collection."""

@@ -20,10 +20,11 @@ from collections.abc import Iterator
 from typing import Any
 
 HERE = os.path.dirname(os.path.abspath(__file__))
-sys.path[:0] = [HERE, os.path.join(os.path.dirname(HERE), "stress")]
+sys.path[:0] = [HERE, *(os.path.join(os.path.dirname(HERE), name) for name in ("stress", "reference"))]
 from browser import Browser
 from collection_trial import Trial, put, record
 from listener import Listener
+from packages import page_line, wacz_of
 from serve_trial import PACKAGE, Served, served, wait_for
 
 FIRST, SECOND = "2020-01-01T00:00:00Z", "2021-06-01T12:00:00Z"
@@ -281,6 +282,35 @@ def as_it_is(tests: Tests, listener: Listener, folder: str) -> None:
     tests.holds(len(listener.hosts) > 2, "the page as it is gets out", len(listener.hosts))
 
 
+def packages(trial: Trial) -> Tests:
+    """The pages of a package, before a URI is typed: a hundred at once, as of their first captures."""
+    title = "<img src=x onerror='ran = 1'>\u202e %d"
+    uris = [TOP + b"%d" % number for number in range(150)]
+    made = (
+        response(number, FIRST, b"%d" % number, b"text/html", b"<h1>Page %d</h1>" % number) for number in range(150)
+    )
+    pages = (page_line(uri.decode(), "2019-12-31T23:59:59.6Z", title=title % number) for number, uri in enumerate(uris))
+    put(os.path.join(trial.path("packed"), "a.wacz"), wacz_of({"a.warc": b"".join(made)}, b"".join(pages)))
+    trial.run("p", "run", "--quiet", trial.path("packed"))
+    with served(trial, "p") as server:
+        browser = Browser()
+        with contextlib.closing(browser):
+            tests, lines = Tests(browser, server), "document.querySelectorAll('.found li').length"
+            tests.go("")
+            tests.holds(tests.becomes(f"{lines} === 100"), "pages of a package", tests.text())
+            first = str(browser.run("document.querySelector('.found li').innerText"))
+            tests.holds("first captured later" in first and "<img" in first and "U+202E" in first, "a page", first)
+            tests.holds("show blank" in tests.text(), "what scripts build is blank", tests.text())
+            browser.run("[...document.querySelectorAll('#record button')].pop().click()")
+            tests.holds(tests.becomes(f"{lines} === 150"), "more pages", tests.text())
+            browser.run("[...document.querySelectorAll('.found a')].pop().click()")
+            tests.holds(tests.shows("Page 149"), "a page as of its first capture", tests.text())
+            browser.run("history.back()")
+            tests.holds(tests.becomes(f"{lines} === 100"), "back to the pages", tests.text())
+            tests.holds(browser.run("typeof ran") == "undefined", "nothing ran")
+    return tests
+
+
 @contextlib.contextmanager
 def room(trial: Trial, *words: str) -> Iterator[Tests]:
     """A browser in the room over the collection."""
@@ -308,11 +338,13 @@ def main() -> int:
             narrow(tests)
             hostile(tests, listener)
             as_it_is(tests, listener, made)
+        packed = packages(trial)
         rules = put(trial.path("rules"), b"block %spicture.png\nblock %smore\n" % (TOP, TOP))
         with room(trial, "--access", rules) as guarded:
             withheld(guarded)
-    failed = tests.failed + guarded.failed + trial.surprises
-    print(f"{tests.passed + guarded.passed} passed, {failed} failed")
+    every = tests, packed, guarded
+    failed = sum(it.failed for it in every) + trial.surprises
+    print(f"{sum(it.passed for it in every)} passed, {failed} failed")
     return 1 if failed else 0
 
 
