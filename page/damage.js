@@ -37,7 +37,7 @@ const PACKED_WORDS = {
        `This page decompresses up to ${size(LIMIT)}. The gzip member at byte ${offset} leads beyond that.`,
 ],
   zstd: () => ['is compressed by zstd', 'This page decompresses gzip alone.'],
-  zip: ({why}, offset) => ['is refused', `Its ZIP contradicts itself, at byte ${offset}. ${plainly(why)}.`],
+  zip: ({why}, offset) => ['is refused', `It isn’t read as a package, for its ZIP at byte ${offset}. ${plainly(why)}.`],
   entry: (
       {why}, offset) => ['isn’t what was packed', `Its bytes, from byte ${offset} of the package on: ${plainly(why)}.`],
   crossing: (_, offset) =>
@@ -49,9 +49,10 @@ const PACKED_WORDS = {
  * @param {PackedDamage} damage
  */
 function packedAdvice({kind, name}) {
-  if (kind === 'zip') return ['One program would show of it what another one didn’t check. Fetch it again.'];
+  if (kind === 'zip')
+    return ['Of a ZIP that contradicts itself one program would show what another didn’t check. Fetch it again.'];
   if (kind === 'entry') return ['Fetch the package again.'];
-  if (kind === 'crossing') return ['That record was never captured so. Open the files one by one.'];
+  if (kind === 'crossing') return ['What that record gives was never captured so. All else is as in the files.'];
   const packed = inShell(name, kind === 'zstd' ? 'a.warc.zst' : 'a.warc.gz'), to = packed.replace(/(\.gz|\.zst)?$/, '');
   if (kind === 'zstd') return ['Decompress it first, as by ', code(`zstd -d ${packed}`), ', and open what that gives.'];
   if (kind === 'long') return ['Decompress it first, as by ', code(`gunzip ${packed}`), ', and open what that gives.'];
@@ -71,7 +72,7 @@ function packedNodes() {
   return [
     make('h2', {}, make('bdi', {}, plainly(damage.name)), ` ${short}`),
     make('p', {}, `${long} `, ...packedAdvice(damage)),
-    make('p', {}, `${end ? part : 'No record comes before it.'}${after}`),
+    damage.kind === 'crossing' ? '' : make('p', {}, `${end ? part : 'No record comes before it.'}${after}`),
   ];
 }
 
