@@ -11,7 +11,7 @@
 # make test-callers compares what the program, C, Python and Rust give of many archives; 10,000 damaged ones by valgrind
 # make plants       tries the planted bugs of tests/plants, which the gate leaves out; hours; before a release
 # make check        the quick check while editing: the whole tree, over what earlier checks kept
-# make test-docs    runs the command lines of README.md and docs/PROGRAM.md, and compares what they write
+# make test-docs    runs the command lines of three pages, and compares what they write
 # make test-compatibility   opens files that wget and bsdtar write, and those of docs/COMPATIBILITY.md
 # make lint         checks the text of the tree: words, headers, widths, edits, numbers, and the pages
 # make lint-code    checks the code that isn't proved: types, layout, warnings; leaves out what isn't installed
@@ -97,7 +97,7 @@ test-around: bin/warc out/lib/libwarc.so zogwedu.html
 	@python3 tools/test_around.py $(ARGS)
 
 test-docs: bin/warc
-	@python3 tools/test_docs.py bin/warc README.md docs/PROGRAM.md
+	@python3 tools/test_docs.py bin/warc README.md docs/PROGRAM.md docs/FIRST-HOUR.md
 
 test-compatibility: bin/warc
 	@bash tools/need.sh wget:wget bsdtar:libarchive-tools gzip:gzip

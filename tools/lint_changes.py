@@ -16,7 +16,7 @@ LEFT_OUT = re.compile(
     r"crates/\w+/(?:proofs|must-fail)/|crates/(?:suites_|example_|warc_vectors|warc_tool/std)|.*\.warc$"
     r"|(?:CHANGELOG|CONTRIBUTING|README)|.*/CALLING\.md|bench/|examples/|rust/examples/"
     r"|tests/(?:cases|compatibility|page|plants|stress)/"
-    r"|docs/(?:DECISIONS|SPEED|TRUST|PROMISES|ARCHITECTURE|GLOSSARY|COMPATIBILITY|FROM_WARCIO)|tools/lint"
+    r"|docs/(?:DECISIONS|SPEED|TRUST|PROMISES|ARCHITECTURE|GLOSSARY|COMPATIBILITY|FIRST-HOUR|FROM_WARCIO)|tools/lint"
 )
 
 

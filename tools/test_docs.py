@@ -5,15 +5,16 @@ says.
 Usage: test_docs.py [--write] PROGRAM PAGE..
 
 A block between ```console and ``` is run by one shell, in a folder with a copy of examples/, with the program first in
-PATH. A line that begins with `$ ` is a command, and goes on in the next line where it ends with a backslash; what
-follows is all that it writes, to standard output and standard error. The blocks of a page share the folder. In a block
-that begins with ```sh each `make TARGET` has to be a target of the Makefile. --write puts what was written into the
-page.
+PATH, and `warc-collection` of the source tree. A line that begins with `$ ` is a command, and goes on in the next line
+where it ends with a backslash; what follows is all that it writes, to standard output and standard error. The blocks of
+a page share the folder. In a block that begins with ```sh each `make TARGET` has to be a target of the Makefile.
+--write puts what was written into the page.
 """
 from __future__ import annotations
 
 import os
 import re
+import shlex
 import shutil
 import subprocess
 import sys
@@ -44,7 +45,7 @@ def commands(block: str) -> list[list[str]]:
 def run(block: str, folder: str, program: str) -> list[str]:
     """What each command of a block writes."""
     script = "".join(f"{words}s=$?; printf '%s\\n' '{END}'; (exit $s)\n" for words, _ in commands(block))
-    path = f"{os.path.dirname(os.path.abspath(program))}:{TOP}/shell:{os.environ['PATH']}"
+    path = f"{os.path.dirname(os.path.abspath(program))}:{folder}/.bin:{TOP}/shell:{os.environ['PATH']}"
     ran = subprocess.run(
         ["bash", "-c", script],
         cwd=folder,
@@ -55,6 +56,14 @@ def run(block: str, folder: str, program: str) -> list[str]:
         timeout=120,
     )
     return ran.stdout.decode(errors="replace").split(f"{END}\n")[:-1]
+
+
+def put_collection(folder: str) -> None:
+    """Puts a program into a folder that runs `warc-collection` of the source tree."""
+    os.mkdir(folder)
+    with open(f"{folder}/warc-collection", "w", encoding="utf-8") as out:
+        out.write(f'#!/bin/sh\nexec /usr/bin/python3 {shlex.quote(TOP)}/collection "$@"\n')
+    os.chmod(f"{folder}/warc-collection", 0o755)
 
 
 def missing_targets(block: str) -> list[str]:
@@ -87,6 +96,7 @@ def try_page(page: str, program: str) -> tuple[str, str, int]:
 
     with tempfile.TemporaryDirectory() as folder:
         shutil.copytree(f"{TOP}/examples", f"{folder}/examples")
+        put_collection(f"{folder}/.bin")
         new = BLOCK.sub(block_as_run, old)
     return old, new, count
 

@@ -11,10 +11,10 @@ from .conftest import TOP, built, needs, passes
 SAMPLES = ("docs/PYTHON.md", "docs/C.md", "docs/FROM_WARCIO.md")
 
 
-@pytest.mark.parametrize("page", ["README.md", "docs/PROGRAM.md"])
+@pytest.mark.parametrize("page", ["README.md", "docs/PROGRAM.md", "docs/FIRST-HOUR.md"])
 def test_command_lines(page: str, warc: str) -> None:
     """Each writes what the page shows."""
-    needs("gzip", "zstd")
+    needs("gzip", "zstd", "parallel")
     passes([sys.executable, "tools/test_docs.py", warc, page])
 
 
