@@ -146,7 +146,7 @@ class Damages {
    */
   at(number) {
     const [place, length, kind, faultAt] = this.numbers.subarray(number * DAMAGE_NUMBERS), gap = this.gaps[-kind - 1];
-    if (gap) return {place, length, fault: `${gap.why} at byte ${gap.offset} of ${gap.name}`, gap};
+    if (gap) return {place, length, fault: `no good member at byte ${gap.offset} of ${gap.name}`, gap};
     return {place, length, fault: this.faults.get(kind).replace(/ at \d+$/, ` at ${faultAt}`)};
   }
 

@@ -268,4 +268,9 @@ def test_pieces_between_gaps() -> None:
     runs, damages, records, words = in_node(scripts, BETWEEN, [0, 5, 5, 9], before=before)
     assert (runs, records) == ([0, 5, 5, 9], 4)
     assert damages == [5, 1, 7, 0, 5, 0, -1, 0, 5, 0, -2, 0, 9, 1, 7, 5]
-    assert words == [["F7", None], ["torn at byte 4 of a", 4], ["x at byte 9 of b", 9], ["F7", None]]
+    assert words == [
+        ["F7", None],
+        ["no good member at byte 4 of a", 4],
+        ["no good member at byte 9 of b", 9],
+        ["F7", None],
+    ]
