@@ -250,6 +250,8 @@ class EntryPoints(unittest.TestCase):
                 ("2026-11-26T05:48:35.600+01:00", zogwedu.Entry("2026-11-26T04:48:36Z", 0.4)),
                 ("2026-11-26T04:48:36Z", zogwedu.Entry("2026-11-26T04:48:36Z", None)),
                 ("2026-11-27T00:00:00.5Z", zogwedu.Entry("2026-11-27T00:00:00.5Z", None)),
+                ("2026-11-27T01:00:00+01:00", zogwedu.Entry("2026-11-27T00:00:00.000000Z", None)),
+                ("2026-11-27 00:00:00.1234567890123z", zogwedu.Entry("2026-11-27T00:00:00.123456Z", None)),
                 ("yesterday", None),
                 ("2026-13-26T04:48:36Z", None),
                 ("0001-01-01T00:00:00+23:00", None),
@@ -257,7 +259,10 @@ class EntryPoints(unittest.TestCase):
             ]
             for instant, wanted in asked:
                 with self.subTest(instant):
-                    self.assertEqual(zogwedu.entry_point(archive, zogwedu.Page(FRONT, instant, None)), wanted)
+                    found = zogwedu.entry_point(archive, zogwedu.Page(FRONT, instant, None))
+                    self.assertEqual(found, wanted)
+                    if found is not None:
+                        self.assertGreater(len(archive.replay(FRONT, found.date)), 0)
             self.assertIsNone(zogwedu.entry_point(archive, zogwedu.Page("urn:none", "2026-11-27T00:00:00Z", None)))
             coded = zogwedu.entry_point(archive, zogwedu.Page(f"{FRONT}week", "2027-01-01T00:00:00Z", None))
             self.assertEqual(coded, zogwedu.Entry("2027-01-01T00:00:00Z", None))

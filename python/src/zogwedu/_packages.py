@@ -3,9 +3,11 @@ import contextlib
 import functools
 import mmap
 import os
+import re
 import stat
 import sys
 import tempfile
+from datetime import datetime
 from itertools import zip_longest
 from typing import IO, Any, ContextManager, Dict, List, NamedTuple, Optional, TYPE_CHECKING, Union
 
@@ -21,6 +23,8 @@ if TYPE_CHECKING:
     Path = Union[str, "os.PathLike[str]"]
 
 NOT_YET = 102
+# A date as the library reads it.
+PLAIN = re.compile(r"\d{4}-\d\d-\d\dT\d\d:\d\d:\d\d(\.\d{1,9})?Z", re.ASCII)
 
 
 class Entry(NamedTuple):
@@ -106,7 +110,12 @@ def entry_point(archive: Archive, page: Page) -> Optional[Entry]:
         if reason.code == NOT_YET:
             captured = instant_of(captures[0].date)
             return Entry(captures[0].date, None if captured is None else (captured - begun).total_seconds())
-    return Entry(page.instant, None)
+    return Entry(page.instant if PLAIN.fullmatch(page.instant) else dated(begun), None)
+
+
+def dated(instant: datetime) -> str:
+    """An instant in UTC, as the library reads dates."""
+    return instant.isoformat(timespec="microseconds")[:26] + "Z"
 
 
 def _read_at(file: Any, count: int, offset: int) -> bytes:
