@@ -21,7 +21,7 @@ around=(
     chromium:chromium "/usr/share/fonts/truetype/*/*.ttf:fonts-dejavu-core"
     /usr/share/nodejs/dompurify:node-dompurify /usr/share/nodejs/pako:node-pako
     /usr/share/nodejs/css-tree:node-css-tree
-    "$modules/waitress:python3-waitress"
+    "$modules/waitress:python3-waitress" "$modules/html5lib:python3-html5lib"
 )
 
 pairs=()
