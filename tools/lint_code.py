@@ -118,7 +118,7 @@ CHECKS = [
     Check("types of tools/", (*TYPES, *scripts("tools"))),
     Check("layout of tools/", (*LAYOUT, "tools")),
     Check("names that tools/ and bench/ import and don't use", ("pyflakes3", "tools", "bench")),
-    Check("types of bench/", ("mypy", "--strict", *scripts("bench"), "tests/page/browser.py")),
+    Check("types of bench/", ("mypy", "--strict", *scripts("bench"), *COLLECTION, "tests/page/browser.py")),
     Check("layout of bench/", (*LAYOUT, "bench")),
     Check("shell scripts", ("shellcheck", *SHELL)),
     Check("types of the tests of the machine", ("mypy", "--strict", "--follow-imports=silent", *MACHINE)),

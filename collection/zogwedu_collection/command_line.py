@@ -18,6 +18,7 @@ from .configuration import PATH, configured
 from .jobs import do_jobs
 from .limits import Limits, count_of
 from .messages import ERROR, INFO, MESSAGES
+from .search_options import add_search
 from .space import full_folders
 from .texts import Trouble, say, shown
 
@@ -71,6 +72,12 @@ def add_run_options(parser: argparse.ArgumentParser) -> None:
     add("--batch", type=count_of, metavar="N", help="files for each job; as many as take some seconds without it")
     within = "reads again the files that were read longest ago, so many that each is read once in a time, as 30d"
     add("--within", type=seconds_in, metavar="TIME", help=within)
+    text = parser.add_mutually_exclusive_group()
+    parser.set_defaults(text=None)
+    keeps = "keeps the texts of pages for search, in this run and all later ones"
+    text.add_argument("--text", dest="text", action="store_const", const=True, help=keeps)
+    removes = "keeps no texts any more, and removes the index"
+    text.add_argument("--no-text", dest="text", action="store_const", const=False, help=removes)
     rate = "the most bytes that all jobs of a run read in a second; K, M, G and T are powers of 1024"
     add("--rate", type=count_of, metavar="BYTES", help=rate)
     unpacked = "bytes that the jobs of a machine unpack at once, 16G without it; K, M, G and T are powers of 1024"
@@ -182,6 +189,11 @@ def add_questions(command: Command) -> None:
     made.add_argument("date", metavar="DATE")
     add_codings(made)
     add_whole(made)
+    made = command("search", "prints the pages that have words, and when they had them")
+    add_search(made)
+    add_forms(made, "a line for each page,")
+    add_access(made)
+    add_program_options(made)
     add_server(command("serve", "serves the collection to browsers and to Memento clients, for reading alone"))
     made = command("access", "says which line of the access rules decides for a URI")
     made.add_argument("--access", metavar="FILE", required=True, help="the file with the rules")

@@ -29,6 +29,8 @@ from .program import usable_program
 from .replay import Answer, Replayer, settled, without_troubled, write_body
 from .report import write_report
 from .runs import SECONDS_A_FAR_JOB, SECONDS_A_JOB, Asked, Machines, do_run, load, make_plan
+from .search_command import search_command
+from .search_index import settle_texts
 from .states import ALARMING, STATES
 from .texts import Trouble, counted, escaped, inform, say, shown, stored_path
 from .timemaps import Seen
@@ -42,7 +44,7 @@ def asked(options: Options) -> Asked:
     how = options.within, options.rate, options.allow_missing, options.unpacked
     is_far = getattr(options, "sshlogin", None) or getattr(options, "sshloginfile", None)
     seconds = SECONDS_A_FAR_JOB if is_far else SECONDS_A_JOB
-    return Asked(*words, *how, getattr(options, "jobs", None), options.batch, seconds, options.manifest)
+    return Asked(*words, *how, getattr(options, "jobs", None), options.batch, seconds, options.manifest, options.text)
 
 
 def alarm_of(options: Options) -> Alarm:
@@ -182,6 +184,7 @@ def forget_command(options: Options) -> int:
     catalogue = Catalogue(options.catalogue)
     with catalogue.locked():
         forgotten, kept = forget_files(catalogue, [os.path.abspath(path) for path in options.paths])
+        settle_texts(catalogue, is_tidied=bool(forgotten))
     for path in kept:
         say("%s is in the collection, and isn't gone: not forgotten" % shown(path))
     print_values(options, {"forgotten": forgotten, "kept": kept})
@@ -193,6 +196,7 @@ def accept_command(options: Options) -> int:
     with catalogue.locked():
         paths: List[str] = [os.path.abspath(path) for path in options.paths]
         left = [path for path in paths if not accept(catalogue, path)]
+        settle_texts(catalogue)
         write_own_report(catalogue)
     for path in left:
         say("%s has no new reading to be accepted" % shown(path))
@@ -216,6 +220,7 @@ def prune_command(options: Options) -> int:
         raise Trouble("keep at least one run")
     with catalogue.locked():
         dropped = prune(catalogue, options.keep)
+        settle_texts(catalogue, is_tidied=True)
     inform("dropped %s" % counted(dropped, "row"))
     if not options.quiet:
         print_values(options, {"dropped": dropped})
@@ -259,6 +264,7 @@ COMMANDS = {
     "status": status_command,
     "find": find_command,
     "replay": replay_command,
+    "search": search_command,
     "serve": serve_command,
     "access": access_command,
     "cdxj": cdxj_command,

@@ -7,7 +7,7 @@ import errno
 import functools
 import itertools
 import os
-from typing import Callable, Dict, Iterable, Iterator, List, Optional, Sequence, Set, Tuple
+from typing import AbstractSet, Callable, Dict, Iterable, Iterator, List, Optional, Sequence, Set, Tuple
 
 from .catalogue import Catalogue, Run
 from .disk import Stamp, is_regular, stamp_of
@@ -299,10 +299,12 @@ def note_manifests(catalogue: Catalogue, found: Found) -> None:
             inform("%s: %s of files that aren't archives" % (shown(path), counted(others, "checksum")))
 
 
-def files_to_do(catalogue: Catalogue, run: Run, found: Found, is_digested: bool) -> List[Item]:
+def files_to_do(
+    catalogue: Catalogue, run: Run, found: Found, is_digested: bool, lacking: AbstractSet[int] = frozenset()
+) -> List[Item]:
     """The files that are new, changed or not read yet, or in a run over all files those that it has not done; where the
-    digests of whole files are kept, also those without one, and those with a checksum that wasn't compared. Largest
-    first."""
+    digests of whole files are kept, also those without one, those with a checksum that wasn't compared, and those that
+    lack something else. Largest first."""
     chosen: List[Item] = []
     stated = algorithms_stated(catalogue)
     query = "SELECT size, modified, changed, inode, seen, file, path, state, run, sha256, due FROM files"
@@ -314,7 +316,7 @@ def files_to_do(catalogue: Catalogue, run: Run, found: Found, is_digested: bool)
         is_done = is_same and last == run.number and state not in ("unread", "gone")
         is_known = is_same and state not in TRIED_AGAIN and (not is_digested or sha256 is not None)
         algorithms, is_compared = stated.get(file, ((), True))
-        is_known = is_known and due != run.number and is_compared
+        is_known = is_known and due != run.number and is_compared and file not in lacking
         if is_same and state == "grown" and last != run.number:
             # It is said once that a file has grown.
             catalogue.base.execute("UPDATE files SET state = 'good', detail = '' WHERE file = ?", (file,))

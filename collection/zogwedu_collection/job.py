@@ -182,10 +182,11 @@ class Job:
         self.pace = Pace(jobs, settings.rate)
         self.room = Room(jobs, settings.unpacked, settings.jobs or os.cpu_count() or 1)
         self.where = temporary_folder(settings.temporary)
+        self.began = time.monotonic()
 
     def do(self) -> Outcome:
         """Does the job. Returns what came of it."""
-        began, outcome = time.monotonic(), self.outcome
+        began, outcome = self.began, self.outcome
         try:
             outcome.stamp = stamp_of(os.stat(outcome.path))
             with open_regular(outcome.path) as file:
@@ -386,6 +387,7 @@ class Job:
                 why = self.differs(source, tally)
                 if why:
                     return "failed", "members: " + why
+            self.put_texts(out, source.seekable)
         self.outcome.no_bytes = len(tally.empty)
         return self.state_of(tally, source)
 
@@ -400,6 +402,23 @@ class Job:
         assert source.seekable is not None
         words = self.settings.warc, source.file, source.seekable, source.noted, tally, self.where
         return Sample(*words).difference(Parts(self.path, tally.places))
+
+    def put_texts(self, out: IO[bytes], file: IO[bytes]) -> None:
+        """Writes the texts of the pages after that, where they are wanted. They take no time of the file's own."""
+        if self.settings.package is None:
+            return
+        from .page_texts import PART_OF_TIME, text_lines  # here, since jobs without texts do without
+
+        most = self.settings.timeout
+        seconds = None if not most else max(PART_OF_TIME * most - (time.monotonic() - self.began), 0.0)
+        begin = out.seek(0, os.SEEK_END)
+        try:
+            for line in text_lines(file, Parts(self.path, self.outcome.places), self.settings.package, seconds):
+                write_all(out, line)
+        except OSError:  # as of a full disk: there are no texts then
+            out.truncate(begin)
+            return
+        self.outcome.places["texts"] = [begin, out.tell()]
 
     def state_of(self, it: Tally, source: Source) -> Tuple[str, str]:
         about = (

@@ -10,6 +10,7 @@ from .ages import age_lines, is_late, last_end, oldest
 from .alarm import Alarm, acknowledged, looks, recovered, shown_looks
 from .captures import Capture
 from .catalogue import Catalogue
+from .search_index import is_wanted, text_counts
 from .states import DAMAGED, STATES, as_list
 from .texts import Stored, counted, escaped, path_bytes, real_path, shown
 from .watched import FILE, Watched, values_of, watched
@@ -81,6 +82,8 @@ def status_text(catalogue: Catalogue, alarm: Alarm) -> Iterator[str]:
         yield "damaged\t%d\t%s; beside them %s, %s\n" % (bad, *about)
     if unhashed(catalogue):
         yield "unhashed\t%d\t%s\n" % (unhashed(catalogue), UNHASHED)
+    if is_wanted(catalogue):
+        yield "texts\t%d\tfiles whose texts are known, %d without%s\n" % text_counts(catalogue)
     if acknowledged(catalogue):
         yield "acknowledged\t%d\t%s\n" % (acknowledged(catalogue), ACKNOWLEDGED)
     yield from look_lines(catalogue, alarm)
@@ -117,6 +120,8 @@ def status_json(catalogue: Catalogue, alarm: Alarm = Alarm()) -> str:
     about["folders"] = [values_of(it) for it in watched(catalogue)]
     first = oldest(catalogue)
     about["last_run"], about["oldest"] = last_end(catalogue), first and dict(first, path=real_path(first["path"]))
+    if is_wanted(catalogue):
+        about["texts"] = dict(zip(("files", "without"), text_counts(catalogue)))
     of_damaged = dict(zip(("good_records", "good_bytes", "damaged"), damaged(catalogue)))
     return json.dumps(dict(about, **of_damaged, files=files), indent=1) + "\n"
 

@@ -19,8 +19,8 @@ MOST_SECONDS = 60
 @dataclasses.dataclass(frozen=True)
 class Settings:
     """How the files are read: by which program, where they are unpacked, in which time (seconds), how many bytes all
-    jobs together read in a second, how many the jobs of a machine unpack at once, and how many jobs a machine does at
-    once, where that is known."""
+    jobs together read in a second, how many the jobs of a machine unpack at once, how many jobs a machine does at
+    once, where that is known, and, where the texts of pages are read too, the folder that has the Python package."""
 
     warc: str
     version: str
@@ -29,6 +29,7 @@ class Settings:
     rate: Optional[int] = None
     unpacked: int = Limits.unpacked
     jobs: Optional[int] = None
+    package: Optional[str] = None
 
 
 class BadDate(Trouble):

@@ -27,6 +27,7 @@ from .messages import MESSAGES
 from .processes import lifeline_of
 from .program import Settings, not_done, own_words, program_path, version_of
 from .progress import Progress
+from .search_index import choose_texts, lacking_texts, package_for_texts, settle_texts
 from .space import full_folders
 from .take_in import end_run, take_in, take_in_all, taken_in
 from .texts import Trouble, inform, now, shown
@@ -83,14 +84,15 @@ class Asked:
     batch: Optional[int] = None
     seconds_a_job: float = SECONDS_A_JOB
     manifests: Sequence[str] = ()
+    text: Optional[bool] = None
 
-    def settings(self, own: str) -> Settings:
+    def settings(self, own: str, package: Optional[str]) -> Settings:
         """How files are read. What is unpacked goes to a folder of the catalogue, where nothing else is asked."""
         warc = program_path(self.warc)
         temporary = own if self.temporary is None else os.path.abspath(self.temporary)
         check_temporary(temporary, self.temporary is None)
         jobs = int(self.jobs) if self.jobs is not None and re.fullmatch("[1-9][0-9]{0,4}", self.jobs) else None
-        how = temporary, self.timeout, self.rate, self.unpacked, jobs
+        how = temporary, self.timeout, self.rate, self.unpacked, jobs, package
         return Settings(warc, version_of(warc), *how)
 
 
@@ -151,9 +153,12 @@ def begin_run(catalogue: Catalogue, is_over_all: bool) -> Run:
 def make_plan(catalogue: Catalogue, asked: Asked) -> Plan:
     """Takes in what earlier jobs left, looks for files, and writes the list of jobs."""
     check_manifests(asked.manifests)
-    settings = asked.settings(os.path.join(catalogue.folder, "temporary"))
+    package = package_for_texts(catalogue, asked.text)
+    settings = asked.settings(os.path.join(catalogue.folder, "temporary"), package)
     catalogue.keep_temporary(settings.temporary or catalogue.folder)
     take_in_all(catalogue)
+    choose_texts(catalogue, asked.text)
+    settle_texts(catalogue)
     with catalogue.transaction():
         watch(catalogue, asked.paths, asked.lists, asked.manifests)
         whole = watched(catalogue)
@@ -167,7 +172,11 @@ def make_plan(catalogue: Catalogue, asked: Asked) -> Plan:
         if asked.within is not None:
             note_due(catalogue, run, found.files, asked.within)
             inform(told_due(catalogue, run, found.files))
-        chosen = batches(files_to_do(catalogue, run, found, asked.digest), asked.batch, asked.seconds_a_job)
+        chosen = batches(
+            files_to_do(catalogue, run, found, asked.digest, lacking_texts(catalogue, package)),
+            asked.batch,
+            asked.seconds_a_job,
+        )
         catalogue.base.execute("UPDATE runs SET attempts = attempts + 1 WHERE run = ?", (run.number,))
         attempt = catalogue.one("SELECT attempts FROM runs WHERE run = ?", (run.number,))[0]
     log_changes(catalogue, run.number)
@@ -284,6 +293,7 @@ def do_run(catalogue: Catalogue, asked: Asked, machines: Machines) -> Plan:
     if plan.count:
         do_in_parallel(catalogue, machines, plan)
     left = end_run(catalogue, plan.run, plan.folder)
+    settle_texts(catalogue)
     shutil.rmtree(plan.folder, ignore_errors=True)
     drop_folders(catalogue, plan.run if left else None)
     if left:
@@ -295,6 +305,7 @@ def do_run(catalogue: Catalogue, asked: Asked, machines: Machines) -> Plan:
 def load(catalogue: Catalogue) -> int:
     """Takes in what jobs left, and ends the run where all are done. Returns its number."""
     left, last = take_in_all(catalogue), catalogue.last_run()
+    settle_texts(catalogue)
     if last is None:
         raise Trouble("no run in %s: plan one" % shown(catalogue.folder))
     if left:

@@ -20,6 +20,7 @@ from .lines import RecordRow, Sums, capture_rows, digest_rows, finding_rows, pay
 from .manifest import compare_stated
 from .moves import settle_moves
 from .parts import Parts
+from .search_index import take_in_texts
 from .states import ABOUT_BYTES, as_list
 from .texts import decoded, now, say, shown, stored_path
 from .wacz import load_package
@@ -157,6 +158,7 @@ def take_in_some(catalogue: Catalogue, run: int, folder: str, names: List[str]) 
         while names and rows < MOST_ROWS:
             taken.append(names.pop())
             rows += take_in_job(catalogue, run, folder, taken[-1], found)
+    take_in_texts(catalogue, run, folder, taken)
     for outcome in found:
         log_state(outcome.state, stored_path(outcome.path), outcome.detail)
     return taken

@@ -29,6 +29,7 @@ MARKS = (
     "\u17b4-\u17d3\u17dd\u102b-\u103e\u1056-\u1059\u105e-\u1060\u1062-\u1064\u1067-\u106d\u1071-\u1074\u1082-\u108d"
     "\u108f\u109a-\u109d\ua9e5\uaa7b-\uaa7d"
 )
+PLAIN = re.compile("[a-z0-9]+")
 ALONE = re.compile("[%s][%s]*" % (LETTERS, MARKS))
 
 
@@ -73,8 +74,14 @@ def words_of(text: str) -> List[str]:
 def places_of(text: str) -> Iterator[Tuple[str, int, int]]:
     """The words of a text, each with the place in it. The text is in composed form."""
     for found in re.finditer(r"\S+", text):
+        if found[0].isascii():
+            begin = found.start()
+            for word in PLAIN.finditer(found[0].lower()):
+                if len(word[0]) <= MOST_OF_WORD:
+                    yield word[0], begin + word.start(), begin + word.end()
+            continue
         made = words_of(found[0])
-        if len(made) == 1:
+        if len(made) == 1 and found[0].isalnum():
             yield made[0], found.start(), found.end()
         elif made:
             yield from places_in(found[0], found.start())

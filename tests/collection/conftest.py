@@ -22,7 +22,7 @@ URI = "http://a.example/"
 MOST_SECONDS = 600
 # As the tests are run over a project that was mended, or over one that wasn't.
 PROJECT = os.environ.get("COLLECTION_PROJECT", TOP)
-USES_WARC = ("run", "plan", "find", "replay")
+USES_WARC = ("run", "plan", "find", "replay", "search")
 # Whether answers are by whole files, and not by members: the same tests hold.
 IS_WHOLE = bool(os.environ.get("COLLECTION_WHOLE"))
 Done = subprocess.CompletedProcess

@@ -5,6 +5,7 @@ import codecs
 import glob
 import importlib
 import json
+import os
 import random
 import subprocess
 import sys
@@ -174,7 +175,7 @@ def as_judged(page: str) -> Tuple[str, List[str]]:
 
 
 def test_documents_as_another_parser_reads_them() -> None:
-    paths = sorted(glob.glob(DOCUMENTS, recursive=True))
+    paths = sorted(filter(os.path.isfile, glob.glob(DOCUMENTS, recursive=True)))
     random.Random(1).shuffle(paths)
     for path in paths[:MOST_DOCUMENTS]:
         with open(path, "rb") as file:

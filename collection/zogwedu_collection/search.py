@@ -1,0 +1,299 @@
+"""Which pages have words, and when they had them. A finding aid: what a page gives, `replay` and the server say."""
+from __future__ import annotations
+
+import contextlib
+import dataclasses
+import os
+import sqlite3
+import time
+import urllib.parse
+from typing import Any, Dict, Iterator, List, Optional, Sequence, Set, Tuple
+
+from .access import one_host
+from .catalogue import ABOUT_ROWS, Catalogue, mark_of
+from .query import Query
+from .search_options import DEFAULT_HITS
+from .search_index import NO_INDEX, OF_SCANNER, SAME_READING, check_version, path_in, short, unpacked_text
+from .snippets import Mark, snippet_of
+from .texts import Stored, Trouble, shown
+from .timemaps import Seen
+
+MOST_SCORED = 500_000  # texts
+MOST_CAPTURES = 10_000  # of a URI that are looked at
+SECONDS = 3.0
+STEPS = 200  # of SQLite between two looks at the clock
+TITLE_WEIGHT, TEXT_WEIGHT = 8.0, 1.0
+FIRST_BATCH, MOST_BATCH = 50, 500  # texts whose captures are looked up at once
+SCHEMA = "texts"
+TOO_LONG = "the search took more than %d seconds: look for rarer words, or for fewer" % SECONDS
+# Captures with a text of the reading that the catalogue has. A gone file gives nothing.
+FROM_SEEN = (
+    "FROM texts.seen AS seen JOIN texts.read AS read ON read.file = seen.file JOIN main.readings ON %s"
+    " JOIN main.files ON files.file = readings.file AND files.state <> 'gone'" % SAME_READING
+)
+SCORED = (
+    "SELECT text FROM (SELECT rowid AS text, bm25(words, %s, %s) AS score FROM texts.words WHERE words MATCH ?"
+    " LIMIT %d) ORDER BY score, text" % (TITLE_WEIGHT, TEXT_WEIGHT, MOST_SCORED + 1)
+)
+OF_TARGET = (
+    "SELECT captures.file, position, instant, path, given, read_on, %s FROM captures JOIN files USING (file)"
+    " LEFT JOIN readings USING (file) WHERE target = ? AND instant >= ? AND instant < ? AND instant <= ?"
+    " AND state <> 'gone' ORDER BY instant, path, position LIMIT %d" % (ABOUT_ROWS, MOST_CAPTURES + 1)
+)
+FIRST, LAST = "", "\U0010ffff"
+
+
+@dataclasses.dataclass(frozen=True)
+class Filters:
+    """Of which hosts, types and instants captures are looked at; how many URIs are wanted, and how many before them
+    aren't; and whether a part of each text is wanted, and not of the latest alone."""
+
+    host: Optional[str] = None
+    media: Optional[str] = None
+    begin: str = FIRST
+    end: str = LAST
+    most: int = DEFAULT_HITS
+    after: int = 0
+    is_of_each: bool = False
+
+    def condition(self) -> Tuple[str, List[Any]]:
+        """What captures have to meet, and the values of that."""
+        parts: List[str] = ["instant >= ? AND instant < ?"]
+        values: List[Any] = [short(self.begin), short(self.end)]
+        if self.host is not None and self.host.startswith("."):
+            parts.append("(host = ? OR substr(host, ?) = ?)")
+            own = one_host(self.host[1:])
+            values += [own, -len(own) - 1, "." + own]
+        elif self.host is not None:
+            parts.append("host = ?")
+            values.append(one_host(self.host))
+        if self.media is not None:
+            parts.append("(media = ? OR media LIKE '%/' || ?)")
+            values += [self.media.lower()] * 2
+        return " AND ".join(parts), values
+
+
+@dataclasses.dataclass(frozen=True)
+class Place:
+    """A capture: its file, its position there, its instant, and what is said of what comes from that file."""
+
+    file: int
+    path: Stored
+    position: int
+    instant: str
+    mark: Optional[str]
+    text: int
+
+
+@dataclasses.dataclass(frozen=True)
+class Shown:
+    """The title of a text, a part of it, and where the words are in that."""
+
+    title: str
+    snippet: str
+    marks: Sequence[Mark]
+
+
+@dataclasses.dataclass(frozen=True)
+class Hit:
+    """A URI that has the words: the captures with them, how many instants these have, and of how many; the instants
+    between which they were there, and what is shown of the texts."""
+
+    target: Stored
+    captures: Sequence[Place]
+    count: int
+    of: int
+    periods: Sequence[Tuple[str, str]]
+    texts: Dict[int, Shown]
+
+    def shown(self, place: Optional[Place] = None) -> Shown:
+        """What is shown of a capture, or of the latest one."""
+        return self.texts[(place or self.latest()).text]
+
+    def latest(self) -> Place:
+        """The latest capture with the words; of several one of a file without a mark."""
+        last = [it for it in self.captures if it.instant == self.captures[-1].instant]
+        return next((it for it in last if it.mark is None), last[-1])
+
+
+@dataclasses.dataclass(frozen=True)
+class Found:
+    """The hits, whether there are more, and what the limits left out."""
+
+    hits: Sequence[Hit]
+    is_more: bool
+    left_out: str
+
+
+def opened(folder: str) -> Catalogue:
+    """A catalogue with its index, which nothing can write to."""
+    if not os.path.exists(path_in(folder)):
+        raise Trouble(NO_INDEX % shown(folder))
+    catalogue = Catalogue(folder, is_read_only=True)
+    try:
+        uri = "file:%s?mode=ro" % urllib.parse.quote(os.fsencode(path_in(catalogue.folder)))
+        catalogue.base.execute("ATTACH DATABASE ? AS %s" % SCHEMA, (uri,))
+        check_version(catalogue.base, catalogue.folder, SCHEMA)
+    except BaseException:
+        catalogue.base.close()
+        raise
+    return catalogue
+
+
+class Search:
+    """A search by one reader, which ends by the clock."""
+
+    def __init__(self, catalogue: Catalogue, query: Query, filters: Filters, seen: Seen) -> None:
+        self.catalogue = catalogue
+        self.query = query
+        self.filters = filters
+        self.seen = seen
+        self.end = time.monotonic() + SECONDS
+        self.matched: Set[int] = set()
+        self.left_out: List[str] = []
+
+    def is_over(self) -> int:
+        return int(time.monotonic() > self.end)
+
+    def check_clock(self) -> None:
+        if self.is_over():
+            raise Trouble(TOO_LONG)
+
+    def found(self) -> Found:
+        """What is found."""
+        self.catalogue.base.set_progress_handler(self.is_over, STEPS)
+        try:
+            with self.catalogue.one_state():
+                texts = self.scored()
+                hits: List[Hit] = []
+                for hit in self.hits(texts):
+                    hits.append(hit)
+                    if len(hits) > self.filters.after + self.filters.most:
+                        break
+        except sqlite3.OperationalError as error:
+            if "interrupted" in str(error):
+                raise Trouble(TOO_LONG) from None
+            raise
+        finally:
+            self.catalogue.base.set_progress_handler(None, 0)
+        end = self.filters.after + self.filters.most
+        return Found(hits[self.filters.after : end], len(hits) > end, "; ".join(dict.fromkeys(self.left_out)))
+
+    def scored(self) -> List[int]:
+        """The texts that have the words, the best first."""
+        texts = [row[0] for row in self.catalogue.base.execute(SCORED, (self.query.match(),))]
+        if len(texts) > MOST_SCORED:
+            self.left_out.append("of the first %d texts" % MOST_SCORED)
+        self.matched = set(texts)
+        return texts
+
+    def hits(self, texts: Sequence[int]) -> Iterator[Hit]:
+        """A hit for each URI that the reader may see, by its best text."""
+        known: Set[int] = set()
+        at, size = 0, FIRST_BATCH
+        while at < len(texts):
+            self.check_clock()
+            for address, target in self.addresses_of(texts[at : at + size]):
+                if address not in known:
+                    known.add(address)
+                    hit = self.hit(address, target)
+                    if hit is not None:
+                        yield hit
+            at, size = at + size, MOST_BATCH
+
+    def addresses_of(self, texts: Sequence[int]) -> List[Tuple[int, Stored]]:
+        """The URIs that have one of these texts, in their order."""
+        condition, values = self.filters.condition()
+        query = "SELECT DISTINCT seen.text, address, target %s JOIN texts.addresses USING (address) WHERE %s" % (
+            FROM_SEEN,
+            "seen.text IN (%s) AND %s" % (", ".join("?" * len(texts)), condition),
+        )
+        rank = {text: number for number, text in enumerate(texts)}
+        rows = sorted(self.catalogue.rows(query, (*texts, *values)), key=lambda row: (rank[row[0]], row[1]))
+        return [(row[1], row[2]) for row in rows]
+
+    def hit(self, address: int, target: Stored) -> Optional[Hit]:
+        """What a reader may see of a URI that has the words; None if that is nothing."""
+        decision = self.seen.access.decide(target, self.seen.address)
+        if decision.withheld() is not None:
+            return None
+        texts = self.texts_of(address)
+        rows = self.catalogue.rows(OF_TARGET, (target, self.filters.begin, self.filters.end, decision.last()))
+        if len(rows) > MOST_CAPTURES:
+            self.left_out.append("of the first %d captures of a URI" % MOST_CAPTURES)
+        instants: Dict[str, bool] = {}
+        captures: List[Place] = []
+        for file, position, instant, path, given, read_on, damaged, is_fresh in rows:
+            text = texts.get((file, position))
+            has = text in self.matched and not self.is_withheld_record(file, position, given)
+            instants[instant] = instants.get(instant, False) or has
+            if has and text is not None:
+                mark = mark_of(damaged, bool(is_fresh), read_on)
+                captures.append(Place(file, path, position, instant, mark, text))
+        if not captures:
+            return None
+        made = Hit(target, captures, sum(instants.values()), len(instants), periods_of(instants), {})
+        for place in captures if self.filters.is_of_each else [made.latest()]:
+            if place.text not in made.texts:
+                made.texts[place.text] = self.shown(place.text)
+        return made
+
+    def texts_of(self, address: int) -> Dict[Tuple[int, int], int]:
+        """The texts of the captures of a URI, by their files and positions."""
+        condition, values = self.filters.condition()
+        query = "SELECT readings.file, seen.position, seen.text %s JOIN texts.addresses USING (address)" % FROM_SEEN
+        rows = self.catalogue.rows("%s WHERE address = ? AND %s" % (query, condition), (address, *values))
+        return {(row[0], row[1]): row[2] for row in rows}
+
+    def is_withheld_record(self, file: int, position: int, given: Optional[int]) -> bool:
+        """Whether a capture leads to a record that the reader may not see."""
+        if given in (None, position):
+            return False
+        row = self.catalogue.one("SELECT target, instant FROM captures WHERE file = ? AND position = ?", (file, given))
+        return row is not None and row[0] is not None and self.seen.withheld(row[0], row[1]) is not None
+
+    def shown(self, text: int) -> Shown:
+        """What is shown of a text."""
+        self.check_clock()
+        title, body = self.catalogue.one("SELECT title, body FROM texts.texts WHERE text = ?", (text,))
+        return Shown(title, *snippet_of(unpacked_text(body), self.query))
+
+
+def periods_of(instants: Dict[str, bool]) -> List[Tuple[str, str]]:
+    """From when to when all captures have the words."""
+    periods: List[Tuple[str, str]] = []
+    was = False
+    for instant, has in instants.items():
+        if has and was:
+            periods[-1] = periods[-1][0], instant
+        elif has:
+            periods.append((instant, instant))
+        was = has
+    return periods
+
+
+def unread(catalogue: Catalogue) -> Tuple[int, int]:
+    """How many files have no texts here, or those of an earlier scanner, and how many files there are."""
+    query = (
+        "SELECT count(*), coalesce(sum(EXISTS (SELECT 1 FROM texts.read AS read JOIN readings ON %s"
+        " WHERE readings.file = files.file AND scanner = ?)), 0) FROM files WHERE state <> 'gone'" % SAME_READING
+    )
+    files, known = catalogue.one(query, (OF_SCANNER,))
+    return files - known, files
+
+
+def words_without_texts(catalogue: Catalogue, query: Query) -> List[str]:
+    """The words that no text has, of those that have to be there. What a reader may not see counts as a text, so this
+    is for those who may read the files."""
+    ask = "SELECT 1 FROM texts.words WHERE words MATCH ? LIMIT 1"
+    return [word for word in query.words() if catalogue.one(ask, ('"%s"' % word,)) is None]
+
+
+@contextlib.contextmanager
+def searching(folder: str) -> Iterator[Catalogue]:
+    """A catalogue with its index, while it is asked."""
+    catalogue = opened(folder)
+    try:
+        yield catalogue
+    finally:
+        catalogue.base.close()
