@@ -247,7 +247,8 @@ function pointsOf(uri, {list, isCut}, now) {
   const line = make('div', {className: 'line-of', role: 'group', 'aria-label': 'Captures in time'}, ...points);
   return make(
       'div', {className: 'timeline'}, make('div', {className: 'small steps'}, words), line,
-      make('div', {className: 'ends'}, ...ends.map((it) => make('span', {}, it.datetime))));
+      make('div', {className: 'ends'}, ...ends.map((it) => make('span', {}, it.datetime))),
+      list.length >= CALENDAR_FROM ? calendarOf(uri, list) : '');
 }
 
 /**
@@ -449,25 +450,34 @@ async function pagesFrom(place) {
   return {lines: found.map(pageLine), next};
 }
 
-// Shows the pages that packages list, before a reader asks for one. Pages that a reader may not see aren't among them.
-async function showPages() {
-  const visit = served.visit += 1, list = make('ul', {className: 'plain-list found'});
-  const more = button('button quiet', () => add(), {}, 'More pages');
+// The pages that packages list, of which a reader sees some at once; nothing where there are none. Pages that a reader
+// may not see aren't among them.
+async function pagesPart() {
+  const list = make('ul', {className: 'plain-list found'}), more = button('button quiet', () => add(), {}, 'More pages');
   let place = FIRST_PAGES;
   async function add() {
     const {lines, next} = await pagesFrom(place);
-    if (visit !== served.visit) return;
     list.append(...lines);
     place = next;
     more.hidden = !next;
   }
-  byId('record').hidden = true;
   await add();
-  if (visit !== served.visit || (!list.childNodes.length && more.hidden)) return;
+  if (!list.childNodes.length && more.hidden) return [];
   const about = make('div', {className: 'sub'}, SCRIPTED);
-  show(
-      make('header', {}, make('h2', {}, 'Pages of packages'), about),
-      make('div', {className: 'panel'}, list, make('div', {className: 'actions'}, more)));
+  return [
+    make('header', {}, make('h2', {}, 'Pages of packages'), about),
+    make('div', {className: 'panel'}, list, make('div', {className: 'actions'}, more))
+  ];
+}
+
+// Shows what there is, to a reader who knows no URI: the hosts, and the pages of packages.
+async function showBeginning() {
+  const visit = served.visit += 1, parts = await Promise.all([hostsPart(), pagesPart()]);
+  if (visit !== served.visit) return;
+  const said = byId('status').textContent;  // perhaps about what a reader typed meanwhile
+  show(...parts.flat());
+  byId('status').textContent = said;
+  document.title = 'Zogwedu reading room';
 }
 
 // ---------------------------------------------------------------- beginning
@@ -475,7 +485,8 @@ async function showPages() {
 /** @param {any} error */
 const noReply = (error) => `The server doesn’t answer: ${plainly(whyOf(error))}`;
 
-// Shows what the address says: `#DIGITS/URI` a page, `#?TEXT` a search.
+// Shows what the address says: `#DIGITS/URI` a page, `#?TEXT` the URIs that begin so, `#search?..` the pages with
+// words, `#below/TEXT` a tree; and without any of these what there is.
 async function follow() {
   const hash = location.hash.slice(1), page = /^(\d{14}(?:\d{9})?)\/(.+)$/s.exec(hash);
   try {
@@ -483,8 +494,12 @@ async function follow() {
       await showPage(targetIn(page[2]), page[1]);
     else if (hash.startsWith('?') && hash.length > 1)
       await showFound(targetIn(hash.slice(1)));
+    else if (hash.startsWith('search?'))
+      await showWords(hash.slice('search?'.length));
+    else if (hash.startsWith('below/'))
+      showBelow(hash.slice('below/'.length));
     else
-      await showPages();
+      await showBeginning();
   } catch (error) {
     byId('status').textContent = noReply(error);
   }

@@ -159,6 +159,38 @@ type AskedHead = { head: Uint8Array | null; front: Uint8Array | null };
 type ReadHead = { fields: FieldBytes[] | null; http: ReadHttp | null };
 type ReadHttp = { status: number; start: number; fields: FieldBytes[] };
 
+// A page that has words, as the server says it.
+interface WordHit {
+  uri: string;
+  uri_path: string;
+  title: string;
+  snippet: string;
+  marks: [number, number][];
+  mark: string | null;
+  chosen: [string, number, string]; // the file, the position and the instant
+  first: string;
+  last: string;
+  periods: [string, string][];
+  in_periods: number;
+  count: number;
+  of: number;
+}
+interface WordAnswer {
+  found: WordHit[];
+  more: number | null;
+  left_out: string;
+  unread: number;
+  missing: string[];
+}
+// How many URIs and captures begin with a text, and from when to when.
+interface OverviewRow {
+  path: string;
+  uris: number;
+  captures: number;
+  first: string;
+  last: string;
+}
+
 interface HttpHead {
   text: string;
   status: number;

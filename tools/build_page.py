@@ -39,7 +39,7 @@ SCRIPTS = (
     ),
     *("list.js", "selection.js", "room.js", "damage.js", "package.js", "body.js", "record.js", "begin.js"),
 )
-WORKER_SCRIPTS = (*("shared.js", "members.js", "search.js", "zip.js", "wacz.js", "unpack.js", "heads.js", "worker.js"),)
+WORKER_SCRIPTS = ("shared.js", "members.js", "search.js", "zip.js", "wacz.js", "unpack.js", "heads.js", "worker.js")
 POLICY = (
     "default-src 'none'; script-src '{hash}' 'wasm-unsafe-eval'; worker-src blob:; style-src 'unsafe-inline'; "
     "img-src blob: data:; font-src blob: data:; form-action 'none'; base-uri 'none'; "

@@ -34,7 +34,7 @@ OF_PYTHON = ("_members.py", "_wacz.py", "_zip.py", "_surt.py", "_cdxj.py")
 # Those of zogwedu.html that don't need the module, and the one that asks the server.
 SCRIPTS = (
     *("shared.js", "elements.js", "members.js", "words.js", "stored.js", "nodes.js", "allowed.js", "style.js"),
-    *("view.js", "pageview.js", "served.js"),
+    *("view.js", "pageview.js", "finding.js", "served.js"),
 )
 ABOUT_ROOM = """/* The script holds DOMPurify, (c) Cure53 and other contributors, under the Apache License 2.0:
 {}

@@ -20,7 +20,7 @@ FILES: Dict[str, Tuple[str, str]] = {
     "/room/room.css": ("room.css", "text/css; charset=utf-8"),
 }
 NO_ROOM = "this program was made without the reading room, which needs node-dompurify, node-pako and node-css-tree"
-PATHS = "no such path: /timegate/URI, /timemap/link/URI, /timemap/json/URI, /memento/DATE/URI, /"
+PATHS = "no such path: /timegate/URI, /timemap/link/URI, /timemap/json/URI, /memento/DATE/URI, /search/json?q=WORDS, /"
 
 
 class Pages:
@@ -30,8 +30,8 @@ class Pages:
         self.files = {path: data_of(name) for path, (name, _) in FILES.items()}
         self.html = data_of("room.html").decode("utf-8")
 
-    def page(self, top: str, target: str) -> Response:
-        """The room, or a file of it."""
+    def page(self, top: str, target: str, has_search: bool = False) -> Response:
+        """The room, with the form for words if there is an index, or a file of it."""
         path = target.partition("?")[0]
         if path != "/" and path not in FILES:
             raise Refusal(404, PATHS)
@@ -40,7 +40,8 @@ class Pages:
         if path in FILES:
             return answer(FILES[path][1], self.files[path], "default-src 'none'")
         nonce = secrets.token_urlsafe(18)
-        body = self.html.replace("{nonce}", nonce).replace("{top}", html.escape(top))
+        body = self.html.replace("{nonce}", nonce).replace("{search}", "yes" if has_search else "no")
+        body = body.replace("{top}", html.escape(top))
         return answer("text/html; charset=utf-8", body.encode("utf-8"), POLICY % nonce)
 
 

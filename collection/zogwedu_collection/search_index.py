@@ -100,16 +100,21 @@ class Index:
         if not is_made and not os.path.exists(path_in(self.folder)):
             raise Trouble(NO_INDEX % shown(self.folder))
         self.base = sqlite3.connect(path_in(self.folder), timeout=BUSY_SECONDS, isolation_level=None)
-        self.base.execute("PRAGMA synchronous = FULL")
-        self.base.execute("PRAGMA secure_delete = ON")
-        if is_made:
-            self.make_tables()
-        check_version(self.base, self.folder)
+        try:
+            self.base.execute("PRAGMA synchronous = FULL")
+            self.base.execute("PRAGMA secure_delete = ON")
+            if is_made:
+                self.make_tables()
+            check_version(self.base, self.folder)
+        except BaseException as error:
+            self.base.close()
+            if isinstance(error, sqlite3.DatabaseError) and not isinstance(error, sqlite3.OperationalError):
+                raise Trouble("%s: %s: remove it, and run again" % (shown(path_in(self.folder)), error)) from None
+            raise
 
     def make_tables(self) -> None:
         """Makes what isn't there."""
-        version = self.base.execute("PRAGMA user_version").fetchone()[0]
-        if version > VERSION:
+        if self.base.execute("PRAGMA user_version").fetchone()[0]:
             return
         try:
             with self.transaction():
@@ -132,6 +137,20 @@ class Index:
                 self.base.execute("ROLLBACK")
             raise
 
+    @contextlib.contextmanager
+    def part(self) -> Iterator[None]:
+        """A part of a transaction, which is undone where it fails."""
+        self.base.execute("SAVEPOINT part")
+        try:
+            yield
+        except BaseException:
+            if self.base.in_transaction:
+                self.base.execute("ROLLBACK TO part")
+            raise
+        finally:
+            if self.base.in_transaction:
+                self.base.execute("RELEASE part")
+
     def close(self) -> None:
         self.base.close()
 
@@ -141,7 +160,7 @@ class Index:
         """Takes in the texts of a reading, in the place of those that are kept under its number. A ValueError where
         they aren't whole, and then nothing is changed."""
         places = self.places_of(file)
-        with self.transaction():
+        with self.part():
             self.drop_seen(file)
             counts = {"text": 0, "seen": 0}
             end: Dict[str, Any] = {}
@@ -261,9 +280,12 @@ def known_files(catalogue: Catalogue) -> Dict[int, Optional[str]]:
     """The files whose texts are known as the scanner reads them now, each with why it has none."""
     if not os.path.exists(path_in(catalogue.folder)):
         return {}
-    with contextlib.closing(Index(catalogue)) as index:
-        kept = index.readings_there()
-        rows = index.base.execute("SELECT file, run, size, modified, changed, scanner, why FROM read").fetchall()
+    try:
+        with contextlib.closing(Index(catalogue)) as index:
+            kept = index.readings_there()
+            rows = index.base.execute("SELECT file, run, size, modified, changed, scanner, why FROM read").fetchall()
+    except Trouble:  # a run says it, and `search`
+        return {}
     return {row[0]: row[6] for row in rows if row[:5] in kept and row[5] == OF_SCANNER}
 
 
@@ -273,7 +295,7 @@ def take_in_texts(catalogue: Catalogue, run: int, folder: str, names: Sequence[s
         return
     from .take_in import NOT_WHOLE, outcomes_in, parts_of  # here, since that module uses this one
 
-    with contextlib.closing(Index(catalogue, is_made=True)) as index:
+    with contextlib.closing(Index(catalogue, is_made=True)) as index, index.transaction():
         for name in names:
             try:
                 for outcome in outcomes_in(os.path.join(folder, "done", name)):

@@ -35,6 +35,7 @@ from .package import package_for
 from .program import BadDate, instant_of, usable_program
 from .responses import ASKED_EACH_TIME, FORBIDS_ALL, VISIBLE, Headers, Refusal, Response, close, moved, phrase, plain
 from .room import Pages
+from .search_room import Finder, Hosts, tree_answer
 from .shelf import PATIENCE_SECONDS, Shelf
 from .texts import Stored, Trouble, escaped, say
 from .timemaps import Listing, Seen
@@ -160,6 +161,8 @@ class Application:
         self.own_paths: Set[Stored] = {os.path.abspath(folder), self.warc, self.temporary_folder()}
         with self.desks.one():
             pass
+        self.hosts = Hosts()
+        self.finder = Finder(folder, self.warc, site.has_paths)
         self.routes = self.all_routes()
         self.pages = Pages()
 
@@ -177,6 +180,10 @@ class Application:
             ("/room/near/", "near", self.room_near),
             ("/room/pages/", "pages", self.room_pages),
             ("/room/instant/", "instant", self.room_instant),
+            ("/search/json", "search", self.search),
+            ("/search/json?", "search", self.search),
+            ("/room/hosts", "hosts", self.room_hosts),
+            ("/room/tree/", "tree", self.room_tree),
             ("/health", "health", self.health),
             ("/metrics", "metrics", self.metrics),
         )
@@ -237,9 +244,10 @@ class Application:
     def route(self, target: str) -> Tuple[str, Route, str]:
         """What answers a request, and the rest of its path."""
         for path, kind, route in self.routes:
-            if target.startswith(path) if path.endswith("/") else target == path:
+            if target.startswith(path) if path.endswith(("/", "?")) else target == path:
                 return kind, self.reading(route), target[len(path) :]
-        return "room", self.reading(lambda asking, text: self.pages.page(asking.top, text)), target
+        has_search = self.finder.has_index()
+        return "room", self.reading(lambda asking, text: self.pages.page(asking.top, text, has_search)), target
 
     def reading(self, route: Route) -> Route:
         """A route that nothing but a question to read comes to."""
@@ -397,6 +405,20 @@ class Application:
         with self.desks.one(asking.noted) as catalogue:
             found, last = pages_from(catalogue, (int(file), int(line)), asking.access, asking.address)
         return as_json({"found": found, "next": None if last is None else "%d-%d" % last})
+
+    def search(self, asking: Asking, text: str) -> Response:
+        """The pages that have words."""
+        return as_json(self.finder.answer(text, Seen(asking.access, asking.address)))
+
+    def room_hosts(self, asking: Asking, _text: str) -> Response:
+        """The hosts, with their numbers and spans."""
+        with self.desks.one() as catalogue:
+            return as_json(self.hosts.answer(catalogue, Seen(asking.access, asking.address)))
+
+    def room_tree(self, asking: Asking, text: str) -> Response:
+        """The targets that begin with a text, by what follows it."""
+        with self.desks.one() as catalogue:
+            return as_json(tree_answer(catalogue, Seen(asking.access, asking.address), target_in(text)))
 
     def room_instant(self, _asking: Asking, text: str) -> Response:
         """The instant that a date means. The program reads the date, in each form that it has."""

@@ -14,10 +14,10 @@ from pathlib import Path
 from typing import Any, Callable, Dict, List, Sequence, Tuple
 
 import pytest
-from conftest import PROJECT, Collection, Done, later, record
-from rooms import ID, PACKAGE, STAND_IN, new_collection, response, revisit
+from conftest import Collection, Done, later, record
+from rooms import ID, PACKAGE, new_collection, program, response, revisit
 
-from zogwedu_collection import page_texts, search, search_index
+from zogwedu_collection import page_texts, search
 from zogwedu_collection.access import EVERYTHING, read_access
 from zogwedu_collection.catalogue import Catalogue
 from zogwedu_collection.query import BadQuery, query_of
@@ -60,7 +60,7 @@ def uris(it: Found) -> List[Any]:
 
 def night(collection: Collection, *words: str) -> Done[bytes]:
     """A run with the Python package."""
-    collection.warc = STAND_IN
+    collection.warc = program()
     return collection.night(*words, env={"PYTHONPATH": PACKAGE})
 
 
@@ -263,7 +263,7 @@ def test_it_stays_until_it_is_ended(collection: Collection) -> None:
 def test_without_the_package(collection: Collection) -> None:
     """A night without the package reads all else, and says so; the first one has to have it."""
     collection.put("disk/a.warc", response(1, MILL, DAY % 2004, page("A", "mill"), **HTML))
-    collection.warc = STAND_IN
+    collection.warc = program()
     without = {"PYTHONPATH": ""}
     assert collection.night("--text", "disk", env=without).returncode == 3
     assert night(collection, "--text", "disk").returncode == 0
@@ -326,6 +326,13 @@ def test_an_index_of_another_version(collection: Collection, crawls: Collection)
         base.execute("PRAGMA user_version = 99")
     base.close()
     assert collection.run("search", "mill").returncode == 3
+    assert collection.run("status").returncode == 1  # for the damaged file
+    collection.put("catalogue/search.sqlite", b"no database at all" * 100)
+    for command in ("search", "run"):
+        done = collection.run(command, "mill") if command == "search" else night(collection)
+        assert done.returncode == 3 and b"search.sqlite: file is not a database: remove it" in done.stderr
+    night(collection, "--no-text")
+    assert night(collection, "--text").returncode == 1 and counts(found(collection, "burned")) == {MILL: (3, 4)}
 
 
 # A run that is killed

@@ -23,11 +23,13 @@ HERE = os.path.dirname(os.path.abspath(__file__))
 sys.path[:0] = [HERE, *(os.path.join(os.path.dirname(HERE), name) for name in ("stress", "reference"))]
 from browser import Browser
 from collection_trial import Trial, put, record
+from finding import finding
 from listener import Listener
 from packages import page_line, wacz_of
 from serve_trial import PACKAGE, Served, served, wait_for
 
 FIRST, SECOND = "2020-01-01T00:00:00Z", "2021-06-01T12:00:00Z"
+MONTH = "2020-%02d-01T00:00:00Z"
 TOP = b"http://site.example/"
 PROFILE = "http://netpreserve.org/warc/1.1/revisit/identical-payload-digest"
 PICTURE = base64.b64decode(
@@ -39,6 +41,7 @@ FRONT = b"""<!doctype html><html><head><title>Front</title><link rel=stylesheet 
 <a id=gone href="http://gone.example/">Elsewhere</a></body></html>"""
 STYLE = b"h1 { color: rgb(1, 100, 2); border-bottom: 3px solid } body { background: #f6f1e4; font-family: serif }"
 SHOWN = "document.querySelector('iframe.view')?.dataset.shown === 'yes'"
+MARKUP = "odd <b>markup</b> \u202e".encode()
 LAST = "last.localhost"  # what the browser connects to once a page has had its turn
 IN_VIEW = "document.querySelector('iframe.view').contentDocument"
 
@@ -83,8 +86,9 @@ def collection(folder: str, port: int) -> None:
         response(14, SECOND, b"packed", b"text/html", packed, b"Content-Encoding: gzip\r\n"),
         revisit(15, SECOND, b"lost", of % 999),
         response(16, SECOND, b"evil", b"text/html", evil(port)),
-        record("resource", 17, SECOND, "http://site.example/\u00fc \u202e".encode(), b"odd"),
+        record("resource", 17, SECOND, "http://site.example/\u00fc \u202e".encode(), MARKUP),
     ]
+    first += [response(30 + it, MONTH % (it + 1), b"often", b"text/html", b"<h1>%d</h1>" % it) for it in range(12)]
     put(os.path.join(folder, "first.warc"), b"".join(first))
     put(os.path.join(folder, "second.warc.gz"), gzip.compress(b"".join(second)))
 
@@ -132,7 +136,7 @@ def search_and_page(tests: Tests, folder: str) -> None:
     browser = tests.browser
     tests.go("")
     browser.run("byId('uri').value = 'http://site.example/'; byId('find').click()")
-    tests.holds(tests.becomes("document.querySelectorAll('.found li').length === 8"), "search by prefix", tests.text())
+    tests.holds(tests.becomes("document.querySelectorAll('.found li').length === 9"), "search by prefix", tests.text())
     tests.holds("U+202E" in tests.text(), "signs that turn a text are shown by their numbers", tests.text())
     browser.run("byId('moment').value = ''; byId('ask').requestSubmit()")
     tests.holds(tests.shows("Rain"), "the latest page", tests.text())
@@ -195,7 +199,7 @@ def dates(tests: Tests) -> None:
         tests.go("")
         tests.browser.run(ask % ("http://site.example/", date))
         tests.holds(tests.shows(title), f"a date, {date}", tests.text())
-    said = "byId('status').textContent.startsWith('A date is written') && byId('record').hidden"
+    said = "byId('status').textContent.startsWith('A date is written')"
     for words in (
         "soon",
         "2021-02-29",
@@ -229,7 +233,7 @@ def narrow(tests: Tests) -> None:
     tests.holds(browser.run("byId('ask').contains(byId('status'))"), "short answers are in the form")
     tests.go("#?http://site.example/")
     found = "document.querySelector('.found')"
-    tests.holds(tests.becomes(f"{found}?.children.length === 8"), "narrow: a search", tests.text())
+    tests.holds(tests.becomes(f"{found}?.children.length === 9"), "narrow: a search", tests.text())
     tests.holds(browser.run(f"{found}.scrollHeight <= {found}.clientHeight"), "narrow: what is found isn't in a box")
     browser.ask("Emulation.setDeviceMetricsOverride", {**metrics, "width": 1440, "height": 1000})
 
@@ -330,12 +334,13 @@ def main() -> int:
     with tempfile.TemporaryDirectory(prefix="warc-served-") as made, contextlib.closing(Listener()) as listener:
         trial = Trial(program, made)
         collection(trial.path("disk"), listener.port)
-        trial.run("c", "run", "--quiet", trial.path("disk"))
+        trial.run("c", "run", "--quiet", "--text", trial.path("disk"), env={"PYTHONPATH": PACKAGE})
         with room(trial) as tests:
             search_and_page(tests, folder)
             answers(tests)
             dates(tests)
             narrow(tests)
+            finding(tests, folder)
             hostile(tests, listener)
             as_it_is(tests, listener, made)
         packed = packages(trial)

@@ -10,7 +10,7 @@ from .in_node import in_node, without
 
 SCRIPTS = (
     *("shared.js", "elements.js", "members.js", "words.js", "stored.js", "nodes.js", "allowed.js", "style.js"),
-    *("view.js", "pageview.js", "served.js"),
+    *("view.js", "pageview.js", "finding.js", "served.js"),
 )
 # As much of a page as the scripts ask for as they are read, and elements that only keep what is put into them.
 PAGE = """

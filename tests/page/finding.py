@@ -1,0 +1,164 @@
+"""What a reader of the room finds without knowing a URI: by words, by hosts and paths, and in a calendar; by keyboard
+and by ear, on narrow and wide screens, in light and dark."""
+
+from __future__ import annotations
+
+import json
+from typing import Any
+
+HITS = "document.querySelectorAll('ol.hits > li').length"
+HOSTS = "document.querySelectorAll('table.hosts tbody tr').length"
+# The texts whose contrast with what is behind them is less than 4.5.
+FAINT = """(() => {
+  const light = (color) => {
+    const [r, g, b] = color.match(/[\\d.]+/g).slice(0, 3).map((it) => it / 255)
+        .map((it) => it <= 0.03928 ? it / 12.92 : ((it + 0.055) / 1.055) ** 2.4);
+    return 0.2126 * r + 0.7152 * g + 0.0722 * b;
+  };
+  const back = (node) => {
+    for (let at = node; at; at = at.parentElement) {
+      const color = getComputedStyle(at).backgroundColor;
+      if (!/, 0\\)$|transparent/.test(color)) return color;
+    }
+    return 'rgb(255, 255, 255)';
+  };
+  const texts = document.createTreeWalker(document.body, NodeFilter.SHOW_TEXT), found = [];
+  while (texts.nextNode()) {
+    const node = texts.currentNode.parentElement;
+    const isRead = node.checkVisibility() && !/^(?:script|noscript|option)$/i.test(node.tagName);
+    if (!isRead || !texts.currentNode.data.trim()) continue;
+    const pair = [light(getComputedStyle(node).color), light(back(node))].sort();
+    if ((pair[1] + 0.05) / (pair[0] + 0.05) < 4.5) found.push(texts.currentNode.data.trim().slice(0, 40));
+  }
+  return found;
+})()"""
+SCREENS = ((320, 900, "light"), (1440, 1000, "dark"), (1440, 1000, "light"))
+
+
+def roles(tests: Any) -> list[tuple[str, str]]:
+    """The roles and names of what is heard."""
+    tree = tests.browser.ask("Accessibility.getFullAXTree")["nodes"]
+    heard = [it for it in tree if not it.get("ignored")]
+    return [(it.get("role", {}).get("value", ""), it.get("name", {}).get("value", "")) for it in heard]
+
+
+def screens(tests: Any, what: str, folder: str) -> None:
+    """Nothing is beyond the edge, no text is faint, and each control has a name."""
+    for width, height, scheme in SCREENS:
+        metrics = {"width": width, "height": height, "deviceScaleFactor": 1, "mobile": False}
+        tests.browser.ask("Emulation.setDeviceMetricsOverride", metrics)
+        features = [
+            {"name": "prefers-color-scheme", "value": scheme},
+            {"name": "prefers-reduced-motion", "value": "reduce"},
+        ]
+        tests.browser.ask("Emulation.setEmulatedMedia", {"features": features})
+        tests.holds(tests.browser.run("document.documentElement.scrollWidth") <= width, f"{what}, {width}: the edge")
+        faint = tests.browser.run(FAINT)
+        tests.holds(not faint, f"{what}, {width}, {scheme}: faint texts", faint)
+        if folder:
+            tests.browser.picture(f"{folder}/{what.replace(' ', '-')}-{width}-{scheme}.png")
+    tests.holds(not tests.browser.nameless(), f"{what}: controls without a name", tests.browser.nameless())
+
+
+def type_words(tests: Any, words: str) -> None:
+    """Types words into the form by the keyboard, and sends it."""
+    browser = tests.browser
+    browser.run("byId('find-words').focus(); byId('find-words').value = ''")
+    browser.ask("Input.insertText", {"text": words})
+    browser.press("Enter", "\r")
+
+
+def first_screen(tests: Any, folder: str) -> None:
+    """It tells a stranger what is there."""
+    tests.go("")
+    tests.holds(tests.becomes(f"{HOSTS} === 1"), "the first screen has the hosts", tests.text())
+    text = tests.text()
+    tests.holds("http://site.example" in text and "2020-01-01" in text and "2021-06-01" in text, "numbers", text)
+    heard = roles(tests)
+    tests.holds(("search", "Words") in heard and ("search", "URI") in heard, "both forms are heard", heard)
+    tests.holds(any(role == "rowheader" for role, _ in heard), "rows of hosts have headings", heard)
+    screens(tests, "first screen", folder)
+
+
+def words(tests: Any, folder: str) -> None:
+    """Pages by their words: a hit, a mark, a way to the very capture; focus stays, and the count is heard."""
+    browser = tests.browser
+    tests.go("")
+    type_words(tests, "snow site")
+    tests.holds(tests.becomes(f"{HITS} === 1"), "a hit", tests.text())
+    hit = str(browser.run("document.querySelector('ol.hits > li').innerText"))
+    tests.holds("in 1 of 2 captures, 2020-01-01" in hit and "http://site.example/" in hit, "what is said of it", hit)
+    marked = browser.run("[...document.querySelectorAll('ol.hits mark')].map((it) => it.textContent)")
+    tests.holds("Snow" in marked and "site" in marked, "the words are marked", marked)
+    tests.holds(browser.run("document.activeElement.id") == "find-words", "the focus stays in the field")
+    heard = roles(tests)
+    tests.holds(any(role == "status" for role, _ in heard), "there is a status", heard)
+    tests.holds(browser.run("byId('status').textContent") == "1 page", "the count is heard")
+    tests.holds(("heading", "Front") in heard and any(role == "listitem" for role, _ in heard), "a list", heard)
+    screens(tests, "words", folder)
+    browser.run("document.querySelector('ol.hits h3 a').click()")
+    tests.holds(tests.shows("Snow"), "a hit leads to its very capture", tests.text())
+    tests.holds("20200101000000" in browser.run("location.hash"), "its address", browser.run("location.hash"))
+    browser.run("history.back()")
+    tests.holds(tests.becomes(f"{HITS} === 1"), "back to the hits", tests.text())
+    tests.holds(browser.run("byId('find-words').value") == "snow site", "the words are in the field again")
+
+
+def words_that_are_not_there(tests: Any) -> None:
+    """Nothing found, what is no question, and a question with filters; what is shown of a page is never markup."""
+    said = {
+        "nowhere": "No page has these words. No text has: nowhere",
+        "sn*": "sn*: the beginning of a word has 3 letters or more",
+        "-snow": "no word to look for",
+        '"': "no word to look for",
+    }
+    for text, sentence in said.items():
+        tests.go("")
+        type_words(tests, text)
+        is_said = f"byId('status').textContent === {json.dumps(sentence)}"
+        tests.holds(tests.becomes(is_said), f"words, {text}", tests.text())
+    tests.go("#search?q=site&before=2021&host=.example&type=html")
+    tests.holds(tests.becomes(f"{HITS} === 1"), "filters", tests.text())
+    tests.holds(tests.browser.run("byId('find-before').value") == "2021", "filters are in the form")
+    tests.go("#search?q=markup")
+    shown = "document.body.innerText.includes('<b>markup</b> \u27e8U+202E\u27e9')"
+    tests.holds(tests.becomes(shown), "a page with markup in its text is shown as it is", tests.text())
+    tests.holds(tests.browser.run("document.querySelector('ol.hits b')") is None, "it is no markup")
+
+
+def paths(tests: Any, folder: str) -> None:
+    """The pages of a host as a tree, by the keyboard."""
+    browser = tests.browser
+    tests.go("#below/http://site.example/")
+    tests.holds(tests.becomes("!!document.querySelector('ul.tree summary')"), "a tree", tests.text())
+    browser.run("document.querySelector('ul.tree summary').focus()")
+    browser.press("Enter", "\r")
+    tests.holds(tests.becomes("!!document.querySelector('ul.tree ul.tree a')"), "a folder opens", tests.text())
+    screens(tests, "a tree", folder)
+    browser.run("document.querySelector('ul.tree ul.tree a').focus()")
+    browser.press("Enter", "\r")
+    tests.holds(tests.shows("Mehr für alle"), "a page of a folder", tests.text())
+
+
+def calendar(tests: Any, folder: str) -> None:
+    """The captures of a URI by year and month."""
+    browser = tests.browser
+    tests.go("#99991231235959/http://site.example/often")
+    tests.holds(tests.shows("11"), "a page that was captured often", tests.text())
+    button = "document.querySelector('table.calendar button')"
+    tests.holds(browser.run(f"{button}.ariaLabel") == "Jan 2020: 1 capture", "a month with a capture has a name")
+    browser.run(f"{button}.focus()")
+    browser.press("Enter", "\r")
+    tests.holds(tests.becomes("!!document.querySelector('.timeline li a')"), "the captures of a month", tests.text())
+    screens(tests, "a calendar", folder)
+    browser.run("document.querySelector('.timeline li a').click()")
+    tests.holds(tests.shows("0"), "a capture of a month", tests.text())
+
+
+def finding(tests: Any, folder: str) -> None:
+    """All of this."""
+    first_screen(tests, folder)
+    words(tests, folder)
+    words_that_are_not_there(tests)
+    paths(tests, folder)
+    calendar(tests, folder)
