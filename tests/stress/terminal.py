@@ -109,8 +109,8 @@ def run(
     return Result(contents(stress.path("out")), terminal.close(), done.returncode), seconds
 
 
-def slow(stress: Stress, path: str) -> List[str]:
-    """The words that make the first reads of a file slow."""
+def slow(stress: Stress, path: str, first: int = 1) -> List[str]:
+    """The words that make the first reads of a file slow, or those from another one on."""
     return [
         "strace",
         "-f",
@@ -121,7 +121,7 @@ def slow(stress: Stress, path: str) -> List[str]:
         "-e",
         "trace=read,pread64",
         "-e",
-        "inject=read,pread64:delay_enter=%d:when=1..%d" % (DELAY, SLOW_READS),
+        "inject=read,pread64:delay_enter=%d:when=%d..%d" % (DELAY, first, first + SLOW_READS - 1),
     ]
 
 
@@ -163,17 +163,41 @@ def output_progress(stress: Stress) -> None:
     """What follows the reading may take long, too: here nobody reads the output for some time."""
     stress.begin("progress of an output")
     path = stress.file("many.warc", b"".join(system.record_text("resource", "urn:x:%d" % n, b"") for n in range(3000)))
-    wanted = stress.run(["captures", path])
-    terminal = Terminal()
-    child = subprocess.Popen([stress.program, "captures", path], stdout=subprocess.PIPE, stderr=terminal.theirs)
-    assert child.stdout
-    time.sleep(FIRST + EACH)
-    out = child.stdout.read()
-    seen = Result(out, terminal_end(terminal, child), child.wait())
-    frames = [frame for frame in seen.message.split(ERASE) if OF_OUTPUT.fullmatch(frame)]
-    is_right = (seen.out, screen(seen.message), seen.status) == (wanted.out, [b""], 0)
-    stress.judge(is_right and len(wanted.out) > 1 << 17 and frames != [], ("captures", "slowly read"), seen)
+    for command in ("captures", "survey"):
+        wanted = stress.run([command, path])
+        terminal = Terminal()
+        child = subprocess.Popen([stress.program, command, path], stdout=subprocess.PIPE, stderr=terminal.theirs)
+        assert child.stdout
+        time.sleep(FIRST + EACH)
+        out = child.stdout.read()
+        seen = Result(out, terminal_end(terminal, child), child.wait())
+        frames = [frame for frame in seen.message.split(ERASE) if OF_OUTPUT.fullmatch(frame)]
+        is_right = (seen.out, screen(seen.message), seen.status) == (wanted.out, [b""], wanted.status)
+        stress.judge(is_right and len(wanted.out) > 1 << 17 and frames != [], (command, "slowly read"), seen)
     stress.end()
+
+
+def progress_of_payloads(stress: Stress) -> None:
+    """Payloads are read once the whole archive was."""
+    stress.begin("progress of a second reading")
+    path = stress.file("payloads.warc", b"".join(payload(number) for number in range(4)))
+    words = ["fixity", "--payload", path]
+    wanted = stress.run(words)
+    run(stress, ["list", path], slow(stress, path, 1 << 15))
+    with open(stress.path("log"), encoding="ascii", errors="replace") as log:
+        reads = sum("read" in line for line in log)
+    seen, seconds = run(stress, words, slow(stress, path, reads + 1))
+    judge_progress(stress, words, seen, seconds, wanted)
+    stress.judge(reads > 1 and seconds > SLOW_READS * DELAY / 1e6, (*words, "%d reads before" % reads), seen)
+    stress.end()
+
+
+def payload(number: int) -> bytes:
+    """A record of a megabyte, whose payload has a digest."""
+    block = b"%d" % number * 1_000_000
+    digest = (("WARC-Payload-Digest", generate.sha1_text(block)),)
+    text: bytes = system.record_text("resource", "urn:x:%d" % number, block, digest)
+    return text
 
 
 def terminal_end(terminal: Terminal, child: "subprocess.Popen[bytes]") -> bytes:
@@ -474,6 +498,7 @@ KINDS = (
     system.plain_runs,
     progress,
     output_progress,
+    progress_of_payloads,
     piped_progress,
     no_progress,
     lines_for_people,
