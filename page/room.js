@@ -142,7 +142,7 @@ function showProgress(part) {
 
 // What the head of the page says of the files: their names and sizes, in the order in which they are joined.
 function showFiles() {
-  const {names, parts, file} = room, first = plainly(parts[0]?.name ?? names[0]);
+  const {names, parts, file} = room, first = plainly(names.length > 1 ? parts[0]?.name ?? names[0] : names[0]);
   const more = names.length > 1 ? ` and ${many(names.length - 1, 'more file')}` : '';
   const packed = parts.some((part) => part.isPacked) ?
       `, decompressed from ${size(parts.reduce((sum, part) => sum + part.size, 0))}` :
