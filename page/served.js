@@ -453,7 +453,8 @@ async function pagesFrom(place) {
 // The pages that packages list, of which a reader sees some at once; nothing where there are none. Pages that a reader
 // may not see aren't among them.
 async function pagesPart() {
-  const list = make('ul', {className: 'plain-list found'}), more = button('button quiet', () => add(), {}, 'More pages');
+  const list = make('ul', {className: 'plain-list found'}),
+        more = button('button quiet', () => add(), {}, 'More pages');
   let place = FIRST_PAGES;
   async function add() {
     const {lines, next} = await pagesFrom(place);

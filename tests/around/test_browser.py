@@ -9,6 +9,7 @@ import pytest
 import test_page
 import test_served
 from collection_trial import Trial
+from finding import finding
 from listener import Listener
 
 from .conftest import built, needs
@@ -47,8 +48,10 @@ def room_fixture(warc: str, tmp_path_factory: pytest.TempPathFactory) -> Iterato
     needs("chromium", "parallel")
     built("out/python/zogwedu/libwarc.so")
     trial = Trial(warc, str(tmp_path_factory.mktemp("room")))
-    with contextlib.closing(Listener()) as listener, test_served.room(trial, listener) as tests:
-        yield tests, listener, trial
+    with contextlib.closing(Listener()) as listener:
+        test_served.read_crawls(trial, listener)
+        with test_served.room(trial) as tests:
+            yield tests, listener, trial
 
 
 @pytest.mark.xdist_group("served-page")
@@ -75,6 +78,14 @@ class TestServed:
     def test_narrow(self, room: Room) -> None:
         test_served.narrow(room[0])
         self.judge(room)
+
+    def test_finding(self, room: Room) -> None:
+        finding(room[0], "")
+        self.judge(room)
+
+    def test_withheld(self, room: Room) -> None:
+        tests = test_served.withheld(room[2])
+        assert tests.passed > 0 and tests.failed == 0
 
     def test_hostile(self, room: Room) -> None:
         test_served.hostile(room[0], room[1])

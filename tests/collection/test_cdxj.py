@@ -9,8 +9,8 @@ import zlib
 from typing import Any, Dict, List, Tuple
 
 import pytest
-from conftest import Collection, Done, put, record, script
-from rooms import HTTP, ID, PACKAGE, new_collection, read, response, revisit
+from conftest import PACKAGE, Collection, Done, put, record, script
+from rooms import HTTP, ID, new_collection, read, response, revisit
 
 FIRST, SECOND = "2020-01-01T00:00:00Z", "2021-06-01T12:30:00.5Z"
 TOP, PAGE = "http://www.a.example/", "https://a.example/Page?b=2&a=1"

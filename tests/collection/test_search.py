@@ -14,8 +14,8 @@ from pathlib import Path
 from typing import Any, Callable, Dict, List, Sequence, Tuple
 
 import pytest
-from conftest import Collection, Done, later, record
-from rooms import ID, PACKAGE, new_collection, program, response, revisit
+from conftest import PACKAGE, Collection, Done, later, record
+from rooms import ID, new_collection, program, response, revisit
 
 from zogwedu_collection import page_texts, search
 from zogwedu_collection.access import EVERYTHING, read_access

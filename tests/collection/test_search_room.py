@@ -5,8 +5,8 @@ from pathlib import Path
 from typing import Any, Dict, List, Tuple
 
 import pytest
-from conftest import Collection
-from rooms import ID, PACKAGE, Room, new_collection, program, response, revisit
+from conftest import PACKAGE, Collection
+from rooms import ID, Room, new_collection, program, response, revisit
 
 from zogwedu_collection import search_room
 

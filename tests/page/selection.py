@@ -203,6 +203,7 @@ def many_records(tests: Any, folder: str) -> None:
     )
     records = [head % number + b"\r\n\r\n" for number in range(MANY)]
     browser = tests.opened(save(folder, "many.warc", b"".join(records)))
+    browser.until(f"!{STATUS}.includes('Looking for findings')", SECONDS)  # which puts all records into the list again
     browser.run(EVERY_SECOND)
     begun = time.monotonic()
     data = saved(browser, folder)[1]

@@ -60,7 +60,7 @@ def entry_points(tests: Any, browser: Browser) -> None:
     tests.holds(len(browser.run(LINES)) == 153, "more pages are shown")
     browser.run("document.querySelector('#package .found .link').click()")
     browser.until("room.current === 2")
-    browser.until("document.getElementById('record').innerText.includes('later')")
+    browser.until("document.getElementById('record').innerText.includes('first capture')")
     said = browser.run("document.getElementById('record').innerText")
     tests.holds("its first capture, 0.4 s later" in said, "the first capture after a page's time", said)
     browser.run("document.querySelectorAll('#package .found .link')[1].click()")
@@ -83,7 +83,7 @@ def refused(tests: Any, folder: str, records: list[bytes]) -> None:
         "cut": (wacz_of({"a.warc": crawl})[:-1], 0, "is refused", "NoEnd"),
         "twice": (zip_of([Item(b"archive/a.warc", crawl)] * 2), 0, "is refused", "two entries are named"),
         "crc": (zip_of(damaged), 9, "isn’t what was packed", "its CRC differs"),
-        "torn": (wacz_of({"a.warc.gz": gzip.compress(half)[:-9], "b.warc": crawl}), 0, "is torn", ""),
+        "torn": (wacz_of({"a.warc.gz": gzip.compress(half)[:-9], "b.warc": crawl}), len(records), "is torn", ""),
     }
     for name, (data, count, short, why) in cases.items():
         browser = tests.opened(save(folder, f"{name}.wacz", data))

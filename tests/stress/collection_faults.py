@@ -281,8 +281,8 @@ def unchecked_blocks(trial: Trial) -> None:
 
 
 def changed_file(trial: Trial) -> None:
-    """A file that is changed while it is replayed gives nothing. Where its time lies ahead, so that it may be changed
-    again in the same moment, one with the same size and time is read again."""
+    """A file that is changed while all of it is replayed gives nothing. Where its time lies ahead, so that it may be
+    changed again in the same moment, one with the same size and time is read again."""
     path = put(trial.path("archives", "a.warc"), page())
     os.utime(path, (time.time() + 86_400,) * 2)
     trial.run("c", "run", trial.path("archives"))
@@ -291,7 +291,7 @@ def changed_file(trial: Trial) -> None:
     slow = put_script(trial.path("warc"), text % (other, path, os.stat(path).st_mtime, path, trial.warc))
     os.utime(path, ns=(0, int(os.stat(path).st_mtime) * 10**9))
     trial.run("c", "run")
-    done = trial.run("c", "replay", "--warc", slow, URI.decode(), "9999")
+    done = trial.run("c", "replay", "--whole", "--warc", slow, URI.decode(), "9999")
     trial.judge((done.returncode, done.stdout) == (3, b""), "changed while it is read", done.stdout + done.stderr)
     before = os.stat(path)
     put(path + ".new", page(1, b"pqr"))

@@ -129,8 +129,8 @@ def test_random_damage(tmp_path: Any) -> None:
         for _ in range(chance.randrange(4)):
             data[chance.randrange(2, len(data))] = chance.choice((0, 8, 0x1F, 0x8B, 0xFF))
         files.append(bytes(data))
-    for data, found in zip(files, each(files)):
-        assert (found["bytes"], places(found)) == by_python(data, tmp_path), data.hex()
+    for made, found in zip(files, each(files)):
+        assert (found["bytes"], places(found)) == by_python(made, tmp_path), made.hex()
 
 
 def test_what_a_gap_says() -> None:
