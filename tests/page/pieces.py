@@ -66,7 +66,7 @@ AT_ONCE = 100  # lines of damages that are shown
 MOST_OPENING = 20  # seconds
 SMALL_LIMIT = {"const LIMIT = 2 * 1024 ** 3;": "const LIMIT = 5000;"}
 NO_HELPER = {"Math.min(4, navigator.hardwareConcurrency || 1)": "1"}
-SEEKS = "(await filled(this.module, seek)).pieces(seek.end)"
+SEEKS = "piecesBetween(await filled(this.module, seek), seek.sides)"
 NEVER = {SEEKS: "await new Promise(() => {})"}
 FAILS = {SEEKS: "nowhere"}
 IMPATIENT = {**NEVER, "const PATIENCE = 60000;": "const PATIENCE = 900;"}
@@ -256,7 +256,7 @@ def compressed_and_several(tests: Any, folder: str, records: list[bytes], same: 
     torn = save(folder, "torn.warc.gz", packed(damaged)[:-9])
     browser = tests.opened(torn)
     said = browser.run(SAID)
-    tests.holds("is torn" in said and "F3 Field" in said, "pieces: torn and damaged", said)
+    tests.holds("2 damages" in said and "F3 Field" in said, "pieces: torn and damaged", said)
     tests.holds(browser.run("room.rows.count") == len(records) - 2, "pieces: torn and damaged, its records")
     browser.close()
 
