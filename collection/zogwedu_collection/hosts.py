@@ -60,7 +60,7 @@ class Site:
         return "%s://%s%s" % (forwarded if forwarded in ("http", "https") else scheme, name, self.top(environ))
 
     def address(self, environ: Environ) -> str:
-        """The address of the reader. A proxy adds it at the end of what it was told."""
+        """The address of the reader. A proxy adds it at the end of the field that it got."""
         forwarded = last_of(environ, "HTTP_X_FORWARDED_FOR") if self.is_behind_proxy else ""
         return forwarded or str(environ.get("REMOTE_ADDR", ""))
 
