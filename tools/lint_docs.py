@@ -4,7 +4,8 @@
 - A block of code in README.md or docs/LIBRARY.md is part of a file of crates/example_*, of c/ or of python/ or
   rust/examples, word for word.
 - A call or a law that docs/PROMISES.md names after a crate is in this crate.
-- docs/TRUST.md is as tools/lint_trust.py says, and docs/ARCHITECTURE.md as tools/lint_architecture.py says.
+- docs/TRUST.md is as tools/lint_trust.py says, with the counts of tools/count_specs.py, and docs/ARCHITECTURE.md as
+  tools/lint_architecture.py says.
 - Each file that has the word of a row of CONTRIBUTING.md's table of changes is in that row (tools/lint_changes.py).
 - docs/PROGRAM.md has a section, and README.md a row, for each command of the program and for no other.
 - A link or a path that a page names is there.
@@ -24,6 +25,7 @@ import re
 import sys
 from collections.abc import Iterator
 
+import count_specs
 import lint_architecture
 import lint_changes
 import lint_speed
@@ -42,7 +44,7 @@ VERSIONS = [
 ]
 MOST = 9 * 1024
 # Modules that check something by themselves, each by its function `wrong`.
-CHECKS = (lint_architecture, lint_changes, lint_speed, lint_trust, make_numbers, make_statuses)
+CHECKS = (count_specs, lint_architecture, lint_changes, lint_speed, lint_trust, make_numbers, make_statuses)
 # A crate, a colon, and the names of its calls and laws: "`warc`: `open` and `grow` of `Archive`, law `no_faults`".
 CALLS = re.compile(
     r"`(warc\w*|example_\w+)`: ((?:laws? )?`[\w:]+`(?:(?:, | and | of |, and | or )(?:laws? )?`[\w:]+`(?!:))*)"

@@ -52,15 +52,24 @@ def faults_of(number: int, claim: str, lines: dict[str, str]) -> Iterator[str]:
                 yield f"claim {number}: {wrong}"
 
 
-def faults_in(page: str) -> Iterator[str]:
-    """What is wrong with a page of claims."""
+def claims(page: str) -> list[tuple[str, dict[str, str]]]:
+    """The claims of a page, each with the lines below it."""
     parts = re.split(r"^### \d+\. .*$", page.split("\n## What is assumed\n")[0], flags=re.MULTILINE)[1:]
-    if len(parts) != CLAIMS:
-        yield f"{len(parts)} claims, and {CLAIMS} are wanted"
-    for number, part in enumerate(parts, 1):
+    found = []
+    for part in parts:
         claim = " ".join(re.findall(r"^> (.*)$", part, re.MULTILINE))
         items = re.findall(r"^- ([^:\n]+):(.*(?:\n  .*)*)$", part, re.MULTILINE)
-        yield from faults_of(number, claim, dict(items))
+        found.append((claim, dict(items)))
+    return found
+
+
+def faults_in(page: str) -> Iterator[str]:
+    """What is wrong with a page of claims."""
+    found = claims(page)
+    if len(found) != CLAIMS:
+        yield f"{len(found)} claims, and {CLAIMS} are wanted"
+    for number, (claim, lines) in enumerate(found, 1):
+        yield from faults_of(number, claim, lines)
 
 
 def wrong() -> Iterator[str]:
