@@ -1,6 +1,6 @@
 #!/usr/bin/env python3
 """Makes the manual pages from docs/: warc.1, a page for each command and zwarc.1 from PROGRAM.md, warc.5 from
-FORMAT.md, and warc-collection.1 from COLLECTIONS.md.
+FORMAT.md, and warc-collection.1 from COLLECTIONS.md, CATALOGUE.md and ROOM.md.
 
 Usage: make_man.py FOLDER
 
@@ -16,6 +16,13 @@ from collections.abc import Iterator
 
 from shared import matched, read, version
 
+# The pages of warc-collection.1, with the sections of it that they become.
+TITLES = {
+    "COLLECTIONS.md": "Description",
+    "CATALOGUE.md": "The catalogue of a collection",
+    "ROOM.md": "The room of a collection",
+}
+OF_COLLECTIONS = tuple(TITLES)
 HEADING = re.compile(r"^(#+) (.*)$")
 ITEM = re.compile(r"^(-|\d+\.) +(.*)$")
 
@@ -34,7 +41,8 @@ def code(text: str) -> str:
 def inline(text: str) -> str:
     """A paragraph's code, bold and italic words, and the page that a document became."""
     text = text.replace("docs/FORMAT.md", "warc(5)").replace("docs/PROGRAM.md", "warc(1)")
-    text = text.replace("docs/COLLECTIONS.md", "warc-collection(1)")
+    for name in OF_COLLECTIONS:
+        text = text.replace(f"docs/{name}", "warc-collection(1)")
     parts = re.split(r"(`[^`]+`|\*\*[^*]+\*\*|\*[^*\s][^*]*\*)", text)
     out = ""
     for part in parts:
@@ -203,15 +211,18 @@ def main() -> None:
         + "".join(f"# {title}\n{re.sub('^###', '####', it, flags=re.M)}" for title, it in rules)
     )
     write(folder, "warc", 5, page("warc", 5, "the WARC format, as Zogwedu reads it", text, ["warc(1)"]))
-    write(folder, "warc-collection", 1, collection_page(read("docs/COLLECTIONS.md")))
+    write(folder, "warc-collection", 1, collection_page(*(read(f"docs/{it}") for it in OF_COLLECTIONS)))
 
 
-def collection_page(text: str) -> str:
-    """warc-collection.1: the whole page, with its first block of code as the synopsis."""
+def collection_page(text: str, *others: str) -> str:
+    """warc-collection.1: the whole page, with its first block of code as the synopsis, and the others after it."""
     first, parts = sections(text)
     summary, usage, rest = matched(re.match(r"\s*(.*?)\n\n```\n(.*?)```\n(.*)", first, re.DOTALL)).groups()
     text = f"# Synopsis\n\n```\n{usage}```\n\n# Description\n\n{summary}\n\n{rest}"
     text += "".join(f"# {title}\n{re.sub('^###', '####', it, flags=re.M)}" for title, it in parts)
+    text += "".join("\n" + re.sub("^##+ ", "#### ", it, flags=re.M) for it in others)
+    for name in OF_COLLECTIONS:
+        text = re.sub(rf"\[{name}\]\({name}\)", f"'{TITLES[name]}'", text)
     return page(
         "warc-collection", 1, "checks, catalogues and replays many web archives", text, ["warc(1)", "parallel(1)"]
     )

@@ -2,7 +2,7 @@
 
 The program `warc` reads each file; GNU parallel spreads the files over cores and machines; SQLite keeps what was found.
 This package only puts them together. It has no rule of the format: what a record is, what is wrong with it and what a
-capture gives, the program says. docs/COLLECTIONS.md describes each command.
+capture gives, the program says. docs/COLLECTIONS.md, CATALOGUE.md and ROOM.md describe the commands.
 """
 import os
 

@@ -1,6 +1,6 @@
 """The server over a collection, as a WSGI application: answers of Memento (RFC 7089), and captured bodies.
 
-`application` takes the catalogue from the environment, as docs/COLLECTIONS.md says. What a capture is, which one is
+`application` takes the catalogue from the environment, as docs/ROOM.md says. What a capture is, which one is
 chosen and what it gives is decided elsewhere, as for `find` and `replay`. Nothing is opened by a name that comes from a
 request: a request names a target and an instant, which are looked up in the catalogue.
 """
