@@ -17,7 +17,7 @@
 # make lint-code    checks the code that isn't proved: types, layout, warnings; leaves out what isn't installed
 # make lint-docs    compares README's code with the example crates, and looks for what the pages may not hold
 # make numbers      makes docs/NUMBERS.md from the table of numbers
-# make statuses     makes the exit statuses of docs/PROGRAM.md from the help texts
+# make program-page   makes the sections of docs/PROGRAM.md on commands from the help texts
 # make man          makes the manual pages and the completions under out/
 # make collection   makes the one file out/warc-collection of the package in collection/
 # make install      copies what is built to PREFIX: the program, pages, completions, docs, examples, and the library,
@@ -45,7 +45,7 @@ ARGS ?=
 
 .PHONY: all try quick test test-around plants check lint lint-code test-docs lint-docs man install uninstall
 .PHONY: install-python uninstall-python dist verify-dist test-compatibility test-package stress bench bench-libraries
-.PHONY: clean lib python rust test-callers page test-page numbers statuses collection
+.PHONY: clean lib python rust test-callers page test-page numbers program-page collection
 
 define PAGES
 @python3 tools/make_collection.py out/warc-collection
@@ -116,8 +116,8 @@ lint-docs:
 numbers:
 	@python3 tools/make_numbers.py
 
-statuses:
-	@python3 tools/make_statuses.py
+program-page:
+	@python3 tools/make_program.py
 
 collection:
 	@python3 tools/make_collection.py out/warc-collection

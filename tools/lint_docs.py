@@ -14,7 +14,7 @@
 - docs/PROMISES.md and docs/TRUST.md name the number of cases that the suites and tests/cases have.
 - README says of speed what docs/SPEED.md says.
 - docs/NUMBERS.md is what tools/make_numbers.py makes, and docs/FORMAT.md has the same numbers and names.
-- The exit statuses of docs/PROGRAM.md are what tools/make_statuses.py makes of the help texts.
+- The sections of commands in docs/PROGRAM.md are what tools/make_program.py makes of the help texts.
 - Each crates/NAME/CALLING.md is what tools/make_calling.py makes, and has at most 150 lines.
 """
 from __future__ import annotations
@@ -32,7 +32,7 @@ import lint_speed
 import lint_trust
 import make_calling
 import make_numbers
-import make_statuses
+import make_program
 from shared import TOP, read, version
 
 PAGES = ["README.md", "CONTRIBUTING.md", "CHANGELOG.md", "docs/*.md", "*/README.md"]
@@ -44,7 +44,7 @@ VERSIONS = [
 ]
 MOST = 9 * 1024
 # Modules that check something by themselves, each by its function `wrong`.
-CHECKS = (count_specs, lint_architecture, lint_changes, lint_speed, lint_trust, make_numbers, make_statuses)
+CHECKS = (count_specs, lint_architecture, lint_changes, lint_speed, lint_trust, make_numbers, make_program)
 # A crate, a colon, and the names of its calls and laws: "`warc`: `open` and `grow` of `Archive`, law `no_faults`".
 CALLS = re.compile(
     r"`(warc\w*|example_\w+)`: ((?:laws? )?`[\w:]+`(?:(?:, | and | of |, and | or )(?:laws? )?`[\w:]+`(?!:))*)"
