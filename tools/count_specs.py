@@ -176,7 +176,8 @@ def way(specs: Files, words: set[Word]) -> str:
 def table() -> str:
     """The table of the page."""
     specs = specs_of(TOP)
-    rows, before = "", set()
+    rows = ""
+    before: set[Word] = set()
     for number, words in enumerate(of_claims(specs), 1):
         more = words - before
         before |= words

@@ -8,10 +8,10 @@
   tools/lint_architecture.py says.
 - Each file that has the word of a row of CONTRIBUTING.md's table of changes is in that row (tools/lint_changes.py).
 - docs/PROGRAM.md has a section, and README.md a row, for each command of the program and for no other.
-- A link or a path that a page names is there.
-- README.md has at most 9 KB.
+- A link, a heading or a path that a page names is there.
+- README.md has at most 9 KB, and the pages have no more words than tools/lint_words.py says.
 - CHANGELOG.md has a section for the version, and the packages for Python and Rust have that version.
-- docs/PROMISES.md and docs/TRUST.md name the number of cases that the suites and tests/cases have.
+- docs/TRUST.md names the number of cases that the suites and tests/cases have.
 - README says of speed what docs/SPEED.md says.
 - docs/NUMBERS.md is what tools/make_numbers.py makes, and docs/FORMAT.md has the same numbers and names.
 - The sections of commands in docs/PROGRAM.md are what tools/make_program.py makes of the help texts.
@@ -30,6 +30,7 @@ import lint_architecture
 import lint_changes
 import lint_speed
 import lint_trust
+import lint_words
 import make_calling
 import make_numbers
 import make_program
@@ -44,7 +45,16 @@ VERSIONS = [
 ]
 MOST = 9 * 1024
 # Modules that check something by themselves, each by its function `wrong`.
-CHECKS = (count_specs, lint_architecture, lint_changes, lint_speed, lint_trust, make_numbers, make_program)
+CHECKS = (
+    count_specs,
+    lint_architecture,
+    lint_changes,
+    lint_speed,
+    lint_trust,
+    lint_words,
+    make_numbers,
+    make_program,
+)
 # A crate, a colon, and the names of its calls and laws: "`warc`: `open` and `grow` of `Archive`, law `no_faults`".
 CALLS = re.compile(
     r"`(warc\w*|example_\w+)`: ((?:laws? )?`[\w:]+`(?:(?:, | and | of |, and | or )(?:laws? )?`[\w:]+`(?!:))*)"
@@ -92,13 +102,24 @@ def commands_elsewhere() -> Iterator[str]:
             yield f"{page}: {'lacks' if name in own else 'has'} the command {name}"
 
 
+def anchors(page: str) -> set[str]:
+    """What a link may name on a page: its headings, as GitHub spells them."""
+    titles = re.findall(
+        r"^#+ (.*)$", re.sub(r"^```.*?^```$", "", read(page), flags=re.MULTILINE | re.DOTALL), re.MULTILINE
+    )
+    return {re.sub(r"[^\w -]", "", title.lower()).replace(" ", "-") for title in titles}
+
+
 def missing_paths(page: str) -> Iterator[str]:
-    """Links and paths of the repository that aren't there."""
+    """Links and paths of the repository that aren't there, and headings that a link names and a page lacks."""
     text = read(page)
     folder = os.path.dirname(page)
-    for link in re.findall(r"\]\(([^)#:]+)(?:#[^)]*)?\)", text):
-        if not os.path.exists(f"{TOP}/{folder}/{link}"):
+    for link, anchor in re.findall(r"\]\(([^)#:]*)(?:#([^)]*))?\)", text):
+        path = os.path.normpath(f"{folder}/{link}") if link else page
+        if not os.path.exists(f"{TOP}/{path}"):
             yield f"{page}: no file {link}"
+        elif anchor and anchor not in anchors(path):
+            yield f"{page}: {path} has no heading #{anchor}"
     for path in re.findall(r"`((?:crates|tests|tools|docs|examples|packaging|bench|c|python|rust)/[\w./-]*\w)`", text):
         if not os.path.exists(f"{TOP}/{path}") and "NAME" not in path:
             yield f"{page}: no file {path}"
@@ -116,20 +137,19 @@ def cases_in(script: str) -> int:
 
 
 def cases_elsewhere() -> Iterator[str]:
-    """Numbers of cases in pages that the suites' reports, which the gate compares, and the scripts don't have."""
+    """A number of cases in TRUST that the suites' reports, which the gate compares, and the scripts don't have."""
     count = 0
     for path in glob.glob(f"{TOP}/crates/suites_*/stdout"):
         report = read(os.path.relpath(path, TOP))
         count += sum(map(int, re.findall(r"^(\d+) cases, \d+ steps, 0 failed$", report, re.MULTILINE)))
     for path in glob.glob(f"{TOP}/tests/cases/*.script"):
         count += cases_in(read(os.path.relpath(path, TOP)))
-    for page in ("docs/PROMISES.md", "docs/TRUST.md"):
-        numbers = re.findall(r"\b(\d[\d,]*)\s+cases\b", read(page))
-        for number in numbers:
-            if number != f"{count:,}":
-                yield f"{page}: {number} cases, and the suites and tests/cases have {count:,}"
-        if not numbers:
-            yield f"{page}: no number of cases"
+    numbers = re.findall(r"\b(\d[\d,]*)\s+cases\b", read("docs/TRUST.md"))
+    for number in numbers:
+        if number != f"{count:,}":
+            yield f"docs/TRUST.md: {number} cases, and the suites and tests/cases have {count:,}"
+    if not numbers:
+        yield "docs/TRUST.md: no number of cases"
 
 
 def versions_elsewhere() -> Iterator[str]:

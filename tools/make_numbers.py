@@ -34,8 +34,8 @@ TITLES = {
 }
 INTRO = """# Numbers
 
-What the numbers mean that the program prints, and what to do. `warc explain F10` prints the same lines.
-[FORMAT.md](FORMAT.md) has the exact rules.
+For whoever sees a number that the program prints: what it means, and what to do. `warc explain F10` prints the same
+lines. [FORMAT.md](FORMAT.md) has the exact rules.
 
 This page is made from `crates/warc_arguments/src/numbers.rt`: change that, and run `make numbers`.
 """

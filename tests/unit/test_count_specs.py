@@ -52,9 +52,7 @@ def two_files() -> count_specs.Files:
     }
 
 
-@pytest.mark.parametrize(
-    "function, words", [("shown", {"IsGood"}), ("other", {"IsPart"}), ("", {"IsGood", "IsPart"})]
-)
+@pytest.mark.parametrize("function, words", [("shown", {"IsGood"}), ("other", {"IsPart"}), ("", {"IsGood", "IsPart"})])
 def test_what_a_contract_cites(tmp_path: Path, function: str, words: Set[str]) -> None:
     (tmp_path / "a.rt").write_text(CODE, encoding="utf-8")
     assert {word for _, _, word in count_specs.cited(str(tmp_path / "a.rt"), function)} == words
