@@ -45,8 +45,9 @@ def scripts(folder: str) -> tuple[str, ...]:
 
 
 PACKAGES = "tests/reference/packages.py"  # makes what tests read
+PROVING = ("tools/proofs.py", "tools/shared.py")
 # Tests of scripts for the machine.
-MACHINE = ("tests/tools/test_install.py", "tests/stress/zwarc.py", PACKAGES)
+MACHINE = ("tests/tools/test_install.py", "tests/tools/test_proofs.py", "tests/stress/zwarc.py", PACKAGES)
 
 SHELL = (
     *(".ci/run", "shell/zwarc", "tools/need.sh", "packaging/build.sh", "packaging/test.sh"),
@@ -121,8 +122,9 @@ CHECKS = [
     Check("types of bench/", ("mypy", "--strict", *scripts("bench"), *COLLECTION, "tests/page/browser.py")),
     Check("layout of bench/", (*LAYOUT, "bench")),
     Check("shell scripts", ("shellcheck", *SHELL)),
-    Check("types of the tests of the machine", ("mypy", "--strict", "--follow-imports=silent", *MACHINE)),
+    Check("types of the tests of the machine", ("mypy", "--strict", "--follow-imports=silent", *MACHINE, *PROVING)),
     Check("tools/install.py, tried", ("python3", "tests/tools/test_install.py")),
+    Check("tools/proofs.py, tried", ("python3", "tests/tools/test_proofs.py")),
     Check("types of the Python package", ("mypy", "--strict", "python/src/zogwedu")),
     Check("types of the examples in Python", (*TYPES, "python/src/zogwedu", *EXAMPLES)),
     Check("types of python/setup.py", ("mypy", "--strict", *WITHOUT_STUBS, "python/setup.py")),

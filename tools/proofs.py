@@ -116,6 +116,20 @@ def copy_crate(folder: str, to: str, ending: str = "") -> None:
                     shutil.copyfile(f"{at}/{file}", f"{to}/{inside}/{name}")
 
 
+def drop_sources(folder: str) -> None:
+    """Removes a crate's folder, but for what was built of it."""
+    for name in os.listdir(folder):
+        if name == "out":
+            continue
+        path = f"{folder}/{name}"
+        if os.path.isdir(path):
+            shutil.rmtree(path)
+        else:
+            os.remove(path)
+    with contextlib.suppress(OSError):
+        os.rmdir(folder)
+
+
 class Tree:
     """A tree for one purpose, such as the program, in which one command at a time works."""
 
@@ -139,9 +153,10 @@ class Tree:
 
     def put(self, names: Sequence[str], kinds: dict[str, str] | None = None) -> None:
         """Has the tree hold these crates as they are in the checkout, and no others. A kind is what the tree's
-        crates.txt says of a crate after its name, if it isn't what the checkout's own says."""
+        crates.txt says of a crate after its name, if it isn't what the checkout's own says. What was built of others
+        stays."""
         for other in set(os.listdir(f"{self.top}/crates") if os.path.isdir(f"{self.top}/crates") else []) - {*names}:
-            shutil.rmtree(self.folder(other))
+            drop_sources(self.folder(other))
         fronts = {name: front for name, (front, _) in rows().items()}
         with open(f"{self.top}/crates.txt", "w", encoding="utf-8") as out:
             for name in names:
