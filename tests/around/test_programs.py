@@ -1,6 +1,8 @@
 """Programs around `warc`: zwarc, files that other programs write, and the second reading of the format."""
 from __future__ import annotations
 
+import shlex
+import subprocess
 import sys
 from pathlib import Path
 from typing import Callable
@@ -34,6 +36,19 @@ def test_zwarc(
 def test_second_reading(name: str, count: int, warc: str) -> None:
     """The program gives what the second reading does of archives made from seeds."""
     passes([sys.executable, f"tests/stress/{name}.py", warc, str(count), "1"])
+
+
+@pytest.mark.parametrize(
+    "begin, packing", [(b"\x1f\x8b", "gzip"), (b"\x28\xb5\x2f\xfd", "zstd"), (b"PK\x03\x04", "ZIP")]
+)
+def test_hint_for_a_packed_archive(begin: bytes, packing: str, warc: str, tmp_path: Path) -> None:
+    """A refused file that begins as a packed one does is read by the same words after another name."""
+    path = tmp_path / "packed"
+    path.write_bytes(begin)
+    words = ["list", "--hints", str(path)]
+    done = subprocess.run([warc, *words], capture_output=True, text=True, check=False)
+    assert done.returncode == 2
+    assert done.stderr.splitlines()[1:] == [f"this looks like {packing}: zwarc {shlex.join(words)}"]
 
 
 @pytest.mark.parametrize("name", ["compare", "payloads"])

@@ -433,6 +433,8 @@ def hints_wanted(stress: Stress) -> Iterator[Tuple[Sequence[str], Optional[str],
     in_hex = ("--uri-hex", system.TARGET.encode().hex())
     yield ("list", "--hints", missing), None, "%s: No such file or directory (os error 2)" % missing
     yield ("check", packed, "--hints"), None, "this looks like gzip: zwarc check %s --hints --quiet" % packed
+    package = stress.file("package.wacz", b"PK\x03\x04")
+    yield ("list", package, "--hints"), None, "this looks like ZIP: zwarc list %s --hints" % package
     yield ("list", "--hints", stress.archive), None, None
     yield ("list", "--hints", stress.file("empty.warc", b"")), None, "the file is empty: an archive of no records"
     yield ("replay", "--hints", stress.archive, system.TARGET, "1999"), None, earliest

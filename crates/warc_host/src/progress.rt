@@ -118,12 +118,14 @@ impl<'a> Progress<'a> {
     }
 }
 
-/// The compression whose output begins like these bytes.
+/// The compression whose output begins like these bytes, or ZIP: a package of archives (WACZ) is a ZIP file.
 fn packing_of(bytes: &[u8]) -> Option<&'static str> {
     if bytes.starts_with(&[0x1f, 0x8b]) {
         Some("gzip")
     } else if bytes.starts_with(&[0x28, 0xb5, 0x2f, 0xfd]) {
         Some("zstd")
+    } else if bytes.starts_with(b"PK\x03\x04") {
+        Some("ZIP")
     } else {
         None
     }
