@@ -10,5 +10,6 @@ pub mod LinkLemmas
 pub mod PassLemmas
 pub mod LinkedLemmas
 pub mod ChainLemmas
+pub mod ReachLemmas
 pub mod CaptureLemmas
 pub mod TextLemmas

@@ -5,5 +5,6 @@ pub mod Referents
 pub mod Links
 pub mod Linked
 pub mod Orders
+pub mod Chains
 pub mod Addition
 pub mod Texts

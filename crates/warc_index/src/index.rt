@@ -1,6 +1,6 @@
 //! The records of an archive, found by target and instant, and by id.
 
-ghost use Rattle.std.specs.Prelude.{◌≡◌, ◌<◌, [], ◌∷◌, ◌++◌, List, Some, not, length, min, take, ok_or, true};
+ghost use Rattle.std.specs.Prelude.{◌≡◌, ℕ, ◌<◌, [], ◌∷◌, ◌++◌, List, Some, not, length, min, take, ok_or, true};
 ghost use Rattle.std.specs.Prelude.{slice_get};
 ghost use Rattle.std.specs.Prelude.{OnOk, OnErr, IfOk, IfSome, All};
 ghost use Rattle.std.specs.Option.{option_to_list};
@@ -11,12 +11,14 @@ ghost use Rattle.warc_index.specs.Addition.{IsPutOf};
 ghost use Rattle.warc_index.specs.Captures.{AreCapturesOf, Indexed, indexed_of, is_capture, chosen_of};
 ghost use Rattle.warc_index.specs.Referents.{by_key, by_pair, by_payload, first_with, is_revisit_at};
 ghost use Rattle.warc_index.specs.Referents.{next_of, referent_of, origin_of};
+ghost use Rattle.warc_index.specs.Chains.{AreChainsOf, Reaches, onward, place_for};
 ghost use Rattle.warc_index.specs.Links.{link_seen};
 ghost use Rattle.warc_index.specs.Linked.{instant_mark, revisit_link};
 ghost use Rattle.warc_index.specs.Orders.{IsIndexOf, IsBelow, id_entry, capture_entry, text_bytes};
 ghost use Rattle.warc_index.specs.Orders.{step_of};
 
 use crate::addition::{Addition, add_record, kept_of, truncate_all};
+use crate::chains::{double, place_for};
 use crate::key::OTHERS;
 use crate::link::{FIRST, Link, Links, Role};
 use crate::linked::mark_at;
@@ -29,13 +31,15 @@ use warc_record::{IdKey, Typed};
 use warc_value::Moment;
 
 /// What is kept of records: their entries in `O` by id, and by target and instant, and what leads from a revisit to
-/// another record. To a caller it is what is kept of a list of records.
+/// another record. To a caller it is what is kept of a list of records. `places` is empty, or has for each record where
+/// its chain ends.
 #[derive(Drop)]
 pub struct RecordIndex<O: HasEntries, A: Allocator = Global> {
     count: usize,
     by_id: O,
     by_target: O,
     links: Links<A>,
+    places: Vec<usize, A>,
 }
 
 /// An index whose records are in order, and are found.
@@ -47,6 +51,7 @@ pub type UnorderedIndex<A = Global> = RecordIndex<Unordered<A>, A>;
 
 impl<O: HasEntries, A: Allocator> Model for RecordIndex<O, A> {
     ghost use Rattle.std.specs.Prelude.{◌≡◌, length};
+    ghost use Rattle.warc_index.specs.Chains.{AreChainsOf};
     ghost use Rattle.warc_index.specs.Orders.{Indexes, IsBelow};
 
     ghost Value = { Indexes };
@@ -62,6 +67,12 @@ impl<O: HasEntries, A: Allocator> Model for RecordIndex<O, A> {
       ids : IsBelow s.count (O.entries s.by_id);
       captures : IsBelow s.count (O.entries s.by_target);
       links : length s.links ≡ s.count;
+      places : AreChainsOf (record {
+        count = s.count;
+        ids = O.entries s.by_id;
+        captures = O.entries s.by_target;
+        links = s.links;
+      }) s.places.items;
     } };
 }
 
@@ -83,6 +94,7 @@ impl<O: EntryList, A: Allocator + Copy> RecordIndex<O, A> {
             position,
             kept,
         )?;
+        self.places.clear();
         self.count = count;
         Ok(())
     }
@@ -102,6 +114,7 @@ impl<O: EntryList, A: Allocator + Copy> RecordIndex<O, A> {
     {
         if count < self.count {
             truncate_all(&mut self.by_id, &mut self.by_target, &mut self.links, count);
+            self.places.clear();
             self.count = count;
         }
     }
@@ -117,6 +130,7 @@ impl<A: Allocator + Copy> RecordIndex<Unordered<A>, A> {
             by_id: Unordered::new(alloc),
             by_target: Unordered::new(alloc),
             links: Links::new(alloc),
+            places: Vec::new(alloc),
         }
     }
 
@@ -129,12 +143,14 @@ impl<A: Allocator + Copy> RecordIndex<Unordered<A>, A> {
             by_id,
             by_target,
             links,
+            places,
         } = self;
         RecordIndex {
             count,
             by_id: by_id.into_order(),
             by_target: by_target.into_order(),
             links,
+            places,
         }
     }
 }
@@ -149,6 +165,7 @@ impl<A: Allocator + Copy> RecordIndex<Order<A>, A> {
             by_id: Order::new(alloc),
             by_target: Order::new(alloc),
             links: Links::new(alloc),
+            places: Vec::new(alloc),
         }
     }
 
@@ -293,11 +310,60 @@ impl<A: Allocator + Copy> RecordIndex<Order<A>, A> {
         }
     }
 
-    /// The origin of the capture at a position: the capture itself, or what a revisit leads to in the end. `Err`: P3
-    /// if the profile of a revisit isn't known; P4 if one names nothing and no payload of its target by its own
-    /// instant has its digest; P5 if what one names isn't there; P6 if they lead back. It takes no memory, and
-    /// one look-up for each revisit on the way, never more than there are records.
-    pub fn origin(&self, position: usize) -> Result<usize, Unfound>
+    /// The place to which one step from each position leads: the position itself, if its chain ends there.
+    fn first_places(&self, alloc: A) -> Result<Vec<usize, A>, AllocError>
+        ensures { (all : List Indexed) → IsIndexOf all self.now → IfOk result (λ places.
+            (length places.items ≡ length all) × ((p : ℕ) → p < length all →
+            place_for places.items p ≡ onward (next_of all) p)) }
+    {
+        let mut places = Vec::new(alloc);
+        places.reserve(self.count)?;
+        'stepping: for position in 0..self.count {
+            places.push(self.referent(position).unwrap_or(position))?;
+        }
+        Ok(places)
+    }
+
+    /// Where the chain of each record ends, or a place in the loop that it comes to.
+    fn last_places(&self, alloc: A) -> Result<Vec<usize, A>, AllocError>
+        ensures { IfOk result (λ places. AreChainsOf self.now places.items) }
+    {
+        let mut places = self.first_places(alloc)?;
+        let mut steps = 1;
+        'doubling: while steps < self.count {
+            double(&mut places);
+            steps += steps.min(self.count - steps);
+        }
+        Ok(places)
+    }
+
+    /// Has each origin found in one look-up from now on, until a record is added or taken away, also where each revisit
+    /// names the one before. It takes eight bytes for each record, and passes over them, one more whenever there are
+    /// twice as many. If the memory for that is refused, nothing changes, and each origin is found step by step.
+    pub fn follow_chains(&mut self, alloc: A)
+        ensures { self.new ≡ self.old }
+    {
+        if self.places.len() < self.count {
+            if let Ok(places) = self.last_places(alloc) {
+                self.places = places;
+            }
+        }
+    }
+
+    /// The origin by the place where a chain ends, or by one in the loop that it comes to.
+    fn origin_from(&self, place: usize) -> Result<usize, Unfound>
+        ensures { (all : List Indexed) → IsIndexOf all self.now → (position : ℕ) →
+            Reaches (next_of all) (length all) position place → result ≡ origin_of all position }
+    {
+        match self.next(place) {
+            Ok(None) => Ok(place),
+            Ok(Some(_)) => Err(Unfound::Loop),
+            Err(unfound) => Err(unfound),
+        }
+    }
+
+    /// The origin, by as many steps as there are revisits on the way.
+    fn origin_by_steps(&self, position: usize) -> Result<usize, Unfound>
         ensures { (all : List Indexed) → IsIndexOf all self.now → result ≡ origin_of all position }
     {
         let mut at = position;
@@ -312,6 +378,21 @@ impl<A: Allocator + Copy> RecordIndex<Order<A>, A> {
             Ok(at)
         } else {
             Err(Unfound::Loop)
+        }
+    }
+
+    /// The origin of the capture at a position: the capture itself, or what a revisit leads to in the end. `Err`: P3
+    /// if the profile of a revisit isn't known; P4 if one names nothing and no payload of its target by its own
+    /// instant has its digest; P5 if what one names isn't there; P6 if they lead back. It takes no memory. After
+    /// `follow_chains` it takes one look-up, and else one for each revisit on the way, never more than there are
+    /// records.
+    pub fn origin(&self, position: usize) -> Result<usize, Unfound>
+        ensures { (all : List Indexed) → IsIndexOf all self.now → result ≡ origin_of all position }
+    {
+        if self.places.is_empty() {
+            self.origin_by_steps(position)
+        } else {
+            self.origin_from(place_for(&self.places, position))
         }
     }
 }

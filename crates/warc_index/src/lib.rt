@@ -2,6 +2,7 @@
 #![tactic(auto)]
 
 mod addition;
+mod chains;
 mod index;
 mod key;
 pub mod laws;

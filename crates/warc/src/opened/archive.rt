@@ -245,6 +245,7 @@ impl<S: Source, A: Allocator + Copy> Archive<S, A> {
         ensures unchanged { IsUnchanged self.old self.new }
     {
         let Opened { source, rows, kept } = &mut self.opened;
+        kept.index.follow_chains(rows.allocator());
         locate_at(source, rows, kept, position)
     }
 
@@ -295,6 +296,7 @@ impl<S: Source, A: Allocator + Copy> Archive<S, A> {
         ensures unchanged { IsUnchanged self.old self.new }
     {
         let Opened { source, rows, kept } = &mut self.opened;
+        kept.index.follow_chains(rows.allocator());
         capture_outcome(source, rows, kept, position)
     }
 
@@ -329,6 +331,7 @@ impl<S: Source, A: Allocator + Copy> Archive<S, A> {
         ensures unchanged { IsUnchanged self.old self.new }
     {
         let Opened { source, rows, kept } = &mut self.opened;
+        kept.index.follow_chains(rows.allocator());
         judge_all(source, rows, kept, positions)
     }
 
@@ -362,6 +365,7 @@ impl<S: Source, A: Allocator + Copy> Archive<S, A> {
         ensures unchanged { IsUnchanged self.old self.new }
     {
         let Opened { source, rows, kept } = &mut self.opened;
+        kept.index.follow_chains(rows.allocator());
         write_unjudged(source, rows, kept, positions, out)
     }
 
@@ -376,6 +380,7 @@ impl<S: Source, A: Allocator + Copy> Archive<S, A> {
         ensures unchanged { IsUnchanged self.old self.new }
     {
         let Opened { source, rows, kept } = &mut self.opened;
+        kept.index.follow_chains(rows.allocator());
         take_payload(source, rows, kept, position)
     }
 
@@ -388,6 +393,7 @@ impl<S: Source, A: Allocator + Copy> Archive<S, A> {
         ensures unchanged { IsUnchanged self.old self.new }
     {
         let Opened { source, rows, kept } = &mut self.opened;
+        kept.index.follow_chains(rows.allocator());
         judge_payloads(source, rows, kept)
     }
 

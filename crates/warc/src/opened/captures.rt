@@ -147,6 +147,7 @@ impl<S: Source, A: Allocator + Copy> Captures<S, A> {
         ensures same { self.new.verdicts ≡ self.old.verdicts }
     {
         let Opened { source, rows, kept } = &mut self.opened;
+        kept.lookup.index.follow_chains(rows.allocator());
         write_judged(source, rows, &kept.lookup, &kept.verdicts, positions, out)
     }
 }

@@ -324,6 +324,7 @@ impl<S: Source, A: Allocator + Copy> Surveyed<S, A> {
         ensures kept { self.new.kept ≡ self.old.kept }
     {
         let Opened { source, rows, kept } = &mut self.opened;
+        kept.lookup.index.follow_chains(rows.allocator());
         write_survey(source, rows, kept, out)
     }
 }

@@ -1,4 +1,4 @@
-use Rattle.std.proofs.Common.{◌∙◌, ap, sym, subst, refl, length, arith}
+use Rattle.std.proofs.Common.{◌∙◌, ap, sym, subst, refl, inl, length, arith}
 use Rattle.std.proofs.lemmas.List.{length-take-le}
 use Rattle.warc_index.specs.Orders.{IsIndexOf, IsBelow}
 use Rattle.warc_index.proofs.KeptLemmas.{kept_fewer, below_kept}
@@ -12,6 +12,7 @@ invariant_of-self g c = record {
     arith,
     c.self.invariant.links,
   ));
+  places = λ all is. inl c.clear.ensures.items;
 }
 
 pub returns-then-count-self : goal.returns-then-count-self

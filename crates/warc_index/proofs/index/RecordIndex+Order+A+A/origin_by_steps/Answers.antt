@@ -1,6 +1,6 @@
 use Rattle.std.proofs.Common.{◌≡◌, ◌∙◌, ◌<◌, ap, sym, length, Ok, arith}
 use Rattle.warc_index.proofs.ChainLemmas.{chain_ends, chain_goes, chain_breaks}
-use Rattle.warc_index.proofs.index.RecordIndex+Order+A+A.origin.Goals as goal
+use Rattle.warc_index.proofs.index.RecordIndex+Order+A+A.origin_by_steps.Goals as goal
 
 pub returns-in-Ok-None : goal.returns-in-Ok-None
 returns-in-Ok-None g c all kept =

@@ -2,7 +2,7 @@ use Rattle.std.proofs.Common.{◌≡◌, ◌-◌, List, length}
 use Rattle.warc_index.specs.Captures.{Indexed}
 use Rattle.warc_index.specs.Referents.{origin_of, origin_within}
 use Rattle.warc_index.specs.Orders.{IsIndexOf}
-use Rattle.warc_index.proofs.index.RecordIndex+Order+A+A.origin.Given as goal
+use Rattle.warc_index.proofs.index.RecordIndex+Order+A+A.origin_by_steps.Given as goal
 
 abbrev pub invariant-loop-step : goal.invariant-loop-step
 invariant-loop-step g l =
