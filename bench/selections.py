@@ -1,13 +1,12 @@
 #!/usr/bin/env python3
-"""Times closed selections beside `list`, over a chain of revisits each of which names the one before it.
+"""Times closed selections and captures beside `list`, over a chain of revisits each of which names the one before it.
 
 Usage: selections.py PROGRAM FOLDER
 
 The chain has 1,000,000 revisits (or LENGTH, from the environment) to one resource. What each command writes is checked
-first: the whole chain, if the last revisit is selected with all that it needs, and nothing, if what needs the resource
-is left out. Then each runs five times, all by turns, and the least processor time counts. `captures` isn't beside them:
-it goes the whole way from each capture to its origin, so it takes the square of the chain's length. The archive is made
-in FOLDER once and kept. Prints a table in Markdown.
+first: the whole chain, if the last revisit is selected with all that it needs, nothing, if what needs the resource is
+left out, and a line for each capture. Then each runs five times, all by turns, and the least processor time counts. The
+archive is made in FOLDER once and kept. Prints a table in Markdown.
 """
 from __future__ import annotations
 
@@ -51,9 +50,9 @@ def make_chain(path: str) -> None:
     os.replace(f"{path}.new", path)
 
 
-def written(words: list[str]) -> int:
-    """How many bytes a command writes."""
-    return len(subprocess.run(words, check=True, capture_output=True).stdout)
+def written(words: list[str]) -> bytes:
+    """What a command writes."""
+    return subprocess.run(words, check=True, capture_output=True).stdout
 
 
 def main() -> None:
@@ -68,10 +67,15 @@ def main() -> None:
         "`list`": [program, "list", path],
         "`select --closed` of the last": [program, "select", "--closed", path, last],
         "`select --except --closed` of the first": [program, "select", "--except", "--closed", path, first],
+        "`captures`": [program, "captures", path],
+        "`survey`": [program, "survey", path],
     }
-    sizes = [written(words) for words in commands.values()][1:]
+    texts = [written(words) for words in commands.values()]
+    sizes = [len(text) for text in texts[1:3]]
     if sizes != [os.path.getsize(path), 0]:
         sys.exit(f"selections.py: {sizes} bytes were selected of {os.path.getsize(path)}")
+    if texts[3].count(b"\n") != LENGTH + 1:
+        sys.exit(f"selections.py: not a line for each of {LENGTH + 1} captures")
     turns = [[run(words).processor for words in commands.values()] for _ in range(RUNS)]
     least = [min(times) for times in zip(*turns)]
     print(f"{made_on(program)}\n")

@@ -86,6 +86,7 @@ UNTYPED_CALLS = ("--allow-untyped-calls",)  # they use scripts that have no type
 EXAMPLES = ("python/crawler.py", "python/example.py")
 WITHOUT_STUBS = ("--ignore-missing-imports", "--allow-subclassing-any")  # setuptools has none
 
+OF_BENCH = ("tests/page/browser.py", "tests/stress/floods.py")
 TYPES = ("mypy", "--strict", "--python-version=3.9")
 LAYOUT = ("black", "--quiet", "--check", "--line-length=120")
 COLLECTION = (
@@ -119,7 +120,7 @@ CHECKS = [
     Check("types of tools/", (*TYPES, *scripts("tools"))),
     Check("layout of tools/", (*LAYOUT, "tools")),
     Check("names that tools/ and bench/ import and don't use", ("pyflakes3", "tools", "bench")),
-    Check("types of bench/", ("mypy", "--strict", *scripts("bench"), *COLLECTION, "tests/page/browser.py")),
+    Check("types of bench/", ("mypy", "--strict", *scripts("bench"), *COLLECTION, *OF_BENCH)),
     Check("layout of bench/", (*LAYOUT, "bench")),
     Check("shell scripts", ("shellcheck", *SHELL)),
     Check("types of the tests of the machine", ("mypy", "--strict", "--follow-imports=silent", *MACHINE, *PROVING)),
