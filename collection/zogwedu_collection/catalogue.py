@@ -23,6 +23,13 @@ PATIENCE_SECONDS = 10
 READER_SECONDS = 5.0
 READER_CACHE_KIB = 8_000
 
+# What SQLite says where a change has to be undone first, or a log has no place for what its readers share.
+HALF_DONE = ("attempt to write a readonly database", "unable to open database file")
+NOT_MENDED = (
+    "a run was killed while it changed the catalogue, and who may only read can't mend it: the next run does, and so"
+    " does `warc-collection search` of a user who may write there"
+)
+
 # The tables. PostgreSQL takes the same columns, but other keys. A row of `readings` says when the rows of a file in the
 # tables of OF_A_FILE were read, and from which bytes. Of a file that is altered, the new reading is beside the one of
 # before, under the number of the file with a minus sign, until it is accepted.
@@ -199,6 +206,27 @@ def writable(path: str) -> sqlite3.Connection:
     return base
 
 
+def without_log(base: sqlite3.Connection) -> bool:
+    """Takes away the log of changes, if there is one and nobody else uses the database; returns whether there is none
+    now."""
+    try:
+        base.execute("PRAGMA busy_timeout = 0")
+        return bool(base.execute("PRAGMA journal_mode = DELETE").fetchone()[0] != "wal")
+    except sqlite3.OperationalError:
+        return False
+
+
+@contextlib.contextmanager
+def whole(path: str) -> Iterator[None]:
+    """Says why a database can't be read by one who may only read, though the file can."""
+    try:
+        yield
+    except sqlite3.OperationalError as error:
+        if str(error) in HALF_DONE and os.access(path, os.R_OK):
+            raise Trouble(NOT_MENDED) from None
+        raise
+
+
 def read_only(path: str) -> sqlite3.Connection:
     """The database for a server: it can't be written to, and a question doesn't wait long."""
     uri = "file:%s?mode=ro" % urllib.parse.quote(os.fsencode(path))
@@ -219,13 +247,23 @@ class Catalogue:
             os.makedirs(self.jobs, exist_ok=True)
         elif not os.path.exists(self.path):
             raise Trouble("no catalogue in %s: make one by warc-collection run" % shown(self.folder))
-        self.base = read_only(self.path) if is_read_only else writable(self.path)
-        self.inode = os.stat(self.path).st_ino
-        version = self.one("PRAGMA user_version")[0]
+        with whole(self.path):
+            self.base = read_only(self.path) if is_read_only else writable(self.path)
+            self.inode = os.stat(self.path).st_ino
+            if not is_read_only and not is_made:
+                self.mend()
+            version = self.one("PRAGMA user_version")[0]
         if version > VERSION:
             raise Trouble("the catalogue in %s is of a later version of warc-collection" % shown(self.folder))
         if version < VERSION and not is_made:
             raise Trouble("the catalogue in %s is of an earlier version: run warc-collection run" % shown(self.folder))
+
+    def mend(self) -> None:
+        """Takes away the log that a run left that was killed. This process would take its files, and leave a mark that
+        there is one: then those who may write nothing couldn't open the database before the next run."""
+        if self.one("PRAGMA journal_mode")[0] == "wal":
+            without_log(self.base)
+            self.base.execute("PRAGMA busy_timeout = %d" % (BUSY_SECONDS * 1000))
 
     def is_there(self) -> bool:
         """Whether the database is still the one at its path."""

@@ -10,7 +10,7 @@ import urllib.parse
 from typing import Any, Dict, Iterator, List, Optional, Sequence, Set, Tuple
 
 from .access import one_host
-from .catalogue import ABOUT_ROWS, Catalogue, mark_of
+from .catalogue import ABOUT_ROWS, Catalogue, mark_of, whole
 from .query import Query
 from .search_options import DEFAULT_HITS
 from .search_index import NO_INDEX, OF_SCANNER, SAME_READING, check_version, path_in, short, unpacked_text
@@ -132,8 +132,9 @@ def opened(folder: str) -> Catalogue:
     catalogue = Catalogue(folder, is_read_only=True)
     try:
         uri = "file:%s?mode=ro" % urllib.parse.quote(os.fsencode(path_in(catalogue.folder)))
-        catalogue.base.execute("ATTACH DATABASE ? AS %s" % SCHEMA, (uri,))
-        check_version(catalogue.base, catalogue.folder, SCHEMA)
+        with whole(path_in(catalogue.folder)):
+            catalogue.base.execute("ATTACH DATABASE ? AS %s" % SCHEMA, (uri,))
+            check_version(catalogue.base, catalogue.folder, SCHEMA)
     except BaseException:
         catalogue.base.close()
         raise

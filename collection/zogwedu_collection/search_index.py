@@ -11,12 +11,13 @@ import importlib.util
 import json
 import os
 import sqlite3
+import time
 import zlib
 from typing import Any, Dict, Iterator, List, Optional, Sequence, Set, Tuple
 
 from . import scan, words
 from .access import host_of, text_of
-from .catalogue import BUSY_SECONDS, Catalogue
+from .catalogue import BUSY_SECONDS, PATIENCE_SECONDS, Catalogue, without_log
 from .disk import Stamp
 from .page_texts import NO_PACKAGE
 from .parts import Parts
@@ -27,6 +28,7 @@ VERSION = 1
 NAME = "search.sqlite"
 SETTING = "text"  # of the catalogue: whether runs read texts
 OF_SCANNER = "%d.%d" % (scan.VERSION, words.VERSION)
+WAIT_SECONDS = 0.05  # between two looks at whether a reader is done
 MOST_SWEPT = 500  # texts in a transaction
 TABLES = (
     "CREATE TABLE IF NOT EXISTS read (file BIGINT PRIMARY KEY, run BIGINT, size BIGINT, modified BIGINT,"
@@ -68,7 +70,7 @@ def is_wanted(catalogue: Catalogue) -> bool:
 
 def remove(folder: str) -> None:
     """Removes the index."""
-    for ending in ("", "-journal"):
+    for ending in ("", "-journal", "-wal", "-shm"):
         with contextlib.suppress(FileNotFoundError):
             os.unlink(path_in(folder) + ending)
 
@@ -97,6 +99,7 @@ class Index:
         """Opens the index, or makes one."""
         self.catalogue = catalogue
         self.folder = catalogue.folder
+        self.is_made = is_made
         if not is_made and not os.path.exists(path_in(self.folder)):
             raise Trouble(NO_INDEX % shown(self.folder))
         self.base = sqlite3.connect(path_in(self.folder), timeout=BUSY_SECONDS, isolation_level=None)
@@ -104,6 +107,7 @@ class Index:
             self.base.execute("PRAGMA synchronous = FULL")
             self.base.execute("PRAGMA secure_delete = ON")
             if is_made:
+                self.keep_log()
                 self.make_tables()
             check_version(self.base, self.folder)
         except BaseException as error:
@@ -151,7 +155,18 @@ class Index:
             if self.base.in_transaction:
                 self.base.execute("RELEASE part")
 
+    def keep_log(self) -> None:
+        """Keeps changes in a log, as long as the catalogue does. What a run leaves that is killed can then be read by
+        those who may write nothing: they couldn't undo a half of a change."""
+        if self.catalogue.one("PRAGMA journal_mode")[0] == "wal":
+            self.base.execute("PRAGMA journal_mode = WAL")
+
     def close(self) -> None:
+        """Closes the index, without a log: those who may write nothing couldn't open it, since the files of the log go
+        with the last who may. A reader is waited for after a change."""
+        end = time.monotonic() + (PATIENCE_SECONDS if self.is_made else 0)
+        while not without_log(self.base) and time.monotonic() < end:
+            time.sleep(WAIT_SECONDS)
         self.base.close()
 
     # Taking in
@@ -321,7 +336,7 @@ def number_of(catalogue: Catalogue, path: str, run: int, stamp: Stamp) -> Option
 def settle_texts(catalogue: Catalogue, is_tidied: bool = False) -> None:
     """Brings the index to what the catalogue has, where there is one."""
     if os.path.exists(path_in(catalogue.folder)):
-        with contextlib.closing(Index(catalogue)) as index:
+        with contextlib.closing(Index(catalogue, is_made=True)) as index:
             index.settle()
             if is_tidied:
                 index.tidy()

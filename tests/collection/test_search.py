@@ -374,11 +374,8 @@ def loaded(folder: str) -> None:
 
 
 def places(collection: Collection) -> Dict[str, List[Tuple[int, str]]]:
-    """Where words are found: positions and years. Where a database has to be mended first, nothing is."""
-    try:
-        hits = {word: asked(collection, word).hits for word in ("mill", "tower")}
-    except sqlite3.OperationalError:
-        hits = {"mill": [], "tower": []}
+    """Where words are found, by a reader who can't mend a database: positions and years."""
+    hits = {word: asked(collection, word).hits for word in ("mill", "tower")}
     return {word: [(it.position, it.instant[:4]) for hit in of for it in hit.captures] for word, of in hits.items()}
 
 
