@@ -57,12 +57,17 @@ def all_files(folder: str) -> List[str]:
         return [Item(*json.loads(line)).path for line in files]
 
 
+def settings_in(folder: str) -> Settings:
+    """How the files of a list are read."""
+    with open(os.path.join(folder, "settings"), encoding="ascii") as file:
+        return Settings(**json.load(file))
+
+
 def do_jobs(folder: str, numbers: Sequence[int]) -> int:
     """Does jobs of a list."""
     try:
         count = count_of_jobs(folder)
-        with open(os.path.join(folder, "settings"), encoding="ascii") as file:
-            settings = Settings(**json.load(file))
+        settings = settings_in(folder)
     except (OSError, ValueError, TypeError) as error:
         raise Trouble("no list of jobs in %s: %s" % (shown(folder), error)) from None
     wrong = [number for number in numbers if not 1 <= number <= count]

@@ -512,7 +512,10 @@ class Replayer:
         """The captures with an id, in a file or in others."""
         is_indexed = self.catalogue.one("SELECT 1 FROM sqlite_master WHERE name = 'records_of_odd_ids'") is not None
         query, values = ids_like(name, is_indexed)
-        return self.where("(captures.file, position) IN (%s) AND %s" % (query, where), (*values, file), order)
+        # Two queries at once, in one of their own, and a column that no index is looked for by: SQLite looks up what
+        # they find, and doesn't go through all captures.
+        found = "(captures.file, position) IN (SELECT file, position FROM (%s)) AND +%s" % (query, where)
+        return self.where(found, (*values, file), order)
 
     def where(self, condition: str, values: Sequence[object], order: str = "instant DESC") -> List[Capture]:
         ordered = "%s ORDER BY %s LIMIT %d" % (condition, order, MOST_CANDIDATES)

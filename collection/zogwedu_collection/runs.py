@@ -13,20 +13,21 @@ import signal
 import subprocess
 import sys
 import tempfile
-from typing import Iterator, List, Optional, Sequence
+from typing import Iterator, List, Optional, Sequence, Tuple
 
 from .ages import note_due, told_due
 from .alarm import log_changes
 from .catalogue import Catalogue, Run
 from .discover import batches, files_to_do, found_files, note_changes, note_manifests
-from .job_folders import drop_folders
-from .jobs import write_jobs
+from .job_folders import drop_folders, folders_of
+from .jobs import settings_in, write_jobs
 from .limits import Limits
 from .manifest import BadLine, read_manifest
 from .messages import MESSAGES
 from .processes import lifeline_of
 from .program import Settings, not_done, own_words, program_path, version_of
 from .progress import Progress
+from .revisits import look_up_revisits
 from .search_index import choose_texts, lacking_texts, package_for_texts, settle_texts
 from .space import full_folders
 from .take_in import end_run, take_in, take_in_all, taken_in
@@ -294,6 +295,7 @@ def do_run(catalogue: Catalogue, asked: Asked, machines: Machines) -> Plan:
         do_in_parallel(catalogue, machines, plan)
     left = end_run(catalogue, plan.run, plan.folder)
     settle_texts(catalogue)
+    look_up_revisits(catalogue, asked.warc, plan.temporary)
     shutil.rmtree(plan.folder, ignore_errors=True)
     drop_folders(catalogue, plan.run if left else None)
     if left:
@@ -302,10 +304,22 @@ def do_run(catalogue: Catalogue, asked: Asked, machines: Machines) -> Plan:
     return plan
 
 
+def planned(catalogue: Catalogue) -> Tuple[Optional[str], Optional[str]]:
+    """The program and the folder for temporary files of a run that isn't at its end, if they are known."""
+    last = catalogue.last_run()
+    folders = [] if last is None or last.ended is not None else folders_of(catalogue, last.number)
+    with contextlib.suppress(OSError, ValueError, TypeError, IndexError):
+        settings = settings_in(folders[-1])
+        return settings.warc, settings.temporary
+    return None, None
+
+
 def load(catalogue: Catalogue) -> int:
     """Takes in what jobs left, and ends the run where all are done. Returns its number."""
+    warc, temporary = planned(catalogue)
     left, last = take_in_all(catalogue), catalogue.last_run()
     settle_texts(catalogue)
+    look_up_revisits(catalogue, warc, temporary)
     if last is None:
         raise Trouble("no run in %s: plan one" % shown(catalogue.folder))
     if left:

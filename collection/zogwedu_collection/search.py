@@ -13,7 +13,17 @@ from .access import one_host
 from .catalogue import ABOUT_ROWS, Catalogue, mark_of, whole
 from .query import Query
 from .search_options import DEFAULT_HITS
-from .search_index import NO_INDEX, OF_SCANNER, SAME_READING, check_version, path_in, short, unpacked_text
+from .search_index import (
+    FAR,
+    NO_INDEX,
+    NO_RECORD,
+    OF_SCANNER,
+    SAME_READING,
+    check_version,
+    path_in,
+    short,
+    unpacked_text,
+)
 from .snippets import Mark, snippet_of
 from .texts import Stored, Trouble, shown
 from .timemaps import Seen
@@ -26,10 +36,17 @@ TITLE_WEIGHT, TEXT_WEIGHT = 8.0, 1.0
 FIRST_BATCH, MOST_BATCH = 50, 500  # texts whose captures are looked up at once
 SCHEMA = "texts"
 TOO_LONG = "the search took more than %d seconds: look for rarer words, or for fewer" % SECONDS
-# Captures with a text of the reading that the catalogue has. A gone file gives nothing.
+# Captures with a text of the reading that the catalogue has. A gone file gives nothing. Of a revisit with a text of
+# other files that holds for all of these too.
+READ_FILES = "texts.read AS read JOIN main.readings ON %s JOIN main.files ON files.file = readings.file" % SAME_READING
+LOST_WAY = (
+    "SELECT 1 FROM texts.ways AS ways WHERE (ways.file, ways.position) = (seen.file, seen.position)"
+    " AND NOT EXISTS (SELECT 1 FROM %s WHERE read.file = ways.other AND files.state <> 'gone')" % READ_FILES
+)
 FROM_SEEN = (
     "FROM texts.seen AS seen JOIN texts.read AS read ON read.file = seen.file JOIN main.readings ON %s"
-    " JOIN main.files ON files.file = readings.file AND files.state <> 'gone'" % SAME_READING
+    " JOIN main.files ON files.file = readings.file AND files.state <> 'gone'"
+    " AND (seen.given IS NOT %d OR NOT EXISTS (%s))" % (SAME_READING, FAR, LOST_WAY)
 )
 SCORED = (
     "SELECT text FROM (SELECT rowid AS text, bm25(words, %s, %s) AS score FROM texts.words WHERE words MATCH ?"
@@ -141,6 +158,44 @@ def opened(folder: str) -> Catalogue:
     return catalogue
 
 
+class Origins:
+    """Where texts of captures come from, as far as a reader may see that."""
+
+    def __init__(self, catalogue: Catalogue, seen: Seen) -> None:
+        self.catalogue = catalogue
+        self.seen = seen
+        self.marks: Dict[int, Optional[str]] = {}
+
+    def of(self, file: int, position: int, given: Optional[int], is_far: bool) -> List[Tuple[int, int]]:
+        """The records to which a capture leads, and the files on which its text rests, beside itself."""
+        if is_far:
+            return self.ways(file, position)
+        return [] if given in (None, position) else [(file, int(given or 0))]
+
+    def ways(self, file: int, position: int) -> List[Tuple[int, int]]:
+        """The files on which the text of a revisit rests, with the records that give it."""
+        query = "SELECT other, given FROM texts.ways WHERE file = ? AND position = ? ORDER BY other, given"
+        return [(other, given) for other, given in self.catalogue.rows(query, (file, position))]
+
+    def is_withheld(self, way: Tuple[int, int]) -> bool:
+        """Whether the record of a file to which a capture leads is one that the reader may not see."""
+        row = None
+        if way[1] != NO_RECORD:
+            row = self.catalogue.one("SELECT target, instant FROM captures WHERE file = ? AND position = ?", way)
+        return row is not None and row[0] is not None and self.seen.withheld(row[0], row[1]) is not None
+
+    def mark(self, file: int) -> Optional[str]:
+        """What is said of what comes from a file."""
+        if file not in self.marks:
+            self.marks[file] = next((it.mark() for it in self.catalogue.files_where("files.file = ?", (file,))), None)
+        return self.marks[file]
+
+    def mark_with(self, own: Optional[str], file: int, ways: Sequence[Tuple[int, int]]) -> Optional[str]:
+        """What is said of a capture of a file, with what is said of the other files."""
+        marks = [own, *(self.mark(other) for other, _ in ways if other != file)]
+        return ", ".join(dict.fromkeys(word for mark in marks if mark for word in mark.split(", "))) or None
+
+
 class Search:
     """A search by one reader, which ends by the clock."""
 
@@ -151,6 +206,7 @@ class Search:
         self.seen = seen
         self.end = time.monotonic() + SECONDS
         self.matched: Set[int] = set()
+        self.origins = Origins(catalogue, seen)
         self.left_out: List[str] = []
 
     def is_over(self) -> int:
@@ -225,11 +281,12 @@ class Search:
         instants: Dict[str, bool] = {}
         captures: List[Place] = []
         for file, position, instant, path, given, read_on, damaged, is_fresh in rows:
-            text = texts.get((file, position))
-            has = text in self.matched and not self.is_withheld_record(file, position, given)
+            text, is_far = texts.get((file, position), (None, False))
+            ways = self.origins.of(file, position, given, is_far)
+            has = text in self.matched and not any(map(self.origins.is_withheld, ways))
             instants[instant] = instants.get(instant, False) or has
             if has and text is not None:
-                mark = mark_of(damaged, bool(is_fresh), read_on)
+                mark = self.origins.mark_with(mark_of(damaged, bool(is_fresh), read_on), file, ways)
                 captures.append(Place(file, path, position, instant, mark, text))
         if not captures:
             return None
@@ -239,19 +296,13 @@ class Search:
                 made.texts[place.text] = self.shown(place.text)
         return made
 
-    def texts_of(self, address: int) -> Dict[Tuple[int, int], int]:
-        """The texts of the captures of a URI, by their files and positions."""
+    def texts_of(self, address: int) -> Dict[Tuple[int, int], Tuple[Optional[int], bool]]:
+        """The texts of the captures of a URI, by their files and positions, and whether each is of another file."""
         condition, values = self.filters.condition()
-        query = "SELECT readings.file, seen.position, seen.text %s JOIN texts.addresses USING (address)" % FROM_SEEN
+        columns = "readings.file, seen.position, seen.text, seen.given IS %d" % FAR
+        query = "SELECT %s %s JOIN texts.addresses USING (address)" % (columns, FROM_SEEN)
         rows = self.catalogue.rows("%s WHERE address = ? AND %s" % (query, condition), (address, *values))
-        return {(row[0], row[1]): row[2] for row in rows}
-
-    def is_withheld_record(self, file: int, position: int, given: Optional[int]) -> bool:
-        """Whether a capture leads to a record that the reader may not see."""
-        if given in (None, position):
-            return False
-        row = self.catalogue.one("SELECT target, instant FROM captures WHERE file = ? AND position = ?", (file, given))
-        return row is not None and row[0] is not None and self.seen.withheld(row[0], row[1]) is not None
+        return {(row[0], row[1]): (row[2], bool(row[3])) for row in rows}
 
     def shown(self, text: int) -> Shown:
         """What is shown of a text."""

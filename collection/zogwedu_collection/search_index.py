@@ -24,12 +24,14 @@ from .parts import Parts
 from .texts import Trouble, inform, say, shown
 from .words import words_of
 
-VERSION = 1
+VERSION = 2
 NAME = "search.sqlite"
 SETTING = "text"  # of the catalogue: whether runs read texts
 OF_SCANNER = "%d.%d" % (scan.VERSION, words.VERSION)
 WAIT_SECONDS = 0.05  # between two looks at whether a reader is done
 MOST_SWEPT = 500  # texts in a transaction
+# In the place of the record that gives the body of a capture: it is in another file, or no record of a file does.
+FAR = NO_RECORD = -1
 TABLES = (
     "CREATE TABLE IF NOT EXISTS read (file BIGINT PRIMARY KEY, run BIGINT, size BIGINT, modified BIGINT,"
     " changed BIGINT, scanner TEXT, texts BIGINT, captures BIGINT, without TEXT, why TEXT)",
@@ -41,6 +43,14 @@ TABLES = (
     "CREATE INDEX IF NOT EXISTS seen_by_text ON seen (text, address, instant)",
     "CREATE INDEX IF NOT EXISTS seen_by_address ON seen (address)",
     "CREATE INDEX IF NOT EXISTS addresses_by_host ON addresses (host)",
+    # Revisits that lack what another file may have, with what they name; the files on which their texts rest, with the
+    # records that give them; and what all files were when this was found out.
+    "CREATE TABLE IF NOT EXISTS elsewhere (file BIGINT, position BIGINT, is_due BIGINT, is_named BIGINT, name, target,"
+    " date, PRIMARY KEY (file, position)) WITHOUT ROWID",
+    "CREATE TABLE IF NOT EXISTS ways (file BIGINT, position BIGINT, other BIGINT, given BIGINT,"
+    " PRIMARY KEY (file, position, other, given)) WITHOUT ROWID",
+    "CREATE INDEX IF NOT EXISTS ways_by_other ON ways (other)",
+    "CREATE TABLE IF NOT EXISTS settled (file BIGINT PRIMARY KEY, about TEXT)",
     "CREATE VIRTUAL TABLE IF NOT EXISTS words USING fts5(title, body, content='',"
     " tokenize=\"unicode61 remove_diacritics 0 categories 'L* N* Co M*'\")",
 )
@@ -117,8 +127,8 @@ class Index:
             raise
 
     def make_tables(self) -> None:
-        """Makes what isn't there."""
-        if self.base.execute("PRAGMA user_version").fetchone()[0]:
+        """Makes what isn't there. An index of version 1 lacked nothing but tables."""
+        if self.base.execute("PRAGMA user_version").fetchone()[0] >= VERSION:
             return
         try:
             with self.transaction():
@@ -239,9 +249,18 @@ class Index:
     # Dropping
 
     def drop_seen(self, file: int) -> None:
-        """Drops what is known of a reading. Its texts stay until they are swept."""
-        for table in ("seen", "read"):
+        """Drops what is known of a reading, and of the revisits of other files that rest on it. The texts stay until
+        they are swept."""
+        for place in self.base.execute("SELECT DISTINCT file, position FROM ways WHERE other = ?", (file,)).fetchall():
+            self.drop_far(place)
+            self.base.execute("UPDATE elsewhere SET is_due = 1 WHERE file = ? AND position = ?", place)
+        for table in ("seen", "read", "elsewhere", "ways"):
             self.base.execute("DELETE FROM %s WHERE file = ?" % table, (file,))
+
+    def drop_far(self, place: Tuple[int, int]) -> None:
+        """Drops the text of a revisit that was found in other files."""
+        self.base.execute("DELETE FROM seen WHERE file = ? AND position = ? AND given = %d" % FAR, place)
+        self.base.execute("DELETE FROM ways WHERE file = ? AND position = ?", place)
 
     def settle(self) -> None:
         """Keeps the readings under the numbers that the catalogue has for them, and drops those that it doesn't have

@@ -137,6 +137,12 @@ class Shelf:
                 if not self.changed.wait(max(end - time.monotonic(), 0)):
                     raise Trouble("all archives that may be open are in use: try again")
 
+    def close(self) -> None:
+        """Closes the archives that nobody uses."""
+        with self.changed:
+            while self.drop_idle(False):
+                pass
+
     def drop_idle(self, is_unpacked: bool) -> bool:
         """Closes the archive that nobody has used for longest, of those that are unpacked. The caller has the lock."""
         for key, held in self.held.items():

@@ -93,3 +93,19 @@ def test_an_id_is_looked_up_by_an_index(spelled: Collection) -> None:
     query, values = ids_like("urn:x:spaces")
     plan = spelled.ask("EXPLAIN QUERY PLAN " + query, *values)
     assert len(plan) >= 2 and not [row for row in plan if "SCAN" in row[3] and "INDEX" not in row[3]], plan
+
+
+@pytest.mark.parametrize("where", ("captures.file <> ?", "captures.file = ?"))
+def test_captures_with_an_id_are_looked_up_by_an_index(spelled: Collection, where: str) -> None:
+    """Neither all captures are read, nor all of a file."""
+    from zogwedu_collection.catalogue import Catalogue
+    from zogwedu_collection.replay import Replayer
+
+    catalogue = Catalogue(spelled.path("catalogue"))
+    asked: List[str] = []
+    catalogue.base.set_trace_callback(asked.append)
+    Replayer(catalogue, "warc", None).with_id("urn:x:spaces", where, 1)
+    catalogue.base.set_trace_callback(None)
+    plan = [row[3] for row in catalogue.rows("EXPLAIN QUERY PLAN " + asked[-1])]
+    looks = [row for row in plan if " captures " in row]
+    assert looks == ["SEARCH captures USING PRIMARY KEY (file=? AND position=?)"], plan
