@@ -29,6 +29,7 @@ from .texts import Stored, Trouble, shown
 from .timemaps import Seen
 
 MOST_SCORED = 500_000  # texts
+MOST_OF_HOST = 50_000  # captures of a host whose texts are looked up first
 MOST_CAPTURES = 10_000  # of a URI that are looked at
 SECONDS = 3.0
 STEPS = 200  # of SQLite between two looks at the clock
@@ -49,8 +50,8 @@ FROM_SEEN = (
     " AND (seen.given IS NOT %d OR NOT EXISTS (%s))" % (SAME_READING, FAR, LOST_WAY)
 )
 SCORED = (
-    "SELECT text FROM (SELECT rowid AS text, bm25(words, %s, %s) AS score FROM texts.words WHERE words MATCH ?"
-    " LIMIT %d) ORDER BY score, text" % (TITLE_WEIGHT, TEXT_WEIGHT, MOST_SCORED + 1)
+    "SELECT text FROM (SELECT rowid AS text, bm25(words, %s, %s) AS score FROM texts.words"
+    " WHERE words MATCH ? %%s LIMIT %d) ORDER BY score, text" % (TITLE_WEIGHT, TEXT_WEIGHT, MOST_SCORED + 1)
 )
 OF_TARGET = (
     "SELECT captures.file, position, instant, path, given, read_on, %s FROM captures JOIN files USING (file)"
@@ -77,17 +78,21 @@ class Filters:
         """What captures have to meet, and the values of that."""
         parts: List[str] = ["instant >= ? AND instant < ?"]
         values: List[Any] = [short(self.begin), short(self.end)]
-        if self.host is not None and self.host.startswith("."):
-            parts.append("(host = ? OR substr(host, ?) = ?)")
-            own = one_host(self.host[1:])
-            values += [own, -len(own) - 1, "." + own]
-        elif self.host is not None:
-            parts.append("host = ?")
-            values.append(one_host(self.host))
+        if self.host is not None:
+            of_host = self.of_host(self.host)
+            parts.append("+" + of_host[0])  # by the texts, which are fewer than what a host has
+            values += of_host[1]
         if self.media is not None:
             parts.append("(media = ? OR media LIKE '%/' || ?)")
             values += [self.media.lower()] * 2
         return " AND ".join(parts), values
+
+    def of_host(self, host: str) -> Tuple[str, List[Any]]:
+        """What addresses of a host have to meet, or of all hosts below it, and the values of that."""
+        own = one_host(host[1:] if host.startswith(".") else host)
+        if not host.startswith("."):
+            return "host = ?", [own]
+        return "(host = ? OR substr(host, ?) = ?)", [own, -len(own) - 1, "." + own]
 
 
 @dataclasses.dataclass(frozen=True)
@@ -236,9 +241,23 @@ class Search:
         end = self.filters.after + self.filters.most
         return Found(hits[self.filters.after : end], len(hits) > end, "; ".join(dict.fromkeys(self.left_out)))
 
+    def of_host(self) -> Tuple[str, List[Any]]:
+        """What texts have to meet since one host alone is asked for, and the values of that, if it has few captures and
+        many texts have the words. Then its texts alone are scored, and not all of these."""
+        is_many = "SELECT 1 FROM texts.words WHERE words MATCH ? LIMIT 1 OFFSET %d" % MOST_BATCH
+        if self.filters.host is None or self.catalogue.one(is_many, (self.query.match(),)) is None:
+            return "", []
+        condition, values = self.filters.of_host(self.filters.host)
+        query = "SELECT text FROM texts.addresses CROSS JOIN texts.seen USING (address) WHERE " + condition
+        count = self.catalogue.one("SELECT count(*) FROM (%s LIMIT %d)" % (query, MOST_OF_HOST + 1), values)[0]
+        # The index is asked for the words alone, and not once for each of these texts.
+        return ("AND +rowid IN (%s)" % query, values) if count <= MOST_OF_HOST else ("", [])
+
     def scored(self) -> List[int]:
         """The texts that have the words, the best first."""
-        texts = [row[0] for row in self.catalogue.base.execute(SCORED, (self.query.match(),))]
+        condition, values = self.of_host()
+        asked = self.query.match(), *values
+        texts = [row[0] for row in self.catalogue.base.execute(SCORED % condition, asked)]
         if len(texts) > MOST_SCORED:
             self.left_out.append("of the first %d texts" % MOST_SCORED)
         self.matched = set(texts)

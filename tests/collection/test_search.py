@@ -215,6 +215,22 @@ def test_a_search_ends_by_the_clock(crawls: Collection, monkeypatch: pytest.Monk
             looked.found()
 
 
+def test_many_texts_and_one_host(crawls: Collection, monkeypatch: pytest.MonkeyPatch) -> None:
+    """Where many texts have the words, those of the host are looked up first: the same is found, and no other text is
+    scored. A host with many captures is looked for as before."""
+    wanted = {
+        host: uris(asked(crawls, "mill", host=host)) for host in ("town.example", ".town.example", "none.example")
+    }
+    assert [len(it) for it in wanted.values()] == [1, 2, 0]
+    monkeypatch.setattr(search, "MOST_BATCH", 0)
+    for most, scored in ((100, [1, 2, 0]), (0, [3, 3, 0])):
+        monkeypatch.setattr(search, "MOST_OF_HOST", most)
+        for (host, targets), count in zip(wanted.items(), scored):
+            with searching(crawls.path("catalogue")) as catalogue:
+                one = Search(catalogue, query_of("mill"), Filters(host=host), Seen(EVERYTHING))
+                assert [hit.target for hit in one.found().hits] == targets and len(one.matched) == count, (host, most)
+
+
 def test_what_is_withheld_is_not_found(collection: Collection, tmp_path: Path) -> None:
     """Neither a hit, nor a capture, nor a count tells of it, and no revisit of it either."""
     collection.put(
