@@ -260,16 +260,27 @@ def add_index(parser: argparse.ArgumentParser) -> None:
     add("--temporary", metavar="FOLDER", help="where lines are sorted; TMPDIR or /tmp without it")
 
 
+def add_export(parser: argparse.ArgumentParser) -> None:
+    """The options of an export."""
+    add = parser.add_argument
+    add("folder", metavar="FOLDER", nargs="?", help="for the tables; with --text a file, standard output without it")
+    sums = "writes the SHA-256 of each file that is known, as sha256sum does"
+    add("--manifest", metavar="FILE", help=sums)
+    add("--text", action="store_true", help="writes the texts of pages, as a script for psql, and not the tables")
+    parser.set_defaults(form="text")
+    lines = "with --text: a line of JSON for each text of a URI"
+    add("--json", dest="form", action="store_const", const="json", help=lines)
+    add_access(parser)
+    add("--temporary", metavar="FOLDER", help="where --text copies the databases; TMPDIR or /tmp without it")
+
+
 def add_upkeep(command: Command) -> None:
     """The commands over the catalogue itself."""
     made = command("report", "writes the report, one HTML file")
     made.add_argument("path", metavar="FILE")
     add_forms(made, "in its place the files that need a look,")
     add_index(command("cdxj", "prints an index of the captures, by which other programs of web archives find them"))
-    made = command("export", "writes the tables as text, and a script for PostgreSQL's psql")
-    made.add_argument("folder", metavar="FOLDER", nargs="?")
-    sums = "writes the SHA-256 of each file that is known, as sha256sum does"
-    made.add_argument("--manifest", metavar="FILE", help=sums)
+    add_export(command("export", "writes the tables as text, or the texts of pages, for PostgreSQL's psql"))
     made = command("accept", "takes what is in altered files now for what has to be in them")
     made.add_argument("paths", nargs="+", metavar="FILE")
     made = command("acknowledge", "silences the states of files, until they change")

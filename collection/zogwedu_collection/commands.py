@@ -18,6 +18,7 @@ from .cdxj import NAMES, index, put_index
 from .compared import accept
 from .decode import Decoder
 from .export import export
+from .export_texts import export_texts
 from .hosts import site_for
 from .limits import Limits
 from .listing import capture_line, is_partly_unread, put, status_pieces
@@ -169,6 +170,11 @@ def report_command(options: Options) -> int:
 
 
 def export_command(options: Options) -> int:
+    if options.text and options.manifest is None:
+        seen = Seen(read_access(options.access))
+        return export_texts(options.catalogue, seen, options.folder, options.form == "json", options.temporary)
+    if options.text or options.form == "json" or options.access or options.temporary:
+        raise Trouble("export: --text goes without --manifest, and --json, --access and --temporary with --text", 2)
     if options.folder is None and options.manifest is None:
         raise Trouble("export: name a FOLDER, or --manifest FILE", 2)
     catalogue = Catalogue(options.catalogue)
