@@ -62,7 +62,12 @@ function timesOf(hit, uri) {
     const links = some.flatMap(([first, last]) => [' ', link(first, spanOf(first, last))]);
     times.push(`in ${hit.in_periods} periods:`, ...links, some.length < hit.in_periods ? ' …' : '', ' ');
   }
-  return make('div', {className: 'small'}, ...times, link(hit.first, 'first'), ' ', link(hit.last, 'latest'));
+  const [first, last] = [[hit.first, 'first'], [hit.last, 'latest']].map(([instant, name]) => {
+    const made = link(instant, name);
+    made.setAttribute('aria-label', `${name}, ${dayOf(instant)}`);
+    return made;
+  });
+  return make('div', {className: 'small'}, ...times, first, ' ', last);
 }
 
 /**
@@ -105,7 +110,7 @@ async function addHits(question, list, said, below, visit) {
   if (visit !== served.visit) return;
   const items = answer.found.map(hitItem), isMore = list.children.length > 0;
   list.append(...items);
-  said.textContent = byId('status').textContent = hitsInWords(answer, list.children.length);
+  said.textContent = byId('find-status').textContent = hitsInWords(answer, list.children.length);
   if (isMore && items.length) items[0].querySelector('a').focus();
   if (answer.more === null) {
     below.replaceChildren();
@@ -127,13 +132,14 @@ async function addHits(question, list, said, below, visit) {
 async function showWords(fields) {
   const visit = served.visit += 1, question = new URLSearchParams(fields);
   for (const [name, id] of Object.entries(WORD_FIELDS)) byId(id).value = question.get(name) ?? '';
-  byId('status').textContent = 'Searching…';
+  byId('status').textContent = '';
+  byId('find-status').textContent = 'Searching…';
   const list = make('ol', {className: 'hits'}), below = make('div', {className: 'actions'});
   const said = make('div', {className: 'sub'}), words = question.get('q') ?? '';
   try {
     await addHits(question, list, said, below, visit);
   } catch (error) {
-    byId('status').textContent = plainly(whyOf(error));
+    byId('find-status').textContent = plainly(whyOf(error));
     return;
   }
   if (visit !== served.visit) return;
@@ -141,7 +147,7 @@ async function showWords(fields) {
   show(
       make('header', {}, make('h2', {}, 'Pages with ', make('bdi', {}, plainly(words))), said),
       make('div', {className: 'panel'}, list, below));
-  byId('status').textContent = count;
+  byId('find-status').textContent = count;
   document.title = `${plainly(words)} – Zogwedu reading room`;
 }
 
@@ -156,7 +162,7 @@ function askForWords(event) {
   if (question.has('q'))
     location.hash = `#search?${question}`;
   else
-    byId('status').textContent = 'Which words?';
+    byId('find-status').textContent = 'Which words?';
 }
 
 // ---------------------------------------------------------------- hosts and their pages
@@ -215,6 +221,7 @@ function branchesOf(path) {
   asked(`/room/tree/${path}`)
       .then(({found, more}) => {
         const items = found.map((/** @type {OverviewRow} */ row) => branchItem(path, row));
+        hear(`${more ? 'The first ' : ''}${many(found.length, 'path')} in ${seen(targetIn(path))}`);
         list.replaceChildren(...items, ...(more ? [make('li', {}, '… and there may be more')] : []));
       })
       .catch((error) => list.replaceChildren(make('li', {}, plainly(whyOf(error)))));
@@ -260,20 +267,28 @@ function calendarOf(uri, list) {
     months.set(month, [...(months.get(month) ?? []), it]);
   }
   const years = [...new Set(list.map((it) => it.instant.slice(0, 4)))];
-  const shown = make('div', {'aria-live': 'polite'});
+  const shown = make('div', {});
+  /** @type {HTMLElement|null} */
+  let pressed = null;
   const cell = (/** @type {string} */ year, /** @type {string} */ name, /** @type {number} */ number) => {
     const found = months.get(`${year}-${String(number + 1).padStart(2, '0')}`);
     if (!found) return make('td', {});
     const label = `${name} ${year}: ${many(found.length, 'capture')}`;
-    const open = () => shown.replaceChildren(make('h3', {}, label), monthList(uri, found));
-    return make('td', {}, button('button quiet', open, {'aria-label': label}, String(found.length)));
+    const own = button('button quiet', () => {
+      pressed?.setAttribute('aria-pressed', 'false');
+      own.setAttribute('aria-pressed', 'true');
+      pressed = own;
+      shown.replaceChildren(make('h3', {}, label), monthList(uri, found));
+      hear(`${label}, listed below`);
+    }, {'aria-label': label, 'aria-pressed': 'false'}, String(found.length));
+    return make('td', {}, own);
   };
   const row = (/** @type {string} */ year) =>
       make('tr', {}, make('th', {scope: 'row'}, year), ...MONTHS.map((name, number) => cell(year, name, number)));
   const heads = ['Year', ...MONTHS].map((it) => make('th', {scope: 'col'}, it));
   const table = make(
-      'table', {className: 'calendar'}, make('thead', {}, make('tr', {}, ...heads)),
-      make('tbody', {}, ...years.map(row)));
+      'table', {className: 'calendar', 'aria-label': 'Captures by year and month'},
+      make('thead', {}, make('tr', {}, ...heads)), make('tbody', {}, ...years.map(row)));
   const title = make('summary', {}, `Calendar of ${many(list.length, 'capture')}`);
   return make('details', {open: !matchMedia(NARROW).matches}, title, make('div', {className: 'wide'}, table), shown);
 }

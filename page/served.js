@@ -128,11 +128,25 @@ async function answersFor(questions, left) {
 
 // ---------------------------------------------------------------- what is shown
 
-/** @param {...Node|string} children */
+/**
+ * Has a screen reader say a few words. What is shown isn't read out as a whole.
+ * @param {string} words
+ */
+function hear(words) {
+  byId('heard').textContent = words;
+}
+
+/**
+ * Shows something in the place of what is shown, under the name of its heading.
+ * @param {...Node|string} children
+ */
 function show(...children) {
-  byId('record').replaceChildren(...children);
-  byId('record').hidden = false;
-  byId('status').textContent = '';
+  const record = byId('record');
+  record.replaceChildren(...children);
+  record.hidden = false;
+  record.setAttribute('aria-label', record.querySelector('h2')?.textContent ?? '');
+  byId('status').textContent = byId('find-status').textContent = '';
+  hear('');
 }
 
 /** @param {string[]} urls */
@@ -407,6 +421,8 @@ async function showPage(uri, digits) {
   const content = it.stored ? await contentOf(uri, it, list, visit) : [noAnswer(it)];
   if (visit !== served.visit) return;
   show(title, points, make('div', {className: 'panel'}, redirectOf(uri, it), ...content));
+  const reason = byId('record').querySelector('.note.reason');
+  hear(it.stored ? `Shown, as of ${dateOf(it.instant)}` : reason?.textContent ?? '');
   document.title = `${seen(uri)} – Zogwedu reading room`;
 }
 
@@ -426,6 +442,7 @@ async function showFound(front) {
   show(
       make('header', {}, make('h2', {}, make('bdi', {}, `${seen(front)}…`)), make('div', {className: 'sub'}, words)),
       make('div', {className: 'panel'}, make('ul', {className: 'plain-list found'}, ...lines)));
+  hear(words);
 }
 
 /**
@@ -531,5 +548,6 @@ byId('find').addEventListener('click', () => {
   const front = byId('uri').value.trim();
   location.hash = `#?${pathOf(typed(front))}`;
 });
+byId('skip').addEventListener('click', () => byId('record').focus());
 addEventListener('hashchange', follow);
 follow();

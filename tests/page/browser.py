@@ -197,6 +197,7 @@ class Browser:
                     "code": key,
                     **({"text": text} if text and kind == "keyDown" else {}),
                     "windowsVirtualKeyCode": {
+                        "Tab": 9,
                         "Enter": 13,
                         "ArrowDown": 40,
                         "ArrowUp": 38,

@@ -23,16 +23,32 @@ FAINT = """(() => {
     return 'rgb(255, 255, 255)';
   };
   const texts = document.createTreeWalker(document.body, NodeFilter.SHOW_TEXT), found = [];
+  const isFaint = (color, node) => {
+    const pair = [light(color), light(back(node))].sort();
+    return (pair[1] + 0.05) / (pair[0] + 0.05) < 4.5;
+  };
   while (texts.nextNode()) {
     const node = texts.currentNode.parentElement;
     const isRead = node.checkVisibility() && !/^(?:script|noscript|option)$/i.test(node.tagName);
     if (!isRead || !texts.currentNode.data.trim()) continue;
-    const pair = [light(getComputedStyle(node).color), light(back(node))].sort();
-    if ((pair[1] + 0.05) / (pair[0] + 0.05) < 4.5) found.push(texts.currentNode.data.trim().slice(0, 40));
+    if (isFaint(getComputedStyle(node).color, node)) found.push(texts.currentNode.data.trim().slice(0, 40));
+  }
+  for (const it of document.querySelectorAll('[placeholder]')) {
+    const {color, opacity} = getComputedStyle(it, '::placeholder');
+    if (it.checkVisibility() && (opacity !== '1' || isFaint(color, it))) found.push(it.placeholder);
   }
   return found;
 })()"""
-SCREENS = ((320, 900, "light"), (1440, 1000, "dark"), (1440, 1000, "light"))
+# What has the focus, whether that is seen, and whether it is on the screen.
+FOCUSED = """(() => {
+  const it = document.activeElement, box = it.getBoundingClientRect(), {outlineStyle} = getComputedStyle(it);
+  const isThere = box.width > 0 && box.left >= 0 && box.right <= innerWidth && it.checkVisibility();
+  return [it.id || it.textContent.trim(), outlineStyle !== 'none', isThere];
+})()"""
+SCREENS = tuple((*size, scheme) for size in ((320, 900), (1440, 1000)) for scheme in ("dark", "light"))
+MOST_STOPS = 30
+SAID = {"status", "generic"}  # what is read out when it changes; of a view that is a line about its parts
+PAPER = ("dark", "light")
 
 
 def roles(tests: Any) -> list[tuple[str, str]]:
@@ -58,6 +74,43 @@ def screens(tests: Any, what: str, folder: str) -> None:
         if folder:
             tests.browser.picture(f"{folder}/{what.replace(' ', '-')}-{width}-{scheme}.png")
     tests.holds(not tests.browser.nameless(), f"{what}: controls without a name", tests.browser.nameless())
+    tests.holds(set(read_out(tests)) <= SAID, f"{what}: what is read out", read_out(tests))
+    printed(tests, what, folder)
+
+
+def read_out(tests: Any) -> list[str]:
+    """The roles of what a screen reader reads out when it changes."""
+    nodes = tests.browser.ask("Accessibility.getFullAXTree")["nodes"]
+    values = {"live", "polite", "assertive"}
+    return [
+        it["role"]["value"]
+        for it in nodes
+        for found in it.get("properties", [])
+        if found["name"] == "live" and found["value"].get("value") in values
+    ]
+
+
+def media(tests: Any, name: str, scheme: str) -> None:
+    """Has the room drawn for a screen or for paper."""
+    features = [{"name": "prefers-color-scheme", "value": scheme}]
+    tests.browser.ask("Emulation.setEmulatedMedia", {"media": name, "features": features})
+
+
+def printed(tests: Any, what: str, folder: str) -> None:
+    """What is found is on paper, without the forms and without a faint text."""
+    for scheme in PAPER:
+        media(tests, "print", scheme)
+        faint = tests.browser.run(FAINT)
+        tests.holds(not faint, f"{what}, printed, {scheme}: faint texts", faint)
+        paper = tests.browser.run("getComputedStyle(document.body).backgroundColor")
+        tests.holds(paper == "rgb(255, 255, 255)", f"{what}, printed, {scheme}: the paper", paper)
+        is_there = "byId('record').checkVisibility() && !byId('ask').checkVisibility()"
+        tests.holds(tests.browser.run(is_there), f"{what}, printed: what is found, and no form")
+        months = "[...document.querySelectorAll('table.calendar button')].every((it) => it.checkVisibility())"
+        tests.holds(tests.browser.run(months), f"{what}, printed: the numbers of a calendar")
+    if folder:
+        tests.browser.picture(f"{folder}/{what.replace(' ', '-')}-printed.png")
+    media(tests, "", "light")
 
 
 def type_words(tests: Any, words: str) -> None:
@@ -93,15 +146,43 @@ def words(tests: Any, folder: str) -> None:
     tests.holds(browser.run("document.activeElement.id") == "find-words", "the focus stays in the field")
     heard = roles(tests)
     tests.holds(any(role == "status" for role, _ in heard), "there is a status", heard)
-    tests.holds(browser.run("byId('status').textContent") == "1 page", "the count is heard")
+    tests.holds(browser.run("byId('find-status').textContent") == "1 page", "the count is heard")
+    tests.holds(browser.run("byId('find-form').contains(byId('find-status'))"), "what is said of words is with them")
     tests.holds(("heading", "Front") in heard and any(role == "listitem" for role, _ in heard), "a list", heard)
+    tests.holds(("region", "Pages with snow site") in heard, "what is shown has the name of its heading", heard)
+    tests.holds(("link", "first, 2020-01-01") in heard, "a way to the first capture has a name", heard)
     screens(tests, "words", folder)
     browser.run("document.querySelector('ol.hits h3 a').click()")
     tests.holds(tests.shows("Snow"), "a hit leads to its very capture", tests.text())
     tests.holds("20200101000000" in browser.run("location.hash"), "its address", browser.run("location.hash"))
+    tests.holds(browser.run("byId('heard').textContent") == "Shown, as of 2020-01-01T00:00:00Z", "a page is heard")
     browser.run("history.back()")
     tests.holds(tests.becomes(f"{HITS} === 1"), "back to the hits", tests.text())
     tests.holds(browser.run("byId('find-words').value") == "snow site", "the words are in the field again")
+
+
+def keyboard(tests: Any) -> None:
+    """By the Tab key alone: a way past the forms, each control in its order, and the focus is always seen."""
+    browser = tests.browser
+    tests.go("#search?q=snow")
+    tests.holds(tests.becomes(f"{HITS} === 1"), "keyboard: a hit", tests.text())
+    stops: list[Any] = []
+    for _ in range(MOST_STOPS):
+        browser.press("Tab")
+        found = browser.run(FOCUSED)
+        stops += [found] if stops or found[0] == "skip" else []
+        if len(stops) == 8:
+            break
+    names = ["skip", "uri", "moment", "Show", "find", "find-words", "Search", "More"]
+    tests.holds([name for name, _, _ in stops] == names, "keyboard: the order", stops)
+    tests.holds(all(is_seen and is_there for _, is_seen, is_there in stops), "keyboard: the focus is seen", stops)
+    browser.run("byId('skip').focus()")
+    browser.press("Enter", "\r")
+    tests.holds(browser.run("document.activeElement.id") == "record", "keyboard: past the forms")
+    browser.press("Tab")
+    tests.holds(browser.run(FOCUSED)[0] == "Front", "keyboard: the first hit", browser.run(FOCUSED))
+    browser.press("Enter", "\r")
+    tests.holds(tests.shows("Snow"), "keyboard: its page", tests.text())
 
 
 def words_that_are_not_there(tests: Any) -> None:
@@ -115,7 +196,7 @@ def words_that_are_not_there(tests: Any) -> None:
     for text, sentence in said.items():
         tests.go("")
         type_words(tests, text)
-        is_said = f"byId('status').textContent === {json.dumps(sentence)}"
+        is_said = f"byId('find-status').textContent === {json.dumps(sentence)}"
         tests.holds(tests.becomes(is_said), f"words, {text}", tests.text())
     tests.go("#search?q=site&before=2021&host=.example&type=html")
     tests.holds(tests.becomes(f"{HITS} === 1"), "filters", tests.text())
@@ -134,6 +215,9 @@ def paths(tests: Any, folder: str) -> None:
     browser.run("document.querySelector('ul.tree summary').focus()")
     browser.press("Enter", "\r")
     tests.holds(tests.becomes("!!document.querySelector('ul.tree ul.tree a')"), "a folder opens", tests.text())
+    said = browser.run("byId('heard').textContent")
+    tests.holds(said == "1 path in http://site.example/more?", "how many paths there are is heard", said)
+    tests.holds(browser.run("document.activeElement.tagName") == "SUMMARY", "the focus stays at the folder")
     screens(tests, "a tree", folder)
     browser.run("document.querySelector('ul.tree ul.tree a').focus()")
     browser.press("Enter", "\r")
@@ -150,6 +234,12 @@ def calendar(tests: Any, folder: str) -> None:
     browser.run(f"{button}.focus()")
     browser.press("Enter", "\r")
     tests.holds(tests.becomes("!!document.querySelector('.timeline li a')"), "the captures of a month", tests.text())
+    said = browser.run("byId('heard').textContent")
+    tests.holds(said == "Jan 2020: 1 capture, listed below", "how many captures a month has is heard", said)
+    tests.holds(browser.run(f"{button}.ariaPressed") == "true", "which month it is")
+    tests.holds(browser.run(f"document.activeElement === {button}"), "the focus stays at the month")
+    heard = roles(tests)
+    tests.holds(("table", "Captures by year and month") in heard, "the calendar has a name", heard)
     screens(tests, "a calendar", folder)
     browser.run("document.querySelector('.timeline li a').click()")
     tests.holds(tests.shows("0"), "a capture of a month", tests.text())
@@ -159,6 +249,7 @@ def finding(tests: Any, folder: str) -> None:
     """All of this."""
     first_screen(tests, folder)
     words(tests, folder)
+    keyboard(tests)
     words_that_are_not_there(tests)
     paths(tests, folder)
     calendar(tests, folder)
