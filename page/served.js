@@ -9,6 +9,7 @@ const LATEST = '99991231235959';
 const DIGITS = 23;          // of an instant with nanoseconds
 const LIST_LIMIT = 5000;    // captures that are shown as points
 const FIRST_PAGES = '0-0';  // where the pages of packages begin
+const MOST_COUNTED = 100;   // captures of a near URI that the server counts
 
 /** @type {{visit: number, asked: number, urls: string[]}} */
 const served = {
@@ -298,26 +299,35 @@ const FOLDERS = /(^|\s)\/\S*\//g;
 
 /**
  * A line for a target that has captures.
- * @param {{path: string, captures: number, first: string, last: string}} found
+ * @param {ServedTarget} found
+ * @param {number} [most] how many captures are counted
  */
-function foundLine({path, captures, first, last}) {
+function foundLine({path, captures, first, last}, most = Infinity) {
   const target = targetIn(path), link = roomLink(target, LATEST, seen(target));
-  const about = ` ${many(captures, 'capture')}, ${first.slice(0, 10)} to ${last.slice(0, 10)}`;
+  const count = `${captures < most ? '' : 'at least '}${many(captures, 'capture')}`;
+  const about = ` ${count}, ${first.slice(0, 10)} to ${last.slice(0, 10)}`;
   return make('li', {}, make('bdi', {}, link), make('span', {className: 'small'}, about));
 }
 
 /**
- * Near spellings of a URI that have captures, as the server names them, to choose from.
+ * Near URIs that have captures, to choose from.
+ * @param {ServedTarget[]} near
+ */
+function nearList(near) {
+  if (!near.length) return [];
+  const list = near.map((it) => foundLine(it, MOST_COUNTED));
+  return [
+    make('p', {}, 'There are captures of other spellings:'), make('ul', {className: 'plain-list found'}, ...list)
+  ];
+}
+
+/**
+ * Near URIs as the server names them in a text.
  * @param {string[]} lines
  */
 function nearLines(lines) {
   const near = lines.map((line) => NEAR.exec(line)).filter((it) => it);
-  const list =
-      near.map(([, path, captures, first, last]) => foundLine({path, captures: Number(captures), first, last}));
-  if (!list.length) return [];
-  return [
-    make('p', {}, 'There are captures of other spellings:'), make('ul', {className: 'plain-list found'}, ...list)
-  ];
+  return nearList(near.map(([, path, captures, first, last]) => ({path, captures: Number(captures), first, last})));
 }
 
 /**
@@ -435,13 +445,13 @@ async function showFound(front) {
   byId('uri').value = shown(front);
   byId('status').textContent = 'Looking for URIs…';
   const reply = await fetch(`${TOP}/room/found/${pathOf(front)}`, {redirect: 'error'});
-  const text = await reply.text(), {found, most} = reply.ok ? JSON.parse(text) : {found: [], most: 0};
+  const text = await reply.text(), {found, near, most} = reply.ok ? JSON.parse(text) : {found: [], near: [], most: 0};
   if (visit !== served.visit) return;
-  const lines = found.map(foundLine);
+  const lines = found.map((/** @type {ServedTarget} */ it) => foundLine(it));
   const words = !reply.ok ? text : found.length < most ? many(lines.length, 'URI') : `The first ${most} URIs`;
   show(
       make('header', {}, make('h2', {}, make('bdi', {}, `${seen(front)}…`)), make('div', {className: 'sub'}, words)),
-      make('div', {className: 'panel'}, make('ul', {className: 'plain-list found'}, ...lines)));
+      make('div', {className: 'panel'}, make('ul', {className: 'plain-list found'}, ...lines), ...nearList(near)));
   hear(words);
 }
 

@@ -131,6 +131,13 @@ interface ServedAnswer extends Omit<Answer, "chosen" | "given"> {
   location?: string | null;
   stored?: Uint8Array;
 }
+// A target that has captures: how many, and the first and the last instant.
+interface ServedTarget {
+  path: string;
+  captures: number;
+  first: string;
+  last: string;
+}
 // A page that a package lists, and as of when it is shown, if it has a time; `later` is the date of its first capture,
 // where that is later than its own time.
 interface ServedPage {

@@ -11,10 +11,11 @@ import urllib.parse
 from typing import Any, Dict, Iterator, List, Mapping, Optional, Sequence, Tuple
 
 from .disk import Stamp, is_on_local_disk
+from .keys import SPELL, key_number
 from .states import DAMAGED, READ, as_list
 from .texts import Stored, Trouble, say, shown, stored_path
 
-VERSION = 6
+VERSION = 7
 CACHE_KIB = 1_000_000
 # How long a question waits for the end of a transaction, and a run for a reader before it says that it waits.
 BUSY_SECONDS = 600.0
@@ -74,8 +75,11 @@ TABLES = {
     "resources": "file BIGINT, line BIGINT, path TEXT, verdict TEXT, stated TEXT, bytes BIGINT, at_offset BIGINT,"
     " PRIMARY KEY (file, line)",
     "pages": "file BIGINT, line BIGINT, url TEXT, instant TEXT, stated TEXT, title TEXT, PRIMARY KEY (file, line)",
+    # The targets of all files by the numbers of their keys. One that no file has any more may be among them.
+    "spellings": "key BIGINT, target TEXT, PRIMARY KEY (key, target)",
 }
 OF_A_FILE = ("records", "captures", "digests", "payloads", "findings", "years", "hosts", "resources", "pages")
+BY_KEY_ALONE = (*OF_A_FILE, "spellings")
 INDEXES = (
     "captures_by_target ON captures (target, instant)",
     "records_by_id ON records (lower(trim(id, '<>')))",
@@ -134,7 +138,9 @@ TO_VERSION_5 = (
 )
 # From one of version 5, which knew nothing of members: those of a file are known once it is read again.
 TO_VERSION_6 = tuple("ALTER TABLE records ADD COLUMN packed_%s BIGINT" % name for name in ("at", "length", "crc"))
-STEPS = ((2, TO_VERSION_2), (3, TO_VERSION_3), (4, TO_VERSION_4), (5, TO_VERSION_5), (6, TO_VERSION_6))
+# From one of version 6, which knew nothing of near URIs.
+TO_VERSION_7 = ("CREATE TABLE spellings (%s) WITHOUT ROWID" % TABLES["spellings"], SPELL % "TRUE")
+STEPS = tuple(enumerate((TO_VERSION_2, TO_VERSION_3, TO_VERSION_4, TO_VERSION_5, TO_VERSION_6, TO_VERSION_7), 2))
 
 
 @dataclasses.dataclass(frozen=True)
@@ -203,6 +209,7 @@ def writable(path: str) -> sqlite3.Connection:
     base = sqlite3.connect(path, timeout=BUSY_SECONDS, isolation_level=None)
     base.execute("PRAGMA cache_size = -%d" % CACHE_KIB)
     base.execute("PRAGMA synchronous = FULL")
+    base.create_function("key_number", 1, key_number, deterministic=True)
     return base
 
 
@@ -288,7 +295,7 @@ class Catalogue:
         """What makes the tables and the indexes, where they aren't there. The indexes always stay: without them a
         question that somebody asks during a run reads all rows."""
         for name, columns in TABLES.items():
-            ending = " WITHOUT ROWID" if name in OF_A_FILE else ""
+            ending = " WITHOUT ROWID" if name in BY_KEY_ALONE else ""
             yield "CREATE TABLE IF NOT EXISTS %s (%s)%s" % (name, columns, ending)
         yield from ("CREATE INDEX IF NOT EXISTS " + index for index in (*SMALL_INDEXES, *INDEXES))
 

@@ -10,6 +10,7 @@ from typing import Any, Iterator, Optional, Sequence, Set, Tuple
 
 from .catalogue import OF_A_FILE, Catalogue
 from .job import Outcome
+from .keys import UNSPELL
 from .lines import RecordRow, Sums, digest_rows, record_rows
 from .parts import Parts
 from .states import DAMAGED, READ
@@ -180,6 +181,7 @@ def drop_beside(catalogue: Catalogue, file: int) -> None:
 
 def put_in_place(catalogue: Catalogue, file: int) -> None:
     """Puts the reading that is beside that of a file in its place."""
+    catalogue.base.execute(UNSPELL, (file, file) * 2)
     for table in (*OF_A_FILE, "readings"):
         catalogue.base.execute("DELETE FROM %s WHERE file = ?" % table, (file,))
         catalogue.base.execute("UPDATE %s SET file = ? WHERE file = ?" % table, (file, -file))

@@ -22,6 +22,7 @@ TEXT_KEYS = {
     "years": "file, md5(year), md5(kind)",
     "hosts": "file, md5(host)",
     "stated": "file, md5(algorithm), md5(manifest)",
+    "spellings": "key",
 }
 INDEXES = (
     "captures_by_target ON captures (md5(target), instant)",

@@ -7,6 +7,7 @@ from typing import Dict, List, Sequence, Set, Tuple
 from .catalogue import OF_A_FILE, Catalogue
 from .discover import Found, all_listed, is_below, plain_paths
 from .job_folders import drop_logs
+from .keys import UNSPELL, UNSPELL_ALL
 from .states import ABOUT_BYTES, READ, as_list
 from .texts import real_path
 from .watched import end_watch, watched
@@ -101,6 +102,7 @@ def forget_files(catalogue: Catalogue, paths: Sequence[str]) -> Tuple[List[str],
 
 def forget(catalogue: Catalogue, file: int) -> None:
     """Drops all that is known of a file, also the reading that is beside its own."""
+    catalogue.base.execute(UNSPELL, (file, -file) * 2)
     for table in ABOUT_A_FILE:
         catalogue.base.execute("DELETE FROM %s WHERE file IN (?, ?)" % table, (file, -file))
 
@@ -118,6 +120,7 @@ def prune(catalogue: Catalogue, keep: int) -> int:
                 last += " UNION " + about_bytes % as_list(ABOUT_BYTES)
             query = "DELETE FROM %s WHERE run <= ? AND (file, run) NOT IN (%s)" % (table, last)
             dropped += catalogue.base.execute(query, (oldest - keep,)).rowcount
+        catalogue.base.execute(UNSPELL_ALL)
     drop_logs(catalogue, oldest - keep)
     catalogue.patiently("VACUUM")
     return dropped

@@ -1,53 +1,49 @@
-"""Other spellings of a URI under which there are captures, for a reader to choose from. Nothing is guessed: an answer
-is for a URI byte for byte."""
+"""Near URIs under which there are captures, for a reader to choose from: those with the same key in the form SURT, such
+as by http and https. Nothing is guessed: an answer is for a URI byte for byte."""
 from __future__ import annotations
 
 import itertools
-import re
 from typing import Any, Dict, Iterator, List, Optional, Sequence, Tuple
 
 from .access import Access
 from .captures import OF_TARGET
 from .catalogue import Catalogue
+from .keys import MOST_KEYED, key_of, number_of, usual_spellings
 from .memento import path_of
 from .texts import Stored
 
-WEB_URI = re.compile(r"(https?)://([^/?#@:\[\]]+)(?::(\d*))?([^?#]*)(.*)", re.ASCII | re.IGNORECASE | re.DOTALL)
-DEFAULT_PORT = {"http": "80", "https": "443"}
+# Near URIs that are given, the targets that are looked at for them, and their captures that are counted.
+MOST_NEAR, MOST_LOOKED_AT, MOST_COUNTED = 20, 60, 100
+SPELLED = "SELECT target FROM spellings WHERE key = ? ORDER BY target LIMIT %d" % MOST_LOOKED_AT
 COUNTED = "SELECT count(*), min(instant), max(instant) %s AND instant <= ?" % OF_TARGET
+LAST = "(SELECT instant %s AND instant <= ? ORDER BY instant DESC LIMIT 1)" % OF_TARGET
+COUNTED_TO = "SELECT count(*), min(instant), %s FROM (SELECT instant %s AND instant <= ? ORDER BY instant LIMIT %d)" % (
+    *(LAST, OF_TARGET),
+    MOST_COUNTED,
+)
 Found = Tuple[Stored, int, str, str]
 
 
-def near_spellings(target: Stored) -> List[str]:
-    """The same URI with the other scheme, with or without `www.`, a default port and a slash at the end, and with its
-    host in lower case."""
-    found = WEB_URI.fullmatch(target) if isinstance(target, str) else None
-    if found is None:
-        return []
-    bare = re.sub(r"^www\.", "", found[2].lower())
-    path = found[4].rstrip("/")
-    paths = dict.fromkeys([found[4], path + "/", path])
-    is_default = found[3] in (None, "", "80", "443")
-    made = (
-        "%s://%s%s%s%s" % (scheme, host, port, path, found[5])
-        for scheme, host, path in itertools.product(("https", "http"), (bare, "www." + bare), paths)
-        for port in (("", ":" + DEFAULT_PORT[scheme]) if is_default else (":%s" % found[3],))
-    )
-    return [it for it in dict.fromkeys(made) if it != target]
-
-
 def near_captures(catalogue: Catalogue, target: Stored, access: Access, address: str) -> List[Found]:
-    """The near spellings that have captures which a reader may see: how many, the first and the last instant."""
-    found = (of_target(catalogue, it, access, address) for it in near_spellings(target))
-    return [it for it in found if it is not None]
+    """The near URIs that have captures which a reader may see: how many up to a number, the first and the last
+    instant."""
+    if len(target) > MOST_KEYED:
+        return []
+    key = key_of(target)
+    spelled = (row[0] for row in catalogue.rows(SPELLED, (number_of(key),)))
+    near = (it for it in itertools.chain(usual_spellings(key), spelled) if it != target)
+    found = (of_target(catalogue, it, access, address, COUNTED_TO) for it in near)
+    return list(itertools.islice((it for it in found if it is not None and key_of(it[0]) == key), MOST_NEAR))
 
 
-def of_target(catalogue: Catalogue, target: Stored, access: Access, address: str) -> Optional[Found]:
+def of_target(
+    catalogue: Catalogue, target: Stored, access: Access, address: str, query: str = COUNTED
+) -> Optional[Found]:
     """The captures of a target that a reader may see; None if there are none."""
     decision = access.decide(target, address)
     if decision.withheld() is not None:
         return None
-    count, first, last = catalogue.one(COUNTED, (target, decision.last()))
+    count, first, last = catalogue.one(query, (target, decision.last()) * (query.count("?") // 2))
     return (target, count, first, last) if count else None
 
 

@@ -16,6 +16,7 @@ from .disk import Stamp
 from .job import COMMANDS, Outcome, outcome_of
 from .jobs import all_files, files_of
 from .job_folders import drop_folders, folders_of, names_in
+from .keys import SPELL
 from .lines import RecordRow, Sums, capture_rows, digest_rows, finding_rows, payload_rows, payloads_of, record_rows
 from .manifest import compare_stated
 from .moves import settle_moves
@@ -329,6 +330,7 @@ def load_rows(catalogue: Catalogue, parts: Parts, outcome: Outcome, reading: Rea
     captures = put(
         "INSERT INTO captures VALUES (?, ?, ?, ?, ?, ?, ?, ?, ?, ?, ?)", capture_rows(file, parts, sums)
     ).rowcount
+    catalogue.base.execute(SPELL % "file = ?", (file,))
     digests = put("INSERT INTO digests VALUES (?, ?, ?, ?, ?)", digest_rows(file, parts)).rowcount
     put("INSERT INTO payloads VALUES (?, ?, ?, ?, ?, ?)", payload_rows(file, parts))
     put("INSERT INTO findings VALUES (?, ?, ?, ?, ?)", finding_rows(file, parts))

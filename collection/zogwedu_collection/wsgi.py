@@ -385,14 +385,17 @@ class Application:
         return self.sent(asking, answer, lambda content: self.answer_head(answer, content), 200)
 
     def room_found(self, asking: Asking, text: str) -> Response:
-        """The targets that begin with a text."""
+        """The targets that begin with a text, and other URIs that are near it."""
         front = target_in(text)
         with self.desks.one(asking.noted) as catalogue:
             found = list(targets_below(catalogue, front, asking.access, asking.address, MOST_FOUND))
-        return as_json({"most": MOST_FOUND, "found": as_rows(found)})
+            near = near_captures(catalogue, front, asking.access, asking.address)
+        below = {it[0] for it in found}
+        others = as_rows([it for it in near if it[0] not in below])
+        return as_json({"most": MOST_FOUND, "found": as_rows(found), "near": others})
 
     def room_near(self, asking: Asking, text: str) -> Response:
-        """The near spellings of a URI that have captures."""
+        """The near URIs that have captures."""
         target = target_in(text)
         with self.desks.one(asking.noted) as catalogue:
             return as_json({"found": as_rows(near_captures(catalogue, target, asking.access, asking.address))})

@@ -92,7 +92,7 @@ INSERT INTO "runs" VALUES(2,'2026-11-30T13:39:51Z','2026-11-30T13:39:51Z','chang
 CREATE TABLE settings (name TEXT PRIMARY KEY, value TEXT);
 CREATE TABLE stated (file BIGINT, algorithm TEXT, manifest TEXT, digest TEXT, stated_on TEXT, found TEXT, accepted TEXT, PRIMARY KEY (file, algorithm, manifest));
 CREATE TABLE watched (path TEXT, kind TEXT, given_in TEXT, added TEXT, read_on TEXT, trouble TEXT);
-INSERT INTO "watched" VALUES('@TOP@/disk','folder','/work/h2','2026-11-30T13:39:48Z','2026-11-30T13:39:51Z',NULL);
+INSERT INTO "watched" VALUES('@TOP@/disk','folder','@TOP@','2026-11-30T13:39:48Z','2026-11-30T13:39:51Z',NULL);
 CREATE TABLE years (file BIGINT, year TEXT, kind TEXT, records BIGINT, bytes BIGINT, PRIMARY KEY (file, year, kind)) WITHOUT ROWID;
 INSERT INTO "years" VALUES(1,'2020','resource',2,6);
 INSERT INTO "years" VALUES(2,'2020','resource',1,3);

@@ -364,6 +364,7 @@ def test_what_is_listed(guarded: Collection) -> None:
         "https://here.example",
     ):
         assert room.ask("/room/near/" + uri).json == {"found": []}
+        assert room.ask("/room/found/" + uri + "?").json["near"] == []
         judge(room.ask("/timegate/" + uri), "secret.example", "hidden", "here.example")
     for path in ("/metrics", "/health", "/"):
         judge(room.ask(path))

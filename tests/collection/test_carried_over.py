@@ -99,8 +99,8 @@ def test_status_counts_what_is_compared_by_less(collection: Collection) -> None:
     assert collection.status()["unhashed"] == 0
 
 
-def test_the_version_before(collection: Collection) -> None:
-    """It knew nothing of members: a file is unpacked as a whole until it is read again."""
+def test_a_version_without_members(collection: Collection) -> None:
+    """A file is unpacked as a whole until it is read again."""
     carry(collection, "catalogue-5.sql")
     members = [gzip.compress(record(7, b"seven", SEVENTH), 0), gzip.compress(record(8, b"eight", EIGHTH), 0)]
     path = archive(collection, "packed.warc.gz", *members)
@@ -119,3 +119,16 @@ def test_the_version_before(collection: Collection) -> None:
     unchanged(path, torn)
     assert collection.run("replay", EIGHTH, "9999").stdout == b"eight", "one member is read"
     assert collection.run("replay", "--whole", EIGHTH, "9999").returncode == 3
+
+
+def test_the_version_before(collection: Collection) -> None:
+    """It knew nothing of near URIs. What was read isn't read again."""
+    carry(collection, "catalogue-6.sql")
+    targets = "http://a.example/Seven?b&a", "http://a.example/Eight?b&a"
+    blocks = zip((7, 8), (b"seven", b"eight"), targets)
+    members = [gzip.compress(record(*it), 0) for it in blocks]
+    path = archive(collection, "packed.warc.gz", *members)
+    assert to_read(collection.night()) == 0
+    assert collection.ask("SELECT target FROM spellings ORDER BY target") == [(it,) for it in sorted(targets)]
+    unchanged(path, members[0], members[1][:-1] + b"x")
+    assert collection.run("replay", targets[0], "9999").stdout == b"seven", "one member is read"

@@ -143,19 +143,21 @@ NEAR: Dict[str, Set[str]] = {
     "http://b.example/path": {"https://www.b.example:443/path/"},
     "http://b.example/path?x": {"http://b.example/path/?x"},
     "http://a.example/other": set(),
-    "http://b.example/PATH": set(),
+    "http://b.example/PATH": {"https://www.b.example:443/path/"},
+    "b.example/path": {"https://www.b.example:443/path/"},
+    "http://www2.b.example/path/?b&a": {"http://b.example/path/?a&B"},
     "http://a.example:8080/": set(),
-    "ftp://a.example/": set(),
+    "ftp://a.example/": {"http://a.example/"},
     "urn:x": set(),
 }
 
 
 @pytest.fixture(name="spellings", scope="module")
 def spellings_fixture(tmp_path_factory: pytest.TempPathFactory) -> Collection:
-    """One URI, and two with more in them."""
+    """One URI, and three with more in them."""
     collection = new_collection(tmp_path_factory)
-    uris = URI, URI, "https://www.b.example:443/path/", "http://b.example/path/?x"
-    dates = FIRST, SECOND, FIRST, FIRST
+    uris = URI, URI, "https://www.b.example:443/path/", "http://b.example/path/?x", "http://b.example/path/?a&B"
+    dates = FIRST, SECOND, FIRST, FIRST, FIRST
     collection.put("disk/a.warc", *(response(number, *pair, b"x") for number, pair in enumerate(zip(uris, dates))))
     read(collection)
     return collection
@@ -174,6 +176,20 @@ def test_near_spellings(spellings: Collection, uri: str) -> None:
     assert {it["path"] for it in found} == NEAR[uri]
     if URI in NEAR[uri]:
         assert (found[0]["captures"], found[0]["first"][:10], found[0]["last"][:10]) == (2, FIRST[:10], SECOND[:10])
+
+
+def test_near_what_is_searched_for(spellings: Collection) -> None:
+    """Beside the URIs that begin with a text are others that are near it."""
+    room = Room(spellings)
+    for text, found, near in (
+        ("http://b.example/path/?a", ["http://b.example/path/?a&B"], []),
+        ("http://b.example/path?A&b", [], ["http://b.example/path/?a&B"]),
+        ("b.example/path/", [], ["https://www.b.example:443/path/"]),
+        ("https", ["https://www.b.example:443/path/"], []),
+        ("https://www.b.example:443/path", ["https://www.b.example:443/path/"], []),
+    ):
+        reply = room.ask("/room/found/" + text).json
+        assert [[it["path"] for it in reply[name]] for name in ("found", "near")] == [found, near], text
 
 
 def test_no_near_spelling_of_what_is_there(spellings: Collection) -> None:

@@ -138,6 +138,10 @@ def search_and_page(tests: Tests, folder: str) -> None:
     browser.run("byId('uri').value = 'http://site.example/'; byId('find').click()")
     tests.holds(tests.becomes("document.querySelectorAll('.found li').length === 9"), "search by prefix", tests.text())
     tests.holds("U+202E" in tests.text(), "signs that turn a text are shown by their numbers", tests.text())
+    browser.run("byId('uri').value = 'SITE.example'; byId('find').click()")
+    near = "[...document.querySelectorAll('.found a')].map((it) => it.textContent).join() === 'http://site.example/'"
+    tests.holds(tests.becomes(near), "a near URI beside a search", tests.text())
+    browser.run("byId('uri').value = 'http://site.example/'")
     browser.run("byId('moment').value = ''; byId('ask').requestSubmit()")
     tests.holds(tests.shows("Rain"), "the latest page", tests.text())
     tests.holds(tests.in_view("getElementById('picture').naturalWidth") == 1, "its picture of another file")

@@ -1515,7 +1515,7 @@ COLUMNS_OF_HASHES = {
     "files": "due seen state_there detail_there",
 }
 WITHOUT_HASHES = "INSERT INTO settings SELECT 'paths', json_group_array(path) FROM watched; DROP TABLE watched;"
-WITHOUT_HASHES += "DROP TABLE accepted; DROP TABLE acknowledged;" + "".join(
+WITHOUT_HASHES += "DROP TABLE accepted; DROP TABLE acknowledged; DROP TABLE spellings;" + "".join(
     "ALTER TABLE %s DROP COLUMN %s;" % (table, name)
     for table, names in COLUMNS_OF_HASHES.items()
     for name in names.split()

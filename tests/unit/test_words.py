@@ -139,6 +139,8 @@ def test_near_spellings_are_a_list_to_choose_from() -> None:
     shown, whole = said("P1 NoCapture", f"P1 NoCapture\n{near}\n\n{MAY_HAVE}")
     assert "There are captures of other spellings: http://a.example/ 3 captures, 2020-01-01 to 2021-01-01" in shown
     assert "couldn’t be read" in shown and "near:" not in whole
+    shown, _ = said("P1 NoCapture", f"P1 NoCapture\n{near.replace(' 3 ', ' 100 ')}")
+    assert "http://a.example/ at least 100 captures, 2020-01-01" in shown
 
 
 def test_that_a_file_could_not_be_read_is_said_once() -> None:

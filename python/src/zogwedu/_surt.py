@@ -2,6 +2,7 @@
 
 No part of this is proved. A key is a help to search with, and never an answer.
 """
+import functools
 import re
 from typing import List, Pattern, Sequence, Tuple
 
@@ -20,6 +21,7 @@ NUMBER = re.compile(rb"\d{1,10}")
 DEFAULT_PORTS = {b"http": b"80", b"https": b"443"}
 # Hosts have no more bytes; of longer paths and queries sessions aren't looked for.
 MOST_OF_HOST, MOST_SEARCHED = 255, 1 << 12
+HOSTS_KEPT = 256
 # Sessions in paths of ASP.NET, and in queries. What is before and after them stays.
 IN_PATHS = (
     re.compile(rb"(.*/)\((?:[a-z]\([0-9a-z]{24}\))+\)/([^?]+\.aspx.*)", re.DOTALL),
@@ -71,6 +73,7 @@ def _escaped(text: bytes) -> bytes:
     return ESCAPED.sub(lambda found: b"%%%02X" % found[0][0], text)
 
 
+@functools.lru_cache(maxsize=HOSTS_KEPT)
 def _host_and_port(text: bytes, scheme: bytes) -> Tuple[bytes, bytes]:
     """The host and the port of a key, the port with its colon, unless it is that of the scheme."""
     found = PORT.fullmatch(text)
