@@ -138,7 +138,7 @@ TO_VERSION_5 = (
 )
 # From one of version 5, which knew nothing of members: those of a file are known once it is read again.
 TO_VERSION_6 = tuple("ALTER TABLE records ADD COLUMN packed_%s BIGINT" % name for name in ("at", "length", "crc"))
-# From one of version 6, which knew nothing of near URIs.
+# From one of version 6, which knew nothing of near URIs. It has the length of each member.
 TO_VERSION_7 = ("CREATE TABLE spellings (%s) WITHOUT ROWID" % TABLES["spellings"], SPELL % "TRUE")
 STEPS = tuple(enumerate((TO_VERSION_2, TO_VERSION_3, TO_VERSION_4, TO_VERSION_5, TO_VERSION_6, TO_VERSION_7), 2))
 

@@ -5,7 +5,7 @@ import collections
 import dataclasses
 import functools
 import urllib.parse
-from typing import Counter, Iterator, List, NamedTuple, Optional, Tuple
+from typing import Any, Counter, Iterable, Iterator, List, NamedTuple, Optional, Tuple
 
 from .parts import Parts
 from .texts import Stored, decoded
@@ -14,7 +14,7 @@ WEB_SCHEMES = ("http", "https", "ftp")
 
 
 class RecordRow(NamedTuple):
-    """A line of `list`."""
+    """A line of `list`. The catalogue has no length of a member that ends where the next record's begins."""
 
     file: int
     position: int
@@ -132,6 +132,25 @@ def record_rows(file: int, parts: Parts, sums: Sums) -> Iterator[RecordRow]:
         columns = (None, None, None) if place == b"-" else map(int, place.split(b" ", 2))
         own = None if hashed is None else hashed.decode("ascii")
         yield RecordRow(file, int(position), int(offset), int(length), *texts, own, *columns)
+
+
+def short_rows(rows: Iterable[RecordRow]) -> Iterator[Tuple[Any, ...]]:
+    """Rows of `list` as the catalogue has them, which leaves out a length that the next row says: the column before the
+    last one."""
+    before: Optional[RecordRow] = None
+    for row in rows:
+        if before is not None:
+            yield (*before[:-2], None, before[-1]) if is_followed(before, row) else before
+        before = row
+    if before is not None:
+        yield before
+
+
+def is_followed(row: RecordRow, after: RecordRow) -> bool:
+    """Whether the member of a record ends where that of another one begins."""
+    if row.packed_at is None or row.packed_length is None:
+        return False
+    return row.packed_at + row.packed_length == after.packed_at
 
 
 def capture_rows(file: int, parts: Parts, sums: Sums) -> Iterator[CaptureRow]:

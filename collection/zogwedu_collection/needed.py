@@ -31,10 +31,12 @@ Found = Set[Tuple[int, int]]
 # Bytes of an archive: the offset, and how many.
 Span = Tuple[int, int]
 Key = Tuple[Tuple[int, Optional[Stamp], Optional[Tuple[int, ...]]], ...]
-NEXT = "(SELECT at_offset FROM records AS next WHERE next.file = records.file AND next.position = records.position + 1)"
+NEXT = "(SELECT %s FROM records AS next WHERE next.file = records.file AND next.position = records.position + 1)"
+# A member that ends where the next record's begins has no length of its own.
 ROWS = (
-    "SELECT position, at_offset, %s, length, kind, date, id, target, hash, packed_at, packed_length, packed_crc"
-    " FROM records WHERE file = ? AND " % NEXT
+    "SELECT position, at_offset, %s, length, kind, date, id, target, hash, packed_at,"
+    " coalesce(packed_length, %s - packed_at), packed_crc FROM records WHERE file = ? AND "
+    % (NEXT % "at_offset", NEXT % "packed_at")
 )
 # A response or a resource.
 IS_STORED = "lower(kind) IN ('response', 'resource')"

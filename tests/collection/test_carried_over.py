@@ -122,7 +122,7 @@ def test_a_version_without_members(collection: Collection) -> None:
 
 
 def test_the_version_before(collection: Collection) -> None:
-    """It knew nothing of near URIs. What was read isn't read again."""
+    """It knew nothing of near URIs, and had the length of each member. What was read isn't read again."""
     carry(collection, "catalogue-6.sql")
     targets = "http://a.example/Seven?b&a", "http://a.example/Eight?b&a"
     blocks = zip((7, 8), (b"seven", b"eight"), targets)
@@ -131,4 +131,10 @@ def test_the_version_before(collection: Collection) -> None:
     assert to_read(collection.night()) == 0
     assert collection.ask("SELECT target FROM spellings ORDER BY target") == [(it,) for it in sorted(targets)]
     unchanged(path, members[0], members[1][:-1] + b"x")
-    assert collection.run("replay", targets[0], "9999").stdout == b"seven", "one member is read"
+    for _ in range(2):
+        assert collection.run("replay", targets[0], "9999").stdout == b"seven", "one member is read"
+        unchanged(path, *members)
+        collection.night("--all")
+        unchanged(path, members[0], members[1][:-1] + b"x")
+    lengths = "SELECT packed_length FROM records WHERE packed_at IS NOT NULL ORDER BY position"
+    assert collection.ask(lengths) == [(None,), (len(members[1]),)]

@@ -10,6 +10,7 @@ from __future__ import annotations
 import gzip
 import io
 import os
+import sqlite3
 import subprocess
 import tempfile
 import unicodedata
@@ -22,7 +23,7 @@ pytest.importorskip("hypothesis")
 
 from hypothesis import HealthCheck, given, settings  # noqa: E402
 from hypothesis import strategies as st  # noqa: E402
-from zogwedu_collection import export, lines, parts, runs, texts, unpack  # noqa: E402
+from zogwedu_collection import catalogue, export, lines, needed, parts, runs, texts, unpack  # noqa: E402
 
 from .in_node import TOP  # noqa: E402
 
@@ -182,3 +183,24 @@ def test_words_reach_a_command(words: List[str]) -> None:
     assert "{" not in command
     done = subprocess.run(["sh", "-c", "printf '%s\\0' " + command], stdout=subprocess.PIPE, check=True)
     assert done.stdout == b"".join(word.encode() + b"\0" for word in words)
+
+
+@given(st.lists(st.tuples(st.booleans(), st.integers(0, 1), st.integers(1, 99)), min_size=1))
+def test_places_of_members_come_back(members: List[Tuple[bool, int, int]]) -> None:
+    """Also without the lengths that the next row says, of members with and without other bytes between them."""
+    rows, at = [], 0
+    for position, (is_alone, gap, length) in enumerate(members):
+        place = (at + gap, length, -position) if is_alone else ()
+        rows.append(lines.RecordRow(1, position, position, 0, "resource", "2020", "<a:b>", None, "hash", *place))
+        at += gap + length
+    base = sqlite3.connect(":memory:")
+    base.execute("CREATE TABLE records (%s)" % catalogue.TABLES["records"])
+    marks = ", ".join("?" * len(lines.RecordRow._fields))
+    base.executemany("INSERT INTO records VALUES (%s)" % marks, lines.short_rows(rows))
+    found = base.execute(needed.ROWS + "TRUE ORDER BY position", (1,))
+    places = [needed.row_of(columns, len(rows)).place for columns in found]
+    assert places == [None if row.packed_at is None else row[-3:] for row in rows]
+    lengths = base.execute("SELECT packed_length FROM records ORDER BY position").fetchall()
+    follows = [one[0] and other[:2] == (True, 0) for one, other in zip(members, members[1:])]
+    assert [it is None for it, in lengths[:-1]] == [it or not one[0] for it, one in zip(follows, members)]
+    base.close()
