@@ -40,6 +40,11 @@ const PACKED_WORDS = {
   zip: ({why}, offset) => ['is refused', `It isn’t read as a package, for its ZIP at byte ${offset}. ${plainly(why)}.`],
   entry: (
       {why}, offset) => ['isn’t what was packed', `Its bytes, from byte ${offset} of the package on: ${plainly(why)}.`],
+  members: ({why}, offset) =>
+      ['isn’t what was packed',
+       `Its bytes, from byte ${offset} of the package on: ${plainly(why)}. Its gzip members are good by their own ` +
+           'checksums, and are shown.',
+],
   crossing: (_, offset) =>
       ['isn’t an archive by itself', `Its last record, at its byte ${offset}, goes on in the file after it.`],
 };
@@ -51,7 +56,7 @@ const PACKED_WORDS = {
 function packedAdvice({kind, name}) {
   if (kind === 'zip')
     return ['Of a ZIP that contradicts itself one program would show what another didn’t check. Fetch it again.'];
-  if (kind === 'entry') return ['Fetch the package again.'];
+  if (isOfPackage(kind)) return ['Fetch the package again.'];
   if (kind === 'crossing') return ['What that record gives was never captured so. All else is as in the files.'];
   const packed = inShell(name, kind === 'zstd' ? 'a.warc.zst' : 'a.warc.gz'), to = packed.replace(/(\.gz|\.zst)?$/, '');
   if (kind === 'zstd') return ['Decompress it first, as by ', code(`zstd -d ${packed}`), ', and open what that gives.'];
@@ -93,8 +98,10 @@ const gapWords = (gap) => PACKED_WORDS[gap.kind](gap, gap.offset.toLocaleString(
  */
 function damageLine({place, length, fault, gap}) {
   if (gap) {
-    const left = `${many(gap.length, 'compressed byte')} ${gap.length === 1 ? 'is' : 'are'} left out`;
-    return [make('bdi', {}, plainly(gap.name)), `: ${gapWords(gap)[1]} `, make('b', {}, left)];
+    const said = [make('bdi', {}, plainly(gap.name)), `: ${gapWords(gap)[1]} `];
+    const bytes = many(gap.length, isOfPackage(gap.kind) ? 'packed byte' : 'compressed byte');
+    const left = make('b', {}, `${bytes} ${gap.length === 1 ? 'is' : 'are'} left out`);
+    return gap.kind === 'members' ? said : [...said, left];
   }
   const bytes = room.unsought ? 'All bytes' : many(length, 'byte');
   return [`${bytes} from byte ${place.toLocaleString('en')} on${placeInFile(place)}: `, make('b', {}, fault)];
@@ -149,10 +156,13 @@ function shownPart() {
  * @param {number} size of the archive
  */
 function damagedBytes(bytes, size) {
-  const packed = room.gaps.reduce((sum, gap) => sum + gap.length, 0), isOne = (bytes || packed) === 1;
+  const sumOf = (/** @type {boolean} */ isOfEntries) =>
+      room.gaps.reduce((sum, {kind, length}) => sum + (isOfPackage(kind) === isOfEntries ? length : 0), 0);
+  const [members, entries] = [sumOf(false), sumOf(true)], isOne = (bytes || members || entries) === 1;
   const ofArchive = bytes ? [`${many(bytes, 'byte')} of ${size.toLocaleString('en')}`] : [];
-  const ofFiles = packed ? [many(packed, 'compressed byte')] : [];
-  return `${[...ofArchive, ...ofFiles].join(' and ')} ${isOne ? 'is' : 'are'} damaged.`;
+  const ofFiles = members ? [many(members, 'compressed byte')] : [];
+  const ofPackages = entries ? [many(entries, 'packed byte')] : [];
+  return `${[...ofArchive, ...ofFiles, ...ofPackages].join(' and ')} ${isOne ? 'is' : 'are'} damaged.`;
 }
 
 // Compressed files with one damage in all: where and why, and what is shown.

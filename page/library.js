@@ -110,6 +110,10 @@ function listLine(row) {
 
 const DAMAGE_NUMBERS = 4;
 
+// Whether a damage is one of a whole file of a package.
+/** @param {string} kind */
+const isOfPackage = (kind) => kind === 'entry' || kind === 'members';
+
 // The damages of a file, in order.
 class Damages {
   /**
@@ -146,7 +150,11 @@ class Damages {
    */
   at(number) {
     const [place, length, kind, faultAt] = this.numbers.subarray(number * DAMAGE_NUMBERS), gap = this.gaps[-kind - 1];
-    if (gap) return {place, length, fault: `no good member at byte ${gap.offset} of ${gap.name}`, gap};
+    if (gap) {
+      const {kind, name, offset} = gap;
+      const fault = isOfPackage(kind) ? `${name} isn’t what was packed` : `no good member at byte ${offset} of ${name}`;
+      return {place, length, fault, gap};
+    }
     return {place, length, fault: this.faults.get(kind).replace(/ at \d+$/, ` at ${faultAt}`)};
   }
 

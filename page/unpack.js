@@ -56,7 +56,7 @@ class Joining {
   // Joins all files, or those up to the first one that can't be decompressed to its end here. Returns the archive.
   async join() {
     for (const file of this.files) {
-      const packing = packingOf(await bytesOfFile(file, 0, Math.min(FIRST_BYTES, file.size)));
+      const packing = packingOf(await bytesOfFile(file, 0, Math.min(FIRST_BYTES, file.size))), {length} = this.gaps;
       this.parts.push({name: file.name, size: file.size, start: this.length, isPacked: packing === 'gzip'});
       if (packing === 'zstd')
         this.damage = {kind: 'zstd', name: file.name, offset: 0, why: ''};
@@ -64,6 +64,7 @@ class Joining {
         await this.unpack(file);
       else
         this.add(file);
+      if (file.fault && !this.damage && this.gaps.length === length) this.addFault(file.fault);
       if (this.damage || this.isOver()) break;
     }
     return this.pieces.length === 1 ? this.pieces[0] : new Blob(this.pieces);
@@ -73,6 +74,15 @@ class Joining {
   add(piece) {
     this.pieces.push(piece);
     this.length += piece.size;
+  }
+
+  // Adds a gap for a file that isn't what was packed, and in which no other damage was found.
+  /** @param {PackedDamage & {length: number}} fault */
+  addFault(fault) {
+    if (this.gaps.length === MOST_GAPS)
+      this.damage = fault;
+    else
+      this.gaps.push({...fault, place: this.length});
   }
 
   // Adds what the good members of a file decompress to, with a gap for what isn't one.

@@ -305,24 +305,26 @@ class Opening {
     try {
       await it.read();
       this.packages.push(it);
-      for (const entry of it.archives) found.push(await this.archiveOf(file, entry));
+      for (const entry of it.archives) {
+        if (this.isOver()) break;
+        found.push(await this.archiveOf(file, entry));
+      }
     } catch (error) {
-      if (error instanceof BadZip)
-        this.damage = {kind: 'zip', name: file.name, offset: error.offset, why: error.message};
-      else if (!(error instanceof BadEntry))
-        throw error;
+      if (!(error instanceof BadZip)) throw error;
+      this.damage = {kind: 'zip', name: file.name, offset: error.offset, why: error.message};
     }
     return found;
   }
 
-  // The bytes of an archive, which are tried against their CRC.
+  // The bytes of an archive, which are tried against their CRC. Of one that isn't what was packed these are what gzip
+  // wrote, since its members are judged by themselves, and else nothing.
   /** @type {(file: File, entry: ZipEntry) => Promise<NamedBlob>} */
   async archiveOf(file, entry) {
     const name = this.files.length > 1 ? `${file.name}/${entry.name}` : entry.name, pieces = [];
-    let read = 0, told = 0;
+    let read = 0, told = 0, why = '';
     try {
       for await (const piece of contentOf(entry)) {
-        if (this.isOver()) throw new BadEntry('nobody wants it any more');
+        if (this.isOver()) break;
         if (entry.method === DEFLATED_METHOD) pieces.push(await kept(piece));
         read += piece.length;
         if (read - told < LEAST_TOLD) continue;
@@ -330,10 +332,14 @@ class Opening {
         this.tell({name, read, size: entry.size, unpacked: read});
       }
     } catch (error) {
-      if (error instanceof BadEntry) this.damage = {kind: 'entry', name, offset: entry.offset, why: error.message};
-      throw error;
+      if (!(error instanceof BadEntry)) throw error;
+      why = error.message;
     }
     const stored = entry.file.slice(entry.begin, entry.begin + entry.packed);
-    return Object.assign(entry.method === DEFLATED_METHOD ? new Blob(pieces) : stored, {name});
+    const held = entry.method === DEFLATED_METHOD ? new Blob(pieces) : stored;
+    if (!why) return Object.assign(held, {name});
+    const isOfGzip = packingOf(await bytesOfFile(held, 0, Math.min(FIRST_BYTES, held.size))) === 'gzip';
+    const kind = isOfGzip ? 'members' : 'entry', {offset, packed: length} = entry;
+    return Object.assign(isOfGzip ? held : new Blob(), {name, fault: {kind, name, offset, why, length}});
   }
 }

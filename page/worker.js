@@ -43,7 +43,7 @@ const SPANS = 64;             // for how many parts of a body there is room at f
 const PATIENCE = 60000;       // milliseconds after which a helper counts as lost
 const SLOWEST = 10000;        // bytes that a helper looks through in a millisecond at least
 const TOO_LONG = 'the file is longer than what this page keeps in memory';
-const BAD_MEMBER = 'A member of gzip is damaged';
+const BAD_PART = 'A member of gzip, or a file of a package, is damaged';
 
 /** @type {(number: number, to: number) => number} */
 const round = (number, to) => Math.ceil(number / to) * to;
@@ -854,7 +854,7 @@ class Archive {
     if (this.isOver) return;
     const found = await (this.size <= this.desk.limit ? this.listKept() : this.listPieces());
     if (this.isOver || found === null) return;
-    const fault = found || (this.sides.length > 2 ? BAD_MEMBER : '');
+    const fault = found || (this.sides.length > 2 ? BAD_PART : '');
     const pieces = await (fault ? this.listRest(fault) : this.frontAlone('', ''));
     if (this.isOver || !pieces) return;
     this.state = 'listed';

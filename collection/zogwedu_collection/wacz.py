@@ -3,6 +3,7 @@ their pages. How a package is read is in the Python package's modules of ZIP and
 from __future__ import annotations
 
 import collections
+import contextlib
 import functools
 import itertools
 import json
@@ -106,20 +107,37 @@ def good_of_package(warc: str, file: IO[bytes], kept: Kept, pieces: Pieces) -> G
     package = opened(file)
     for entry in package.archives:
         damages = pieces.damages
-        for span in spans_in(package, entry):
-            if span.why is not None:
-                pieces.add_all(Pieces(damages=1, damaged=span.length))
-                continue
-            with kept(held_in(package, entry, span)) as run:
-                pieces.add_all(counted_pieces(warc, run))
-                yield from good_records(warc, run, patience_for(run))
+        if entry.method == _zip.DEFLATED and next(front_of(package, entry), b"").startswith(_wacz.OF_GZIP):
+            with kept(front_of(package, entry)) as copy:
+                yield from good_of_members(warc, copy, kept, pieces)
+        else:
+            yield from good_of_spans(warc, package, entry, kept, pieces)
         if pieces.damages == damages and not _wacz.is_whole(package.read, entry):
             pieces.add_all(Pieces(damages=1, damaged=entry.packed))
 
 
+def front_of(package: _wacz.Package, entry: _zip.Entry) -> Iterator[bytes]:
+    """What an entry holds, in pieces, as far as it can be read, whatever its CRC is."""
+    with contextlib.suppress(_zip.BadEntry):
+        yield from _zip.content_of(package.read, entry)
+
+
+def good_of_spans(
+    warc: str, package: _wacz.Package, entry: _zip.Entry, kept: Kept, pieces: Pieces
+) -> Generator[bytes, None, None]:
+    """The bytes of all good records of an archive that isn't compressed once more, which are counted."""
+    for span in spans_in(package, entry):
+        if span.why is not None:
+            pieces.add_all(Pieces(damages=1, damaged=span.length))
+            continue
+        with kept(held_in(package, entry, span)) as run:
+            pieces.add_all(counted_pieces(warc, run))
+            yield from good_records(warc, run, patience_for(run))
+
+
 def spans_in(package: _wacz.Package, entry: _zip.Entry) -> Sequence[_members.Span]:
-    """The runs of good members of an archive, and the damages between them. One that isn't compressed by gzip, or is
-    compressed once more, is one run, or damage."""
+    """The runs of good members of an archive, and the damages between them. One that isn't compressed by gzip is one
+    run, or damage."""
     if is_of_members(package, entry):
         part = _zip.part_of(package.read, entry.begin, entry.packed)
         spans = list(itertools.islice(_members.Spans(part, entry.packed), 2 * MOST_RUNS + 1))

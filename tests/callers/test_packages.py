@@ -162,7 +162,7 @@ class Refused(unittest.TestCase):
         with written(zip_of(items)) as path:
             out = io.BytesIO()
             salvaged = zogwedu.salvage(path, out)
-            self.assertEqual((out.getvalue(), len(salvaged.damage)), (record(1) + record(2), 1))
+            self.assertEqual((out.getvalue(), len(salvaged.damage)), (record(2), 1))
             with zogwedu.Archive.open(path, front=True) as archive:
                 self.assertEqual((len(archive), type(archive.fault)), (0, zogwedu.CompressedError))
 

@@ -12,7 +12,7 @@ from conftest import TOP, URI, Collection, lines, put, record
 from rooms import Room, program, read, response
 
 sys.path.insert(0, os.path.join(TOP, "tests", "reference"))
-from packages import Item, files_of, packed_files, page_line, wacz_of, zip_of  # noqa: E402
+from packages import DEFLATED, Item, deflated, files_of, packed_files, page_line, wacz_of, zip_of  # noqa: E402
 
 PAGES = [record(place, b"page %d" % place, URI + str(place)) for place in range(6)]
 FIRST, SECOND = gzip.compress(PAGES[0]) + gzip.compress(PAGES[1]), b"".join(PAGES[2:4])
@@ -103,14 +103,17 @@ def test_damaged_members(collection: Collection) -> None:
 
 
 def test_bytes_with_another_crc(collection: Collection) -> None:
-    """Of an archive that isn't compressed nothing is given; of members of gzip their own CRC decides."""
+    """Of an archive that isn't compressed nothing is given; of members of gzip their own CRC decides, also where the
+    package has them compressed once more."""
     said = {"crc": 1}
     items = [Item(b"archive/a.warc", PAGES[0], local=said, central=said)]
     items += [Item(b"archive/b.warc.gz", FIRST, local=said, central=said), Item(b"archive/c.warc", PAGES[4])]
+    again = b"".join(map(gzip.compress, PAGES[2:4]))
+    items.append(Item(b"archive/d.warc.gz", again, DEFLATED, local=said, central=said))
     assert (night(collection, zip_of(items)).returncode, collection.states()) == (1, {"a.wacz": "gunzip"})
-    assert [replayed(collection, place) for place in (0, 1, 4)] == [b"page 0", b"page 1", b"page 4"]
+    assert [replayed(collection, place) for place in range(5)] == [b"page %d" % place for place in range(5)]
     assert collection.ask("SELECT good_records, damages, damaged FROM checks") == [
-        (3, 2, len(PAGES[0]) + len(FIRST)),
+        (5, 3, len(PAGES[0]) + len(FIRST) + len(deflated(again))),
     ]
     assert verdicts(collection)["archive/a.warc"] == "bad"
 

@@ -75,14 +75,17 @@ def entry_points(tests: Any, browser: Browser) -> None:
 
 
 def refused(tests: Any, folder: str, records: list[bytes]) -> None:
-    """What isn't read, and why. Archives before it are shown."""
+    """What isn't read, and why. Archives before it are shown, and those after one that isn't what was packed."""
     crawl, half = b"".join(records), b"".join(records[:9])
     said = {"crc": 1}
-    damaged = [Item(b"archive/a.warc", half), Item(b"archive/b.warc", crawl, local=said, central=said)]
+    packed = b"".join(map(gzip.compress, records[:9]))
+    damaged = [Item(b"archive/a.warc", crawl, local=said, central=said), Item(b"archive/b.warc", half)]
+    of_members = [Item(b"archive/a.warc.gz", packed, local=said, central=said), Item(b"archive/b.warc", half)]
     cases = {
         "cut": (wacz_of({"a.warc": crawl})[:-1], 0, "is refused", "NoEnd"),
         "twice": (zip_of([Item(b"archive/a.warc", crawl)] * 2), 0, "is refused", "two entries are named"),
-        "crc": (zip_of(damaged), 9, "isn’t what was packed", "its CRC differs"),
+        "crc": (zip_of(damaged), 9, "a.warc isn’t what was packed", "its CRC differs"),
+        "members": (zip_of(of_members), 18, "a.warc.gz isn’t what was packed", "good by their own checksums"),
         "torn": (wacz_of({"a.warc.gz": gzip.compress(half)[:-9], "b.warc": crawl}), len(records), "is torn", ""),
     }
     for name, (data, count, short, why) in cases.items():

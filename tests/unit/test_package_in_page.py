@@ -3,9 +3,11 @@ from __future__ import annotations
 
 import gzip
 import hashlib
+import importlib
 import json
 import os
 import sys
+import tempfile
 from typing import TYPE_CHECKING, Any, List, Sequence
 
 import build_page
@@ -13,13 +15,14 @@ import build_page
 from .in_node import TOP, in_node, without
 
 sys.path.insert(0, os.path.join(TOP, "tests", "reference"))
-from packages import Item, files_of, hash_of, packed_files, page_line, wacz_of, zip_of  # noqa: E402
+from packages import DEFLATED, Item, files_of, hash_of, packed_files, page_line, wacz_of, zip_of  # noqa: E402
 
 if TYPE_CHECKING:
     from zogwedu import _wacz
 else:
     from zogwedu_collection import _wacz
 
+_files: Any = importlib.import_module("zogwedu_collection._files")
 SCRIPTS = ("shared.js", "members.js", "search.js", "zip.js", "wacz.js", "unpack.js")
 # The library judges a block by the digest that its head states; here node does.
 READ = """async (files) => {
@@ -41,8 +44,8 @@ READ = """async (files) => {
     for (const it of opening.packages)
       said.push({resources: await it.resources(judge), pages: await it.pages(), signer: await it.signer()});
     const bytes = new Uint8Array(await joined.arrayBuffer());
-    const damage = joining.damage ?? opening.damage ?? joining.gaps[0] ?? null;
-    found.push({bytes, names: joining.parts.map(({name}) => name), damage, said});
+    const damage = joining.damage ?? opening.damage ?? joining.gaps[0] ?? null, {gaps} = joining;
+    found.push({bytes, names: joining.parts.map(({name}) => name), damage, gaps, said});
   }
   return found;
 }"""
@@ -91,6 +94,42 @@ def test_as_in_python() -> None:
         assert (its["pages"]["others"], its["signer"] or None) == (own.others, package.signer())
 
 
+def damaged_packages() -> List[bytes]:
+    """Packages with an archive that isn't what was packed, between two others: stored and deflated, as it is and
+    compressed by gzip, with its members whole or not."""
+    three = b"".join(gzip.compress(b"WARC %d" % number, mtime=0) for number in range(3))
+    torn = three[:40] + bytes([three[40] ^ 1]) + three[41:]
+    said = {"crc": 5}
+    items = [
+        Item(b"archive/b.warc.gz", three, local=said, central=said),
+        Item(b"archive/b.warc.gz", torn, local=said, central=said),
+        Item(b"archive/b.warc.gz", torn),
+        Item(b"archive/b.warc", ONE, local=said, central=said),
+        Item(b"archive/b.warc", ONE, DEFLATED, local=said, central=said),
+        Item(b"archive/b.warc.gz", three, DEFLATED, local=said, central=said),
+    ]
+    return [zip_of([Item(b"archive/a.warc", ONE), item, Item(b"archive/c.warc.gz", TWO)]) for item in items]
+
+
+def test_what_is_good_of_damaged_archives() -> None:
+    """What comes after it is read too. The bytes and the places of damages are those that Python gives."""
+    files = damaged_packages()
+    for data, found in zip(files, in_page(files)):
+        with tempfile.TemporaryFile(buffering=0) as file, tempfile.TemporaryFile(buffering=0) as out:
+            file.write(data)
+            joined = _files.join_package(file, out, _files.Upon.GO_ON)
+            held = os.pread(out.fileno(), 1 << 20, 0)
+        assert bytes.fromhex(found["bytes"]) == held and held.startswith(ONE) and held.endswith(b"WARC two")
+        assert found["names"] == [part.name for part in joined.parts] and len(joined.parts) == 3
+        gaps = [(it["place"], it["offset"], it["length"]) for it in found["gaps"]]
+        assert len(gaps) == 1 and found["damage"] == found["gaps"][0]
+        package = _wacz.Package(lambda count, at, data=data: data[at : at + count], len(data))  # type: ignore[misc]
+        own = package.archives[1].begin if found["damage"]["kind"] == "damaged" else 0
+        assert gaps == [(gap.at, gap.damage.offset - own, gap.damage.length) for gap in joined.gaps]
+    kinds = [it["damage"]["kind"] for it in in_page(files)]
+    assert kinds == ["members", "damaged", "damaged", "entry", "entry", "members"]
+
+
 def test_damage() -> None:
     said = {"crc": 5}
     damaged = Item(b"archive/b.warc", ONE, local=said, central=said)
@@ -104,6 +143,6 @@ def test_damage() -> None:
     found = in_page(files)
     kinds = ["entry", "torn", "zip", "zip", "zstd"]
     assert [it["damage"]["kind"] for it in found] == kinds
-    assert [bytes.fromhex(it["bytes"]) for it in found] == [ONE, ONE + b"WARC ", b"", b"", ONE]
+    assert [bytes.fromhex(it["bytes"]) for it in found] == [ONE * 2, ONE + b"WARC ", b"", b"", ONE]
     assert found[0]["damage"]["name"] == "archive/b.warc" and "CRC" in found[0]["damage"]["why"]
     assert found[3]["damage"]["why"].startswith("Twice: two entries are named")

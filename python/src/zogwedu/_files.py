@@ -273,7 +273,8 @@ def _package_error(entry: Entry, damaged: Damaged, length: Optional[int] = None)
 
 
 def _write_good(read: Read, entry: Entry, out: IO[bytes]) -> List[Gap]:
-    """Writes what the good members of an archive hold, or all of one that isn't compressed, and gives the damages."""
+    """Writes what the good members of an archive hold, or all of one that isn't compressed if it is what was packed.
+    Gives the damages."""
     fault, gaps = None, []
     with tempfile.TemporaryFile(buffering=0) as copy:
         try:
@@ -287,7 +288,7 @@ def _write_good(read: Read, entry: Entry, out: IO[bytes]) -> List[Gap]:
             gaps = _write_members(own, size, out, entry.begin)
         elif kind == "zstd":
             fault = Damaged(entry.offset, ValueError("compressed by zstd, which isn't read in a package"))
-        else:
+        elif fault is None:
             for at in range(0, size, PIECE):
                 _write(own(PIECE, at), out)
     if fault is not None and not gaps:
