@@ -110,9 +110,9 @@ def tokens(page: str) -> Iterator[Token]:
     while at < length:
         quick = QUICK.match(page, at)
         if quick is None:
+            is_within = nesting.templates > 0  # as the text is that comes before the tag
             made, at = slowly(page, at, nesting)
-            if not nesting.templates:
-                yield from made
+            yield from (it for it in made if not (is_within if it[0] == TEXT else nesting.templates))
             continue
         text, slash, name = quick.groups()
         name = name.lower()
