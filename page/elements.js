@@ -8,7 +8,6 @@ const HOUR = 3600e3;
 const DAY = 24 * HOUR;
 const BINARY = /[\x00-\x08]/;
 
-const latin = new TextDecoder('latin1');
 const utf8 = new TextDecoder('utf-8', {fatal: true});
 
 /**
@@ -87,6 +86,22 @@ function plainly(text) {
  * @param {Uint8Array} bytes
  */
 const seen = (bytes) => plainly(shown(bytes));
+
+/**
+ * A text with the words in it marked.
+ * @param {string} text
+ * @param {[number, number][]} marks by its characters
+ */
+function markedText(text, marks) {
+  const letters = [...text], part = (/** @type {number[]} */...ends) => plainly(letters.slice(...ends).join(''));
+  const nodes = [];
+  let at = 0;
+  for (const [begin, end] of marks) {
+    nodes.push(part(at, begin), make('mark', {}, part(begin, end)));
+    at = end;
+  }
+  return [...nodes, part(at, letters.length)];
+}
 
 /** @param {string} date */
 function captureTime(date) {

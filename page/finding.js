@@ -34,22 +34,6 @@ async function asked(path) {
 // ---------------------------------------------------------------- words
 
 /**
- * A text with the words in it marked.
- * @param {string} text
- * @param {[number, number][]} marks by its characters
- */
-function markedText(text, marks) {
-  const letters = [...text], part = (/** @type {number[]} */...ends) => plainly(letters.slice(...ends).join(''));
-  const nodes = [];
-  let at = 0;
-  for (const [begin, end] of marks) {
-    nodes.push(part(at, begin), make('mark', {}, part(begin, end)));
-    at = end;
-  }
-  return [...nodes, part(at, letters.length)];
-}
-
-/**
  * From when to when a page had the words, in how many of its captures.
  * @param {WordHit} hit
  * @param {Uint8Array} uri

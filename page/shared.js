@@ -152,5 +152,20 @@ function startWorker(script) {
   return new Worker(workerPolicy ? workerPolicy.createScriptURL(url) : url);
 }
 
+const latin = new TextDecoder('latin1');
+
+const SIZES = ['bytes', 'KB', 'MB', 'GB', 'TB'];
+
+/** @param {number} bytes */
+function size(bytes) {
+  let power = 0, value = bytes;
+  while (value >= 1000 && power < SIZES.length - 1) {
+    value /= 1000;
+    power += 1;
+  }
+  if (power === 0) return `${bytes} ${bytes === 1 ? 'byte' : 'bytes'}`;
+  return `${value < 10 ? value.toFixed(1) : Math.round(value)} ${SIZES[power]}`;
+}
+
 /** @param {any} error */
 const whyOf = (error) => String(error?.message || error);

@@ -1,4 +1,4 @@
-// Stored bytes for people: heads, charsets, coded bodies. None of this is proved.
+// Stored bytes for people: heads, charsets, coded bodies, in the page and in its worker. None of this is proved.
 'use strict';
 
 const MOST_DECODED = 256 * MEGABYTE;  // bytes of one body
@@ -230,10 +230,10 @@ function decoderOf(label) {
  * @param {string} front
  */
 function decoderByMeta(front) {
-  for (const meta of every(parsed(front, '', new Budget()).root, 'meta')) {
-    const isType = attributeOf(meta, 'http-equiv')?.toLowerCase() === 'content-type';
-    const [, ...named] = isType && IN_CONTENT.exec(attributeOf(meta, 'content') ?? '') || [];
-    const found = decoderOf(attributeOf(meta, 'charset')) ?? decoderOf(named.find((it) => it));
+  for (const valueOf of metasIn(front)) {
+    const isType = valueOf('http-equiv')?.toLowerCase() === 'content-type';
+    const [, ...named] = isType && IN_CONTENT.exec(valueOf('content') ?? '') || [];
+    const found = decoderOf(valueOf('charset')) ?? decoderOf(named.find((it) => it));
     if (found) return found;
   }
   return null;

@@ -542,6 +542,13 @@ function parsed(html, uri, budget) {
 }
 
 /**
+ * The elements `meta` of a page, as its parser finds them: what gives the values of their attributes.
+ * @param {string} front
+ */
+const metasIn = (front) => every(parsed(front, '', new Budget()).root, 'meta')
+                               .map((meta) => (/** @type {string} */ name) => attributeOf(meta, name));
+
+/**
  * The tree of a view, and where its links lead.
  * @param {string} html
  * @param {string} uri

@@ -69,18 +69,5 @@ const prose = (text) => text.split('`').map((part, number) => (number % 2 ? make
  */
 const plain = (text) => text.replace(/`/g, '');
 
-const SIZES = ['bytes', 'KB', 'MB', 'GB', 'TB'];
-
-/** @param {number} bytes */
-function size(bytes) {
-  let power = 0, value = bytes;
-  while (value >= 1000 && power < SIZES.length - 1) {
-    value /= 1000;
-    power += 1;
-  }
-  if (power === 0) return `${bytes} ${bytes === 1 ? 'byte' : 'bytes'}`;
-  return `${value < 10 ? value.toFixed(1) : Math.round(value)} ${SIZES[power]}`;
-}
-
 /** @type {(count: number, one: string, more?: string) => string} */
 const many = (count, one, more = `${one}s`) => `${count.toLocaleString('en')} ${count === 1 ? one : more}`;
