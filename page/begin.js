@@ -51,7 +51,7 @@ function hearForms() {
     waits = setTimeout(() => {
       room.words = byId('words').value;
       body().scrollTop = 0;
-      filter();
+      findTexts();
     }, SEARCH_AFTER);
   });
   byId('search').addEventListener('submit', (/** @type {Event} */ event) => {
@@ -110,7 +110,7 @@ function anyKey(event) {
   if (activeElement !== byId('words')) return;
   byId('words').value = '';
   room.words = '';
-  filter();
+  findTexts();
   byId('list').focus();
 }
 
@@ -140,7 +140,7 @@ function begin() {
     refuse(whyOf(error));
     return;
   }
-  [hearFiles, hearForms, hearList, hearWindow].forEach((listen) => listen());
+  [hearFiles, hearForms, hearList, hearTexts, hearWindow].forEach((listen) => listen());
 }
 
 begin();

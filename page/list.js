@@ -1,7 +1,7 @@
 // The list of records: filters, order, and the lines that are seen.
 'use strict';
 
-const LINE = 26;             // pixels
+const LINE = 26;             // pixels of a line without a part of a text
 const MOST_PIXELS = 30e6;    // no browser scrolls further
 const MOST_OF_TARGET = 400;  // bytes of a target that a line shows
 
@@ -26,6 +26,8 @@ const TESTS = {
     const positions = new Set((room.findings ?? []).filter((it) => it.number === value).map((it) => it.position));
     return (row) => positions.has(row.position);
   },
+
+  text: ({value}) => (row) => room.texts.whyNone(row.position) === value,
 };
 
 // The searched text of each record, in small letters; made once.
@@ -41,9 +43,10 @@ function searched() {
 // The positions of the records that pass all filters and have the words.
 function passing() {
   const wanted = [...room.filters].map(([name, it]) => TESTS[name](it)), found = [];
-  const words = room.words.toLowerCase(), texts = words ? searched() : null;
+  const {isOn, hits} = room.texts, words = isOn ? '' : room.words.toLowerCase(), texts = words ? searched() : null;
   for (let position = 0; position < room.rows.count; position += 1) {
     if (texts && !texts[position].includes(words)) continue;
+    if (hits && !hits.has(position)) continue;
     const row = wanted.length ? room.rows.row(position) : null;
     if (wanted.every((test) => test(row))) found.push(position);
   }
@@ -53,7 +56,8 @@ function passing() {
 function filter() {
   const found = passing(), all = many(room.rows.count, 'record');
   room.order = sortOrder(found);
-  byId('shown').textContent = found.length === room.rows.count ? all : `${found.length.toLocaleString('en')} of ${all}`;
+  const some = found.length === room.rows.count ? all : `${found.length.toLocaleString('en')} of ${all}`;
+  byId('shown').textContent = room.texts.wrong ? plainly(room.texts.wrong) : some;
   byId('only').setAttribute('aria-pressed', String(room.filters.has('only')));
   const set = [...room.filters].filter(([name]) => name !== 'only');
   byId('filters').replaceChildren(...set.map(([name, {label}]) => filterButton(name, label)));
@@ -108,7 +112,8 @@ const columns = () => (isOfFiles() ? [...COLUMNS, 'file'] : COLUMNS);
 
 function drawHead() {
   const focused = /** @type {HTMLElement|null} */ (document.activeElement)?.dataset?.column;
-  byId('columns').replaceChildren(...columns().map(columnHead));
+  const ofText = make('div', {className: 'hidden-input', role: 'columnheader'}, 'text');
+  byId('columns').replaceChildren(...columns().map(columnHead), showsTexts() ? ofText : '');
   byId('columns').querySelectorAll('button').forEach(
       (/** @type {HTMLButtonElement} */ it, /** @type {number} */ number) => {
         it.dataset.column = columns()[number];
@@ -136,17 +141,18 @@ function sortBy(name) {
 }
 
 const body = () => byId('rows');
-const pixels = () => Math.min(MOST_PIXELS, room.order.length * LINE);
+const lineHeight = () => (showsTexts() ? LINE + textLines() * TEXT_LINE + BELOW_TEXT : LINE);
+const pixels = () => Math.min(MOST_PIXELS, room.order.length * lineHeight());
 
 // The number of the line at the top, how many lines are seen, and where a line is.
 function visibleLines() {
-  const high = Math.ceil(body().clientHeight / LINE) + 1, all = room.order.length;
-  if (all * LINE <= MOST_PIXELS) {
-    return {first: Math.floor(body().scrollTop / LINE), high, top: (/** @type {number} */ number) => number * LINE};
+  const line = lineHeight(), high = Math.ceil(body().clientHeight / line) + 1, all = room.order.length;
+  if (all * line <= MOST_PIXELS) {
+    return {first: Math.floor(body().scrollTop / line), high, top: (/** @type {number} */ number) => number * line};
   }
   const part = body().scrollTop / Math.max(1, pixels() - body().clientHeight);
   const first = Math.round(part * Math.max(0, all - high + 2));
-  return {first, high, top: (/** @type {number} */ number) => body().scrollTop + (number - first) * LINE};
+  return {first, high, top: (/** @type {number} */ number) => body().scrollTop + (number - first) * line};
 }
 
 // Only the lines that are seen are drawn.
@@ -154,9 +160,10 @@ function drawRows() {
   const spacer = byId('spacer');
   spacer.style.height = `${pixels()}px`;
   const {first, high, top} = visibleLines(), from = Math.max(0, first);
-  const lines = room.order.slice(from, first + high)
-                    .map((position, number) => drawLine(position, from + number, top(from + number)));
+  const drawn = room.order.slice(from, first + high);
+  const lines = drawn.map((position, number) => drawLine(position, from + number, top(from + number)));
   body().replaceChildren(spacer, ...lines);
+  if (showsTexts()) askForParts(drawn);
   if (!room.order.length) body().append(make('p', {className: 'none', style: {padding: '1em'}}, emptyWords()));
   const active = lines.some((line) => line.classList.contains('current'));
   if (active)
@@ -167,6 +174,9 @@ function drawRows() {
 
 // Why the list is empty.
 function emptyWords() {
+  const {hits, wrong} = room.texts;
+  if (wrong) return `${plainly(wrong)}.`;
+  if (hits && !hits.size) return noTextFound();
   if (room.rows.count) return 'No record passes the filters.';
   return room.listed ? 'The archive has no records.' : '';
 }
@@ -181,22 +191,33 @@ function drawLine(position, number, top) {
   const cell = (/** @type {string} */ name, /** @type {(Node|string)[]} */...children) =>
       make('span', {className: name, role: 'gridcell'}, ...children);
   const file = isOfFiles() ? plainly(room.parts[fileAt(row.offset)].name) : null;
+  const text = showsTexts() ? textCell(position) : null;
   const kind = plainly(row.kind), target = seen(row.target.subarray(0, MOST_OF_TARGET)) || '–';
   const properties = {
-    className: `line${current ? ' current' : ''}`,
+    className: `line${current ? ' current' : ''}${text ? ' with-text' : ''}`,
     role: 'row',
     id: current ? 'current-line' : '',
     'aria-rowindex': String(number + 2),
     'aria-selected': String(current),
-    style: {top: `${top}px`, '--tone': tone(row.kind)},
-    on: {click: () => openRecord(position)},
+    style: {top: `${top}px`, '--tone': tone(row.kind), ...(text ? {height: `${lineHeight()}px`} : {})},
+    on: {click: () => openLine(position)},
   };
   return make(
       'div', properties, cell('position', String(position)),
       cell('kind', make('i', {'aria-hidden': 'true', title: kind}), make('span', {}, kind)),
       cell('date', plainly(row.date)), cell('target', make('bdi', {}, target)), cell('size', size(row.blockLength)),
       cell(`verdict ${row.verdict}`, make('span', {}, row.verdict), row.verdict === 'bad' ? ' ●' : ''),
-      file === null ? null : cell('file', make('bdi', {title: file}, file)));
+      file === null ? null : cell('file', make('bdi', {title: file}, file)), text);
+}
+
+/**
+ * Opens the record of a line; one whose text has the words, as a page.
+ * @param {number} position
+ * @param {{focus?: string}} how
+ */
+function openLine(position, how = {}) {
+  if (showsTexts()) room.tab = 'Page';
+  openRecord(position, how);
 }
 
 /** @param {number} number */
@@ -210,14 +231,14 @@ function moveToLine(number) {
 
 /** @param {number} place */
 function bringIntoView(place) {
-  const list = body(), high = list.clientHeight;
-  if (room.order.length * LINE > MOST_PIXELS) {
+  const list = body(), high = list.clientHeight, line = lineHeight();
+  if (room.order.length * line > MOST_PIXELS) {
     list.scrollTop = place / room.order.length * (pixels() - high);
     return;
   }
-  const top = place * LINE, under = top + LINE - (list.scrollTop + high), over = list.scrollTop - top;
+  const top = place * line, under = top + line - (list.scrollTop + high), over = list.scrollTop - top;
   if (under <= 0 && over <= 0) return;
-  if (Math.max(under, over) > LINE)
+  if (Math.max(under, over) > line)
     list.scrollTop = top - high / 4;  // a jump, and no step
   else
     list.scrollTop += under > 0 ? under : -over;
@@ -226,7 +247,8 @@ function bringIntoView(place) {
 /** @param {KeyboardEvent} event */
 function listKey(event) {
   if (event.target !== byId('list')) return;
-  const now = room.order?.indexOf(room.current) ?? -1, page = Math.max(1, Math.floor(body().clientHeight / LINE) - 1);
+  const now = room.order?.indexOf(room.current) ?? -1,
+        page = Math.max(1, Math.floor(body().clientHeight / lineHeight()) - 1);
   const moves = new Map([
     ['ArrowDown', now + 1],
     ['ArrowUp', Math.max(0, now - 1)],
@@ -239,7 +261,7 @@ function listKey(event) {
   if (!isOpening && !moves.has(event.key)) return;
   event.preventDefault();
   if (isOpening)
-    openRecord(room.current, {focus: WHOLE});
+    openLine(room.current, {focus: WHOLE});
   else
     moveToLine(moves.get(event.key));
 }

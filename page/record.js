@@ -435,7 +435,8 @@ function findingsOf(position) {
 /** @param {Subject} it */
 async function factsTab(it) {
   await judged(it.position);
-  const facts = [...rowFacts(it.row, fieldOf(it.own.fields, 'WARC-Block-Digest')), ...answerFacts(it.answer)];
+  const stated = fieldOf(it.own.fields, 'WARC-Block-Digest');
+  const facts = [...rowFacts(it.row, stated), ...answerFacts(it.answer), ...textFacts(it.position)];
   const source = 'These are the library’s answers, whose contracts are proved.';
   return [
     make(

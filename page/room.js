@@ -55,6 +55,7 @@ function emptyRoom(file, names) {
     capturesOver: 0,
     targets: null,
     ofWget: null,
+    texts: new TextSearch(),
     drawn: Infinity,
     began: performance.now(),
     listedIn: 0,
@@ -159,6 +160,7 @@ function openFiles(files) {
   Object.assign(room, emptyRoom(files[0], files.map((file) => file.name)), {sort: {by: 'position', up: true}});
   room.filters.clear();
   byId('words').value = '';
+  searchInTexts(false);
   byId('start').hidden = true;
   byId('room').hidden = false;
   byId('room').classList.remove('unreadable', 'of-files');
@@ -229,6 +231,7 @@ const REPORTS = {
     say(`${many(room.rows.count, 'record')} read in ${seconds(room.listedIn)}.${words}${tooLong}`);
     showProgress(looks ? -1 : null);
     soon();
+    searchInTexts(room.texts.isOn);
   },
 
   package({name, pages}) {

@@ -4,6 +4,7 @@ declare const MODULE: string;
 declare const WORKER: string;
 declare const VERSION: string;
 declare const NUMBERS: Record<string, [string, string, string]>;
+declare const ENTITIES: Record<string, string>;
 declare function createPurifier(window: object): { sanitize(node: Node, lists: object): Node; removed: object[] };
 
 interface TrustedPolicy {
@@ -91,6 +92,7 @@ interface Question {
   uri?: Uint8Array;
   date?: string;
   position?: number;
+  most?: number; // bytes: a longer body isn't wanted
 }
 
 interface Answer {
@@ -257,6 +259,7 @@ interface RoomOfFile {
   capturesOver: number;
   targets: string[] | null;
   ofWget: number | null;
+  texts: TextSearch;
   drawn: number;
   began: number;
   listedIn: number;
@@ -296,6 +299,29 @@ type PackedFile = { path: string; verdict: string };
 type PackedPage = { url: string; moment: string; title: string };
 type PackedPages = { list: PackedPage[]; others: number; isCut: boolean };
 type JudgeOfFile = (task: JudgeTask) => Promise<Uint8Array>;
+
+// A part of a page between two places. A title and a text. A word, and where it is. Words that follow each other, of
+// which the last may be a beginning; those that have to be there, and those that must not be. Where a term is, by its
+// number. A part of a text, how many terms are in it, and where.
+type PagePart = { kind: number; name: string; begin: number; end: number };
+type PageText = { title: string; text: string };
+type WordPlace = { word: string; begin: number; end: number };
+type Term = { words: string[]; isPrefix: boolean };
+type TextQuery = { wanted: Term[]; without: Term[] };
+type TermPlace = { number: number; begin: number; end: number };
+type Snippet = { count: number; text: string; marks: [number, number][] };
+// A capture whose text is read: its position, and where its head and its block are in the file. What became of it: it
+// has a text, or why it has none; or it gives the record at another position. What a helper reads: a body, or a coded
+// block with its HTTP head; and what it gives: a text with its words, or why there is none.
+type TextPlace = { position: number; offset: number; blockStart: number; blockLength: number };
+type TextOutcome = { position: number; why: string };
+type TextTask = { body: Uint8Array; type: string; http: ReadHttp | null };
+type ReadText = { made?: PageText; words?: string; none?: string };
+type FoundText = { position: number; title: string; snippet: string; marks: [number, number][] };
+// What the worker says of texts: what became of captures, which captures have the words, and whether no more is kept.
+type TextsRead = { outcomes: TextOutcome[]; hits: number[]; isFull: boolean };
+type TextsFound = { hits: number[]; missing: string[]; why: string };
+
 // What a module lists at the front of bytes.
 type Front = { records: number; texts: number; end: number; fault: string; rows: ArrayBuffer; words: ArrayBuffer };
 type JudgeTask = { file: Blob; ranges: ByteRange[]; rows: ArrayBuffer };

@@ -280,8 +280,10 @@ class Keeper extends Instance {
         return {...this.positions(numbers), reason: this.reasonText};
       else if (length > count)
         count = length;
-      else
-        return {...this.positions(numbers), ...this.facts(numbers), body: this.body(spans, length)};
+      else {
+        const facts = this.facts(numbers), isWanted = facts.length <= (question.most ?? Infinity);
+        return {...this.positions(numbers), ...facts, body: isWanted ? this.body(spans, length) : null};
+      }
     }
   }
 
@@ -541,6 +543,8 @@ class Archive {
     /** @type {Keeper|null} */
     this.keeper = null;  // the module that has the good records, if they are short enough
     this.judge = null;   // where this worker judges blocks itself
+    /** @type {Texts|null} */
+    this.texts = null;  // of its captures, once somebody looks for words
     this.helpers = this.newHelpers();
     this.records = 0;
     this.textBytes = 0;
@@ -582,6 +586,7 @@ class Archive {
   close() {
     this.state = 'over';
     this.helpers.stop();
+    this.texts?.close();
   }
 
   // Reports something of this file to the page.
@@ -924,12 +929,34 @@ class Desk {
       this.readHeads(message).catch(failed);
       return;
     }
+    if (message.texts) {
+      this.askTexts(message).catch(failed);
+      return;
+    }
     if (message.open) {
       this.archive?.close();
       this.archive = new Archive(this, message.open, message.number);
     }
     const {archive} = this;
-    this.queue = this.queue.then(() => this.respond(archive, message)).catch(failed);
+    this.inTurn(() => this.respond(archive, message)).catch(failed);
+  }
+
+  // Does something after all that was asked before.
+  /** @type {<T>(act: () => Promise<T>) => Promise<T>} */
+  inTurn(act) {
+    const turn = this.queue.then(act);
+    this.queue = turn.then(() => {}, () => {});
+    return turn;
+  }
+
+  // Answers what is asked of texts. Only what this asks the library waits for its turn.
+  /** @type {(message: {id: number, texts: any}) => Promise<void>} */
+  async askTexts({id, texts}) {
+    const {archive} = this;
+    if (!archive) throw new Error('no archive is open');
+    archive.texts ??= new Texts(this, archive);
+    const answer = await archive.texts.answerOf(texts);
+    postMessage({id, answers: [answer], openings: this.openings});
   }
 
   // Says what heads say: at once, also while an archive is being opened.
@@ -950,7 +977,7 @@ class Desk {
   }
 }
 
-// What a helper does: it lists bytes, judges blocks of a file, or looks for its findings or its pieces.
+// What a helper does: it lists bytes, judges blocks of a file, looks for its findings or its pieces, or reads a text.
 class HelperDesk {
   /** @param {WebAssembly.Module} module */
   constructor(module) {
@@ -965,7 +992,7 @@ class HelperDesk {
   }
 
   /** @type {(message: any) => Promise<void>} */
-  async respond({list, find, judge, seek}) {
+  async respond({list, find, judge, seek, extract}) {
     if (list) {
       if (this.lister.spent > SPENT / 2) this.lister = new Instance(this.module);
       const [at] = this.lister.put('bytes', list, PIECE), found = this.lister.front(at, list.length);
@@ -975,6 +1002,8 @@ class HelperDesk {
       postMessage({verdicts}, [verdicts.buffer]);
     } else if (seek)
       postMessage({pieces: piecesBetween(await filled(this.module, seek), seek.sides)});
+    else if (extract)
+      postMessage(await textOfBody(extract));
     else {
       const lines = (await filled(this.module, find)).findings(find.end, find.heap, find.records);
       postMessage({lines}, [lines.buffer]);

@@ -17,6 +17,7 @@ import hashlib
 import json
 import re
 import sys
+from html.entities import html5
 
 from proofs import Tree
 from shared import TOP, read, version
@@ -37,9 +38,12 @@ SCRIPTS = (
         "pageview.js",
         "overview.js",
     ),
-    *("list.js", "selection.js", "room.js", "damage.js", "package.js", "body.js", "record.js", "begin.js"),
+    *("list.js", "texts.js", "selection.js", "room.js", "damage.js", "package.js", "body.js", "record.js", "begin.js"),
 )
-WORKER_SCRIPTS = ("shared.js", "members.js", "search.js", "zip.js", "wacz.js", "unpack.js", "heads.js", "worker.js")
+WORKER_SCRIPTS = (
+    *("shared.js", "members.js", "search.js", "zip.js", "wacz.js", "unpack.js", "heads.js", "stored.js"),
+    *("text_scan.js", "text_words.js", "text_query.js", "text_reader.js", "worker.js"),
+)
 POLICY = (
     "default-src 'none'; script-src '{hash}' 'wasm-unsafe-eval'; worker-src blob:; style-src 'unsafe-inline'; "
     "img-src blob: data:; font-src blob: data:; form-action 'none'; base-uri 'none'; "
@@ -137,6 +141,11 @@ def numbers() -> dict[str, list[str]]:
     return {number: [part.replace("\\|", "|") for part in parts] for number, *parts in rows}
 
 
+def entities() -> str:
+    """The references to characters that HTML names, as Python's table has them."""
+    return f"const ENTITIES = {json.dumps(html5)};\n"
+
+
 def quoted(value: object) -> str:
     """A value as JavaScript that no tag of HTML ends."""
     return json.dumps(value).replace("</", "<\\/").replace("<!--", "<\\!--")
@@ -147,7 +156,7 @@ def page(module: bytes) -> str:
     zlib = inflater()
     names = {
         "MODULE": quoted(base64.b64encode(module).decode()),
-        "WORKER": quoted(f"'use strict';\n{zlib}{joined(WORKER_SCRIPTS)}"),
+        "WORKER": quoted(f"'use strict';\n{zlib}{entities()}{joined(WORKER_SCRIPTS)}"),
         "VERSION": quoted(version()),
         "NUMBERS": quoted(numbers()),
     }

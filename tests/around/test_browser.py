@@ -8,6 +8,7 @@ from typing import Iterator, Tuple
 import pytest
 import test_page
 import test_served
+import texts
 from collection_trial import Trial
 from finding import finding
 from listener import Listener
@@ -16,7 +17,7 @@ from .conftest import built, needs
 
 PARTS = (
     *("building", "charsets", "codings", "damaged", "heads", "hostile", "unguarded", "keyboard", "saved", "long"),
-    *("missing", "selection", "faithful", "views", "styles", "wacz"),
+    *("missing", "selection", "faithful", "views", "styles", "texts", "wacz"),
 )
 Room = Tuple[test_served.Tests, Listener, Trial]
 
@@ -30,6 +31,15 @@ def test_part_of_the_page(part: str, warc: str, tmp_path: Path) -> None:
     needs("chromium", "wget")
     tests = test_page.Tests(built("zogwedu.html"), warc, "")
     test_page.try_parts(tests, [part], str(tmp_path))
+    assert tests.passed > 0 and tests.failed == 0
+
+
+@pytest.mark.xdist_group("served-page")
+def test_the_same_hits_as_the_collection(warc: str, tmp_path: Path) -> None:
+    needs("chromium", "parallel")
+    built("out/python/zogwedu/libwarc.so")
+    tests = test_page.Tests(built("zogwedu.html"), warc, "")
+    texts.same_hits(tests, str(tmp_path))
     assert tests.passed > 0 and tests.failed == 0
 
 

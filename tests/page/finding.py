@@ -10,21 +10,23 @@ HITS = "document.querySelectorAll('ol.hits > li').length"
 HOSTS = "document.querySelectorAll('table.hosts tbody tr').length"
 # The texts whose contrast with what is behind them is less than 4.5.
 FAINT = """(() => {
+  const parts = (color) => {
+    const numbers = color.match(/[\\d.]+/g).map(Number), most = color.startsWith('rgb') ? 255 : 1;
+    return [...numbers.slice(0, 3).map((it) => it / most), numbers[3] ?? 1];
+  };
   const light = (color) => {
-    const [r, g, b] = color.match(/[\\d.]+/g).slice(0, 3).map((it) => it / 255)
-        .map((it) => it <= 0.03928 ? it / 12.92 : ((it + 0.055) / 1.055) ** 2.4);
+    const [r, g, b] = color.map((it) => it <= 0.03928 ? it / 12.92 : ((it + 0.055) / 1.055) ** 2.4);
     return 0.2126 * r + 0.7152 * g + 0.0722 * b;
   };
   const back = (node) => {
-    for (let at = node; at; at = at.parentElement) {
-      const color = getComputedStyle(at).backgroundColor;
-      if (!/, 0\\)$|transparent/.test(color)) return color;
-    }
-    return 'rgb(255, 255, 255)';
+    if (!node) return [1, 1, 1];
+    const [r, g, b, part] = parts(getComputedStyle(node).backgroundColor);
+    const behind = part < 1 ? back(node.parentElement) : [0, 0, 0];
+    return [r, g, b].map((it, at) => part * it + (1 - part) * behind[at]);
   };
   const texts = document.createTreeWalker(document.body, NodeFilter.SHOW_TEXT), found = [];
   const isFaint = (color, node) => {
-    const pair = [light(color), light(back(node))].sort();
+    const pair = [light(parts(color)), light(back(node))].sort();
     return (pair[1] + 0.05) / (pair[0] + 0.05) < 4.5;
   };
   while (texts.nextNode()) {
@@ -58,7 +60,7 @@ def roles(tests: Any) -> list[tuple[str, str]]:
     return [(it.get("role", {}).get("value", ""), it.get("name", {}).get("value", "")) for it in heard]
 
 
-def screens(tests: Any, what: str, folder: str) -> None:
+def screens(tests: Any, what: str, folder: str, found: str = "record") -> None:
     """Nothing is beyond the edge, no text is faint, and each control has a name."""
     for width, height, scheme in SCREENS:
         metrics = {"width": width, "height": height, "deviceScaleFactor": 1, "mobile": False}
@@ -75,7 +77,7 @@ def screens(tests: Any, what: str, folder: str) -> None:
             tests.browser.picture(f"{folder}/{what.replace(' ', '-')}-{width}-{scheme}.png")
     tests.holds(not tests.browser.nameless(), f"{what}: controls without a name", tests.browser.nameless())
     tests.holds(set(read_out(tests)) <= SAID, f"{what}: what is read out", read_out(tests))
-    printed(tests, what, folder)
+    printed(tests, what, folder, found)
 
 
 def read_out(tests: Any) -> list[str]:
@@ -96,15 +98,15 @@ def media(tests: Any, name: str, scheme: str) -> None:
     tests.browser.ask("Emulation.setEmulatedMedia", {"media": name, "features": features})
 
 
-def printed(tests: Any, what: str, folder: str) -> None:
-    """What is found is on paper, without the forms and without a faint text."""
+def printed(tests: Any, what: str, folder: str, found: str) -> None:
+    """What is found, an element, is on paper, without the forms and without a faint text."""
     for scheme in PAPER:
         media(tests, "print", scheme)
         faint = tests.browser.run(FAINT)
         tests.holds(not faint, f"{what}, printed, {scheme}: faint texts", faint)
         paper = tests.browser.run("getComputedStyle(document.body).backgroundColor")
         tests.holds(paper == "rgb(255, 255, 255)", f"{what}, printed, {scheme}: the paper", paper)
-        is_there = "byId('record').checkVisibility() && !byId('ask').checkVisibility()"
+        is_there = f"byId('{found}').checkVisibility() && !byId('ask')?.checkVisibility()"
         tests.holds(tests.browser.run(is_there), f"{what}, printed: what is found, and no form")
         months = "[...document.querySelectorAll('table.calendar button')].every((it) => it.checkVisibility())"
         tests.holds(tests.browser.run(months), f"{what}, printed: the numbers of a calendar")

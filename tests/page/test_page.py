@@ -39,6 +39,7 @@ import robust
 import selection
 import stations
 import styles
+import texts
 import unguarded
 import wacz
 from browser import Browser
@@ -667,7 +668,7 @@ def compare_all(tests: Tests, folder: str, crawled: str) -> None:
 ALL = (
     *("building", "charsets", "codings", "compare", "compressed", "damaged", "heads", "hostile", "unguarded"),
     *("connections", "firefox", "burdens", "robust", "faithful", "views", "keyboard", "saved", "selection", "pieces"),
-    *("missing", "long", "many", "segments", "styles", "wacz", "unguarded-leaks"),
+    *("missing", "long", "many", "segments", "styles", "texts", "wacz", "unguarded-leaks"),
 )
 OVER_A_CRAWL = {"compare", "pieces", "views"}
 
@@ -694,6 +695,7 @@ def parts(tests: Tests, folder: str, crawled: str, where: str) -> dict[str, Call
         "views": lambda: views(tests, crawled, where),
         "keyboard": lambda: by_keyboard(tests, small),
         "styles": lambda: styles.styles(tests),
+        "texts": lambda: texts.texts(tests, folder),
         "saved": lambda: saved_bytes(tests, folder, small),
         "selection": lambda: selection.selection(tests, folder),
         "wacz": lambda: wacz.wacz(tests, folder),
