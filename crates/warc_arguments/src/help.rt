@@ -30,7 +30,7 @@ pub(crate) struct CommandEntry {
     pub(crate) flags: &'static [Word],
 }
 
-pub(crate) const VERSION: &str = "0.2.0";
+pub(crate) const VERSION: &str = "0.3.0";
 
 pub(crate) const NOTES: &str =
     "An archive is one file of uncompressed records, WARC/1.0 or WARC/1.1. The

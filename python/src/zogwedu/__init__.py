@@ -103,7 +103,7 @@ __all__ = [
     "pieces",
     "salvage",
 ]
-__version__ = "0.2.0"
+__version__ = "0.3.0"
 
 for _name in __all__:
     globals()[_name].__module__ = __name__  # so that help() and tracebacks name them as callers do

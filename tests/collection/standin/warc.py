@@ -131,7 +131,7 @@ def over_pieces(command: str, data: bytes) -> int:
 def main(words: List[str]) -> int:
     """Does a command. Returns the exit status."""
     if words == ["--version"]:
-        put(b"warc 0.2.0\n")
+        put(b"warc 0.3.0\n")
         return 0
     if words[0] == "write":
         date = words[4].encode()[:19].ljust(19, b"#").replace(b"#" * 15, b"-12-31T23:59:59").rstrip(b"#Z")
