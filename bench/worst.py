@@ -1,28 +1,24 @@
 #!/usr/bin/env python3
-"""What the worst known input costs for each command: seconds of processor, and bytes of memory, a megabyte of input.
+"""What the worst known input costs for each command, in seconds of processor a megabyte.
 
 Usage: worst.py PROGRAM FOLDER
 
 Hostile archives are made in FOLDER by tests/stress/floods.py, of 4 MB each: good ones of many small records, revisits
 that lead to one another, segments of one id, and bytes that are refused. Each command runs over each of them once, and
-over its half; the worst time a megabyte counts, and the most memory. Prints a table in Markdown, a line for each
-command, with how much longer the whole takes than the half.
+over its half; the worst time a megabyte counts. Prints a table in Markdown, a line for each command, with how much
+longer the whole takes than the half.
 """
 from __future__ import annotations
 
 import os
-import subprocess
 import sys
-import time
-from typing import NamedTuple
 
-from shared import made_on, put_table
+from shared import made_on, put_table, run
 
 sys.path.insert(0, os.path.join(os.path.dirname(os.path.dirname(os.path.abspath(__file__))), "tests", "stress"))
 import floods  # noqa: E402  # pylint: disable=wrong-import-position
 
 SIZE = 4 << 20
-MOST_SECONDS = 600
 URI = "http://a.example/"
 # The words of each command after its name; FILE is the archive, LIST a file with the position of its first record.
 COMMANDS = {
@@ -44,25 +40,9 @@ COMMANDS = {
 }
 
 
-class Cost(NamedTuple):
-    """What a run took: seconds of processor, and the most memory in bytes."""
-
-    seconds: float
-    memory: int
-
-
-def cost(words: list[str]) -> Cost:
-    """Runs a command, whatever its status is."""
-    with subprocess.Popen(words, stdout=subprocess.DEVNULL, stderr=subprocess.DEVNULL) as run:
-        end = time.monotonic() + MOST_SECONDS
-        while True:
-            found, _, usage = os.wait4(run.pid, os.WNOHANG)
-            if found:
-                run.returncode = 0
-                return Cost(usage.ru_utime + usage.ru_stime, usage.ru_maxrss * 1024)
-            if time.monotonic() > end:
-                run.kill()
-            time.sleep(0.005)
+def seconds(words: list[str]) -> float:
+    """The seconds of processor that a command takes, whatever its status is."""
+    return run(words, range(5)).processor
 
 
 def put_floods(folder: str) -> dict[str, tuple[str, str]]:
@@ -84,13 +64,11 @@ def row(program: str, command: str, made: dict[str, tuple[str, str]], chosen: st
         known = {"FILE": path, "LIST": chosen}
         return [program, *command.split(), *(known.get(word, word) for word in COMMANDS[command])]
 
-    costs = {name: (cost(words(half)), cost(words(whole))) for name, (half, whole) in made.items()}
-    worst = max(costs, key=lambda name: costs[name][1].seconds)
-    half, whole = costs[worst]
-    most = max(costs, key=lambda name: costs[name][1].memory)
-    megabytes, growth = SIZE / (1 << 20), whole.seconds / max(half.seconds, 0.001)
-    time_text = f"{whole.seconds / megabytes:.3f} s, {worst}, {growth:.1f} times its half"
-    return [f"`{command}`", time_text, f"{costs[most][1].memory / SIZE:.1f} bytes, {most}"]
+    taken = {name: (seconds(words(half)), seconds(words(whole))) for name, (half, whole) in made.items()}
+    worst = max(taken, key=lambda name: taken[name][1])
+    half, whole = taken[worst]
+    growth = whole / max(half, 0.001)
+    return [f"`{command}`", f"{whole * (1 << 20) / SIZE:.3f} s", worst, f"{growth:.1f}"]
 
 
 def main() -> None:
@@ -103,7 +81,7 @@ def main() -> None:
         out.write("0\n")
     print(f"{made_on(program)}\n")
     rows = [row(program, command, made, chosen) for command in COMMANDS]
-    put_table(["Command", "Time a megabyte of the worst flood", "Memory a byte"], rows)
+    put_table(["Command", "A megabyte takes", "Of this flood", "Times its half"], rows)
 
 
 if __name__ == "__main__":
