@@ -116,20 +116,6 @@ def copy_crate(folder: str, to: str, ending: str = "") -> None:
                     shutil.copyfile(f"{at}/{file}", f"{to}/{inside}/{name}")
 
 
-def drop_sources(folder: str) -> None:
-    """Removes a crate's folder, but for what was built of it."""
-    for name in os.listdir(folder):
-        if name == "out":
-            continue
-        path = f"{folder}/{name}"
-        if os.path.isdir(path):
-            shutil.rmtree(path)
-        else:
-            os.remove(path)
-    with contextlib.suppress(OSError):
-        os.rmdir(folder)
-
-
 class Tree:
     """A tree for one purpose, such as the program, in which one command at a time works."""
 
@@ -153,10 +139,9 @@ class Tree:
 
     def put(self, names: Sequence[str], kinds: dict[str, str] | None = None) -> None:
         """Has the tree hold these crates as they are in the checkout, and no others. A kind is what the tree's
-        crates.txt says of a crate after its name, if it isn't what the checkout's own says. What was built of others
-        stays."""
+        crates.txt says of a crate after its name, if it isn't what the checkout's own says."""
         for other in set(os.listdir(f"{self.top}/crates") if os.path.isdir(f"{self.top}/crates") else []) - {*names}:
-            drop_sources(self.folder(other))
+            shutil.rmtree(self.folder(other))
         fronts = {name: front for name, (front, _) in rows().items()}
         with open(f"{self.top}/crates.txt", "w", encoding="utf-8") as out:
             for name in names:
@@ -195,8 +180,9 @@ class Tree:
         return last
 
     def build_static(self, name: str, kind: str) -> str:
-        """Proves and builds a static library, over the crates below it; gives its folder. One that is built of the same
-        files already stays."""
+        """Proves and builds a static library, over the crates below it; gives the folder that has it in out/. One that
+        is built of the same files already stays: it is beside the crates, since `rt ci` removes what it doesn't know.
+        """
         lows = below(name, self.uses)[:-1]
         self.prove(lows)
         self.put([*lows, name], {name: kind})
@@ -204,19 +190,29 @@ class Tree:
         for low in lows:
             with open(f"{self.folder(low)}/out/rlib/stamp", "w", encoding="ascii") as out:
                 out.write(found[low].stamp())
-        mark, stamp = f"{self.folder(name)}/out/built", found[name].stamp()
-        if read_or_empty(mark) == stamp:
+        built, stamp = f"{self.top}/built/{name}", found[name].stamp()
+        if read_or_empty(f"{built}/stamp") == stamp:
             print(f"{name:15} kept", flush=True)
-            return self.folder(name)
+            return built
         begin = time.monotonic()
         with open(f"{self.top}/log-{name}", "w", encoding="utf-8") as log:
             run = subprocess.run(["rt", "lib"], cwd=self.folder(name), stdout=log, stderr=log, check=False)
         if run.returncode:
             sys.exit(f"{name} isn't built: see {self.top}/log-{name}")
         print(f"{name:15} {time.monotonic() - begin:5.0f} s", flush=True)
-        with open(mark, "w", encoding="ascii") as out:
-            out.write(stamp)
-        return self.folder(name)
+        keep_built(f"{self.folder(name)}/out", built, stamp)
+        return built
+
+
+def keep_built(out: str, to: str, stamp: str) -> None:
+    """Copies the files that were built, and says of which files they are. The stamp comes last."""
+    shutil.rmtree(to, ignore_errors=True)
+    os.makedirs(f"{to}/out")
+    for name in os.listdir(out):
+        if os.path.isfile(f"{out}/{name}"):
+            shutil.copy2(f"{out}/{name}", f"{to}/out/{name}")
+    with open(f"{to}/stamp", "w", encoding="ascii") as text:
+        text.write(stamp)
 
 
 def all_below(names: Iterable[str], uses: dict[str, list[str]]) -> list[str]:

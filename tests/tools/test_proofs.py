@@ -32,15 +32,18 @@ class Trees(unittest.TestCase):
         """The crates that have sources in the tree."""
         return sorted(path.parent.name for path in pathlib.Path(self.tree.top, "crates").glob("*/src"))
 
-    def test_what_is_built_of_another_crate_stays(self) -> None:
-        """A static library that is built isn't built anew: the crates below it are put there alone first."""
+    def test_what_is_built_is_kept_beside_the_crates(self) -> None:
+        """Its files, with a stamp that says of which sources they are; not those that the prover keeps in folders."""
         self.tree.put([LOW, STATIC])
-        mark = pathlib.Path(self.tree.folder(STATIC), "out", "built")
-        mark.parent.mkdir()
-        mark.write_text("stamp", encoding="ascii")
+        out = pathlib.Path(self.tree.folder(STATIC), "out")
+        (out / "rlib").mkdir(parents=True)
+        (out / "libwarc_c.a").write_bytes(b"built")
+        built = pathlib.Path(self.tree.top, "built", STATIC)
+        proofs.keep_built(str(out), str(built), "stamp")
         self.tree.put([LOW])
         self.assertEqual(self.crates(), [LOW])
-        self.assertEqual(mark.read_text(encoding="ascii"), "stamp")
+        self.assertEqual(sorted(path.name for path in (built / "out").iterdir()), ["libwarc_c.a"])
+        self.assertEqual((built / "stamp").read_text(encoding="ascii"), "stamp")
 
     def test_a_crate_that_is_no_more_goes(self) -> None:
         """Its sources would be read by the gate."""
