@@ -132,7 +132,7 @@ made_more records r plans i d lt so_far made_is =
     ∙ ap (λ (x : Result Record MakeFault). map made_of (take i plans) ++ x ∷ []) (sym made_is)
     ∙ sym (map_more made_of plans i d lt)
 
--- what a sink tells that told nothing before
+-- what a sink reports that reported nothing before
 pub reported_bytes : (new old text : List ℕ) → Some new ≡ append_known (Some old) text → old ≡ [] → new ≡ text
 reported_bytes new old text reported empty =
     let e : Some new ≡ Some text = reported ∙ ap (λ (l : List ℕ). Some (l ++ text)) empty in cc e

@@ -14,7 +14,7 @@ use Rattle.example_page.specs.Page.{IsPageOf}
 pub known_bytes : (one other : List ℕ) → Some one ≡ Some other → one ≡ other
 known_bytes one other same = cc same
 
--- a sink that was empty tells what went out
+-- a sink that was empty reports what went out
 sent : (new text : List ℕ) → Some new ≡ append_known (Some []) text → new ≡ text
 sent new text reported = cc reported
 

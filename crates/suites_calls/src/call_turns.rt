@@ -112,7 +112,7 @@ fn some_or_no(count: u64) -> &'static str {
     if count > 0 { "some" } else { "no" }
 }
 
-/// How many failures came while something was opened, and how many behind that.
+/// How many failures came while something was opened, and how many after that.
 #[derive(Clone, Copy)]
 struct Turns {
     opening: u64,

@@ -85,7 +85,7 @@ fn repeated(alloc: Global, bytes: &[u8], count: u64) -> Result<Vec<u8>, AllocErr
     Ok(text)
 }
 
-/// Adds them, of an archive that stands there as often as the second word of a case says.
+/// Adds them, of an archive that is there as often as the second word of a case says.
 pub(crate) fn add_fronts(
     alloc: Global,
     case: &Case<'_>,

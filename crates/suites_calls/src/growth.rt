@@ -1,4 +1,4 @@
-//! Growth in which each read or each request for memory fails in turn, and the same growth behind it, in which none
+//! Growth in which each read or each request for memory fails in turn, and the same growth after it, in which none
 //! does.
 
 use crate::sources::{broken, joined, source_of};

@@ -28,7 +28,7 @@ fn add_spans<A: Allocator>(
     Ok(())
 }
 
-/// Adds what is said of a body and where it lies, or why there is none.
+/// Adds what is said of a body and where it is, or why there is none.
 pub(crate) fn add_located<E: Display + Copy, A: Allocator>(
     alloc: Global,
     text: &mut Vec<u8>,

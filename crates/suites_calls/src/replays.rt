@@ -10,7 +10,7 @@ use warc_frame::{MemSink, MemSource, Sink, Source};
 use warc_value::{Moment, read_date};
 use warc_vectors::{Break, BrokenWriter};
 
-/// What stands in an output before a replay writes to it.
+/// What is in an output before a replay writes to it.
 const BEFORE: &[u8] = b"before ";
 
 /// A target and a moment.
@@ -47,7 +47,7 @@ fn add_asked<S: Source, W: Sink>(
     add_replay(alloc, answer, reported)
 }
 
-/// Adds the same with a line that says whether the archive lists the same before and behind it.
+/// Adds the same with a line that says whether the archive lists the same before and after it.
 fn add_between<S: Source, W: Sink>(
     alloc: Global,
     archive: &mut Archive<S>,
@@ -83,7 +83,7 @@ fn add_opened<S: Source + Drop, W: Sink>(
     }
 }
 
-/// Adds what a replay answers, and what is written behind a text.
+/// Adds what a replay answers, and what is written after a text.
 fn add_after_text<S: Source + Drop>(
     alloc: Global,
     source: S,

@@ -1,4 +1,4 @@
-//! Growth by each front of a record, and by the whole record behind each.
+//! Growth by each front of a record, and by the whole record after each.
 
 use crate::sources::{joined, longer, source_of};
 use crate::subjects::Subject;

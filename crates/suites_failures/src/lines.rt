@@ -3,7 +3,7 @@
 use crate::runs::Ended;
 use std::alloc::{AllocError, Global};
 
-/// Adds a number and a text behind it, as a line.
+/// Adds a number and a text after it, as a line.
 pub(crate) fn say_count(
     alloc: Global,
     count: u64,
@@ -14,7 +14,7 @@ pub(crate) fn say_count(
     answer.extend_from_slice(line.as_bytes())
 }
 
-/// Adds what a run wrote, or that it wrote its archive as it stands.
+/// Adds what a run wrote, or that it wrote its archive unchanged.
 fn say_output(out: &[u8], archive: &[u8], answer: &mut Vec<u8>) -> Result<(), AllocError> {
     if !out.is_empty() && out == archive {
         answer.extend_from_slice(b"as it stands\n")
@@ -23,7 +23,7 @@ fn say_output(out: &[u8], archive: &[u8], answer: &mut Vec<u8>) -> Result<(), Al
     }
 }
 
-/// Adds the line that a run told behind `! `, and its status behind `= `.
+/// Adds the line that a run reported after `! `, and its status after `= `.
 pub(crate) fn say_end(
     alloc: Global,
     ended: &Ended,
@@ -37,7 +37,7 @@ pub(crate) fn say_end(
     answer.extend_from_slice(status.as_bytes())
 }
 
-/// Adds what a run over an archive wrote, the line that it told, and its status.
+/// Adds what a run over an archive wrote, the line that it reported, and its status.
 pub(crate) fn say(
     alloc: Global,
     ended: &Ended,

@@ -61,7 +61,7 @@ fn count_refused(
     Ok(None)
 }
 
-/// Tells whether more than a given number of requests for memory are refused in turn.
+/// Says whether more than a given number of requests for memory are refused in turn.
 fn say_refused(
     alloc: Global,
     asked: Asked<'_>,

@@ -23,7 +23,7 @@ pub(crate) enum Stage {
     Otherwise,
 }
 
-/// Whether a run failed behind the opening: what went out is the front of the whole, and the line tells this, and how
+/// Whether a run failed after the opening: what went out is the front of the whole, and the line reports this, and how
 /// many bytes that has.
 fn is_cut(alloc: Global, ended: &Ended, whole: &Ended, reported: &str) -> Result<bool, AllocError> {
     let line = format!(in alloc; "warc: {reported} after {}\n", ended.out.len())?;
@@ -31,7 +31,7 @@ fn is_cut(alloc: Global, ended: &Ended, whole: &Ended, reported: &str) -> Result
     Ok(is_front && ended.err.as_slice() == line.as_bytes() && ended.status == 3)
 }
 
-/// Whether a run failed before anything went out, and tells a line that begins so.
+/// Whether a run failed before anything went out, and reports a line that begins so.
 fn is_begun(ended: &Ended, line: &[u8]) -> bool {
     ended.out.is_empty() && ended.err.starts_with(line) && ended.status == 3
 }
@@ -92,7 +92,7 @@ fn stage_at(
     stage_of(alloc, asked, &ended, whole, at.min(end))
 }
 
-/// How many reads fail in turn while the archive is opened, and how many behind that. Nothing where a run ends
+/// How many reads fail in turn while the archive is opened, and how many after that. Nothing where a run ends
 /// otherwise.
 fn count_reads(
     alloc: Global,
@@ -208,14 +208,14 @@ pub(crate) fn say_writes(
     }
 }
 
-/// Whether a run of which a request for memory was refused tells so, and what went out is the front of the whole.
+/// Whether a run of which a request for memory was refused reports so, and what went out is the front of the whole.
 fn is_refused(alloc: Global, ended: &Ended, whole: &Ended) -> Result<bool, AllocError> {
     let is_unmade = is_begun(ended, b"warc: M4 Memory\n");
     let is_unopened = is_begun(ended, b"warc: F14 Memory at ");
     Ok(is_unmade || is_unopened || is_cut(alloc, ended, whole, "out of memory")?)
 }
 
-/// Adds the line that a run told, where it isn't the last one.
+/// Adds the line that a run reported, where it isn't the last one.
 fn say_line(line: Vec<u8>, last: &mut Vec<u8>, answer: &mut Vec<u8>) -> Result<(), AllocError> {
     if line.as_slice() != last.as_slice() {
         answer.extend_from_slice(b"! ")?;
@@ -225,7 +225,7 @@ fn say_line(line: Vec<u8>, last: &mut Vec<u8>, answer: &mut Vec<u8>) -> Result<(
     Ok(())
 }
 
-/// Tells the line of the run of which the request for memory of a number is refused, and whether there was such a
+/// Reports the line of the run of which the request for memory of a number is refused, and whether there was such a
 /// request. Where there was none, it is the run after it that may meet it.
 fn say_request(
     alloc: Global,
@@ -255,8 +255,8 @@ fn say_request(
     Ok(has_refused)
 }
 
-/// Tells the lines of the runs of which each request for memory is refused in turn, until all are met: each line once,
-/// where several runs in a row tell it.
+/// Reports the lines of the runs in which each request for memory is refused in turn, until all are met: each line
+/// once, where several runs in a row report it.
 pub(crate) fn say_requests(
     alloc: Global,
     asked: Asked<'_>,
@@ -272,8 +272,8 @@ pub(crate) fn say_requests(
     answer.extend_from_slice(b"there are more requests\n")
 }
 
-/// Whether a run refuses the request for memory of a number, and tells a line that begins so; nothing where there is no
-/// such request.
+/// Whether a run refuses the request for memory of a number, and reports a line that begins so; nothing where there is
+/// no such request.
 fn reports_refusal(
     alloc: Global,
     asked: Asked<'_>,
@@ -300,7 +300,7 @@ fn count_refusals(alloc: Global, asked: Asked<'_>, line: &[u8]) -> Result<Option
     Ok(None)
 }
 
-/// Tells whether as many requests are refused at the first record as while the archive of that record alone is opened.
+/// Says whether as many requests are refused at the first record as while the archive of that record alone is opened.
 pub(crate) fn say_as_alone(
     alloc: Global,
     asked: Asked<'_>,

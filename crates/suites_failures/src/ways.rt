@@ -106,7 +106,7 @@ fn answer_run(
     }
 }
 
-/// Tells which runs end otherwise than with reads of all bytes: with shorter reads, or, where the command can, over
+/// Reports which runs end otherwise than with reads of all bytes: with shorter reads, or, where the command can, over
 /// bytes that come once, in order.
 fn say_others(alloc: Global, asked: Asked<'_>, answer: &mut Vec<u8>) -> Result<(), AllocError> {
     let whole = run_in_pieces(alloc, asked, usize::MAX)?;
@@ -136,7 +136,7 @@ fn ends_like(
     Ok(run_in_pieces(alloc, asked, most)?.is_like(other))
 }
 
-/// Tells a run of which a write breaks, and whether the run after it ends as if none had. Writes that fail are of so
+/// Reports a run of which a write breaks, and whether the run after it ends as if none had. Writes that fail are of so
 /// many bytes as the case says, and others of one byte.
 fn say_cut(
     alloc: Global,
@@ -158,7 +158,7 @@ fn say_cut(
     }
 }
 
-/// Tells a run over a source without an end, how often it was read, and where last.
+/// Reports a run over a source without an end, how often it was read, and where last.
 fn say_endless(alloc: Global, asked: Asked<'_>, answer: &mut Vec<u8>) -> Result<(), AllocError> {
     let (ended, (reads, last)) = run_endless(alloc, asked);
     say(alloc, &ended, b"", answer)?;

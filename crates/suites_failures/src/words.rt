@@ -1,4 +1,4 @@
-//! The words of a case, and the command line that they stand for.
+//! The words of a case, and the command line that they mean.
 
 use std::alloc::{AllocError, Global};
 use suites_script::Case;
@@ -15,7 +15,7 @@ const LIST: &str = "positions.txt";
 /// How options begin.
 const OPTION: &str = "--";
 
-/// The text that a word stands for: `""` is one of no bytes.
+/// The text that a word means: `""` is one of no bytes.
 fn text_of(word: &[u8]) -> &str {
     match word {
         b"\"\"" => "",

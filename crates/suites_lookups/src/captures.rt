@@ -233,7 +233,7 @@ fn refused_at(
     Ok(Refusal::of(is_right, is_refused))
 }
 
-/// Tells what comes of it where each request is refused in turn, if this was answered where none was.
+/// Reports what comes of it where each request is refused in turn, if this was answered where none was.
 fn refuse(
     alloc: Global,
     records: &Records,
@@ -251,7 +251,7 @@ fn refuse(
     refusals.say(alloc, case.number(1), answer)
 }
 
-/// Tells what an index answers, which is the same for one that is added to and one that is filled.
+/// Reports what an index answers, which is the same for one that is added to and one that is filled.
 fn say(
     alloc: Global,
     records: &Records,
@@ -269,7 +269,7 @@ fn say(
     Ok(added)
 }
 
-/// Tells what both do where requests are refused, if this was answered where none was.
+/// Reports what both do where requests are refused, if this was answered where none was.
 fn refuse_both(
     alloc: Global,
     records: &Records,
@@ -283,7 +283,7 @@ fn refuse_both(
     refuse(alloc, records, Making::Filled, case, wanted, answer)
 }
 
-/// Tells what both answer, and what they do where requests are refused.
+/// Reports what both answer, and what they do where requests are refused.
 fn say_refused(
     alloc: Global,
     records: &Records,

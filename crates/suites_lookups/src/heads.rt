@@ -73,7 +73,7 @@ fn link_text(alloc: Global, number: u64, named: u64) -> Result<String, AllocErro
     )
 }
 
-/// The head of the resource with a number behind a chain.
+/// The head of the resource with a number after a chain.
 fn end_text(alloc: Global, number: u64) -> Result<String, AllocError> {
     format!(in alloc;
         "WARC-Type: resource\r\n\

@@ -62,7 +62,7 @@ fn replay_to_writer(
     replay_joined(source, PATH, is_http_response(origin), places, writer)
 }
 
-/// Tells what a replay to a sink that holds other bytes answers, and what goes out behind them.
+/// Reports what a replay to a sink that holds other bytes answers, and what goes out after them.
 fn send(
     alloc: Global,
     source: &mut BrokenSource,
@@ -90,7 +90,7 @@ fn read_and_send(
     send(alloc, &mut source, origin, &places, blocks)
 }
 
-/// Tells what is answered where one write to a writer breaks, each being of one byte.
+/// Reports what is answered where one write to a writer breaks, each being of one byte.
 fn write_out(
     alloc: Global,
     origin: &Typed<'_>,
@@ -164,7 +164,7 @@ fn fail_each(
     answer.extend_from_slice(b"there are more of them\n")
 }
 
-/// Tells what is answered, which is the same with reads of 1 byte, of 7 bytes and of all.
+/// Reports what is answered, which is the same with reads of 1 byte, of 7 bytes and of all.
 fn replay_in_pieces(
     alloc: Global,
     origin: &Typed<'_>,
@@ -296,7 +296,7 @@ impl Replays {
     }
 }
 
-/// Tells the text of the fault that a case names.
+/// Reports the text of the fault that a case names.
 fn say_fault(alloc: Global, case: &Case<'_>, answer: &mut Vec<u8>) -> Result<(), AllocError> {
     match fault_of(case.text(1), case.optional_number(2)) {
         Some(fault) => answer.extend_from_slice(format!(in alloc; "{fault}\n")?.as_bytes()),

@@ -58,7 +58,7 @@ fn make(parts: &mut Parts<Heap<'_>>, willing: Heap<'_>, records: &Records) -> Op
     Some(is_refused)
 }
 
-/// Tells where a block begins, its length, and whether its digest can be checked and whether it is marked.
+/// Reports where a block begins, its length, and whether its digest can be checked and whether it is marked.
 fn say_place(alloc: Global, place: &Place, reported: &mut Vec<u8>) -> Result<(), AllocError> {
     let wanted = match place.wanted {
         Wanted::Unchecked => "",
@@ -70,7 +70,7 @@ fn say_place(alloc: Global, place: &Place, reported: &mut Vec<u8>) -> Result<(),
     reported.extend_from_slice(text.as_bytes())
 }
 
-/// Tells the places that are joined, or why none are.
+/// Reports the places that are joined, or why none are.
 fn say(
     alloc: Global,
     joined: &Result<Vec<Place, Heap<'_>>, JoinFault>,
@@ -119,7 +119,7 @@ fn named<'a>(records: &'a Records, case: &Case<'_>, index: usize) -> Option<&'a 
     records.head(records.number_of(case.word(index))?)
 }
 
-/// Tells what is joined to the record that a case names.
+/// Reports what is joined to the record that a case names.
 fn say_join<'a>(
     alloc: Global,
     parts: &Parts<Heap<'a>>,
@@ -134,7 +134,7 @@ fn say_join<'a>(
     }
 }
 
-/// Tells how many bytes of keys are kept.
+/// Reports how many bytes of keys are kept.
 fn say_bytes(
     alloc: Global,
     parts: &Parts<Heap<'_>>,
@@ -144,7 +144,7 @@ fn say_bytes(
     reported.extend_from_slice(text.as_bytes())
 }
 
-/// Tells what a case asks for, once what happens to the archive has happened. Whether an addition was refused; `None`
+/// Reports what a case asks for, once what happens to the archive has happened. Whether an addition was refused; `None`
 /// where that changed something.
 fn make_and_say<'a>(
     alloc: Global,
@@ -302,7 +302,7 @@ fn add_numbered(
     }
 }
 
-/// How many places at the front begin so, and each a thousand bytes behind the one before.
+/// How many places at the front begin so, and each a thousand bytes after the one before.
 fn following(places: &[Place], first: u64) -> u64 {
     let mut start = first;
     let mut count = 0u64;
@@ -316,7 +316,7 @@ fn following(places: &[Place], first: u64) -> u64 {
     count
 }
 
-/// Tells how many places are joined, and how many of them follow one another.
+/// Reports how many places are joined, and how many of them follow one another.
 fn say_following(
     alloc: Global,
     joined: &Result<Vec<Place, Heap<'_>>, JoinFault>,
@@ -332,7 +332,7 @@ fn say_following(
     }
 }
 
-/// Tells of a long series: the numbered segments have one head, and the first segment another.
+/// Reports a long series: the numbered segments have one head, and the first segment another.
 fn add_and_say<'a>(
     alloc: Global,
     parts: &mut Parts<Heap<'a>>,
@@ -384,7 +384,7 @@ fn gap_of(case: &Case<'_>) -> Option<Gap> {
     }
 }
 
-/// Tells a gap's text, and that of the fault of joining that it is; without a gap that of want of memory.
+/// Reports a gap's text, and that of the fault of joining that it is; without a gap that of want of memory.
 fn say_gap(alloc: Global, case: &Case<'_>, reported: &mut Vec<u8>) -> Result<(), AllocError> {
     let text = match gap_of(case) {
         Some(gap) => format!(in alloc; "{gap}\n{}\n", JoinFault::Gap(gap))?,
@@ -393,7 +393,7 @@ fn say_gap(alloc: Global, case: &Case<'_>, reported: &mut Vec<u8>) -> Result<(),
     reported.extend_from_slice(text.as_bytes())
 }
 
-/// Tells what is joined, and what comes of it where requests are refused.
+/// Reports what is joined, and what comes of it where requests are refused.
 fn say_refused(
     alloc: Global,
     records: &Records,
@@ -409,7 +409,7 @@ fn say_refused(
     }
 }
 
-/// Tells what a case asks for where no request is refused.
+/// Reports what a case asks for where no request is refused.
 fn say_plain(
     alloc: Global,
     records: &Records,

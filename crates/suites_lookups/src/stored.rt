@@ -37,7 +37,7 @@ pub(crate) fn stored(alloc: Global, blocks: &[Block]) -> Result<(Vec<u8>, Vec<Pl
     Ok((bytes, places))
 }
 
-/// Whether blocks, one behind another, begin with some bytes.
+/// Whether blocks, one after another, begin with some bytes.
 pub(crate) fn begin_with(blocks: &[Block], bytes: &[u8]) -> bool {
     let mut rest = bytes;
     for block in blocks {

@@ -7,7 +7,7 @@ use warc_frame::OutFault;
 use warc_index::Unfound;
 use warc_segment::Gap;
 
-/// Tells what is answered of a body that was given.
+/// Reports what is answered of a body that was given.
 fn say_answer(alloc: Global, answer: Answer, reported: &mut Vec<u8>) -> Result<(), AllocError> {
     let (chosen, given, length) = (answer.chosen, answer.given, answer.length);
     let status = match answer.status {
@@ -21,7 +21,7 @@ fn say_answer(alloc: Global, answer: Answer, reported: &mut Vec<u8>) -> Result<(
     reported.extend_from_slice(text.as_bytes())
 }
 
-/// Tells the bytes that went out. Of many, whether the blocks begin so.
+/// Reports the bytes that went out. Of many, whether the blocks begin so.
 fn say_body(
     alloc: Global,
     blocks: &[Block],
@@ -40,7 +40,7 @@ fn say_body(
     reported.extend_from_slice(text.as_bytes())
 }
 
-/// Tells what a replay answers, and what went out.
+/// Reports what a replay answers, and what went out.
 pub(crate) fn say(
     alloc: Global,
     blocks: &[Block],

@@ -113,7 +113,7 @@ impl<'a> Case<'a> {
         }
     }
 
-    /// The word at an index, whose escapes are the bytes that they stand for.
+    /// The word at an index, whose escapes are the bytes that they mean.
     pub fn bytes(&self, alloc: Global, index: usize) -> Result<Vec<u8>, AllocError> {
         let mut bytes = Vec::new(alloc);
         add_unescaped(&mut bytes, self.word(index))?;
@@ -180,7 +180,7 @@ impl<'a> Case<'a> {
     }
 }
 
-/// What stands in a text before the first of another one, and behind it. One of no bytes stands nowhere.
+/// What is in a text before the first of another one, and after it. One of no bytes is nowhere.
 fn around<'a>(text: &'a [u8], other: &[u8]) -> Option<(&'a [u8], &'a [u8])> {
     if other.is_empty() {
         return None;

@@ -2,7 +2,7 @@
 
 use std::alloc::{AllocError, Global};
 
-/// Adds a record of a chain to a text: in the pattern `#` stands for its number, `@` for the number before it, and `%`
+/// Adds a record of a chain to a text: in the pattern `#` means its number, `@` for the number before it, and `%`
 /// for the number after it.
 pub fn add_link(
     alloc: Global,

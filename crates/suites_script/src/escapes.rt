@@ -24,7 +24,7 @@ fn digit(byte: u8) -> u8 {
     }
 }
 
-/// The byte that a byte after a backslash stands for, unless it is `x`.
+/// The byte that a byte after a backslash means, unless it is `x`.
 fn named(byte: u8) -> u8 {
     match byte {
         b'n' => b'\n',
@@ -51,7 +51,7 @@ impl Escape {
     }
 }
 
-/// Adds a text whose escapes are the bytes that they stand for.
+/// Adds a text whose escapes are the bytes that they mean.
 pub fn add_unescaped(text: &mut Vec<u8>, raw: &[u8]) -> Result<(), AllocError> {
     let mut escape = Escape::Nothing;
     for byte in raw {

@@ -16,7 +16,7 @@
 //! A case fails that isn't answered as it wants. It also fails where a word that has to be a number is none, where
 //! nobody reads the text that is given, or where it has a word that nobody reads.
 //!
-//! In texts `\n`, `\r`, `\t` and `\x20` are the bytes that they are in Rust, and any other byte behind a `\` is itself.
+//! In texts `\n`, `\r`, `\t` and `\x20` are the bytes that they are in Rust, and any other byte after a `\` is itself.
 #![tactic(auto)]
 
 mod cases;

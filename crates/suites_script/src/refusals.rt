@@ -8,7 +8,7 @@ pub enum Refusal {
     /// It makes fewer requests, and all is right.
     Absent,
 
-    /// One was refused, which changed nothing, and all is right behind it.
+    /// One was refused, which changed nothing, and all is right after it.
     Harmless,
     Wrong,
 }

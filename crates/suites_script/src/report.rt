@@ -106,7 +106,7 @@ impl Report {
         Ok(())
     }
 
-    /// Counts a case, and tells of it where it isn't answered as it should be, or is wrong itself. One of which nothing
+    /// Counts a case, and reports it where it isn't answered as it should be, or is wrong itself. One of which nothing
     /// is wanted is a step.
     fn count(&mut self, case: &Case<'_>, answer: &[u8]) -> Result<(), AllocError> {
         if !case.wanted().is_empty() {
@@ -169,9 +169,9 @@ impl Report {
 /// What a line of a script is.
 enum Line<'a> {
     Nothing,
-    /// The name of the cases behind it.
+    /// The name of the cases after it.
     Name(&'a [u8]),
-    /// A part of the last case: its mark, and the text behind that.
+    /// A part of the last case: its mark, and the text after that.
     Part(u8, &'a [u8]),
     Words(&'a [u8]),
 }

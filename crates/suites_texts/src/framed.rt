@@ -16,7 +16,7 @@ mod written;
 use std::alloc::{AllocError, Global};
 use suites_script::Case;
 
-/// Adds what a case answers, and tells whether it is one of these. `kept` is the text that cases speak of
+/// Adds what a case answers, and says whether it is one of these. `kept` is the text that cases speak of
 /// which give none.
 pub(crate) fn answer(
     alloc: Global,

@@ -57,7 +57,7 @@ fn say_value_twice(alloc: Global, answer: &mut Vec<u8>, text: &[u8]) -> Result<(
     say_once(alloc, answer, second)
 }
 
-/// Whether two names are the same, told in both ways; `None` where one is no name, or they tell two things.
+/// Whether two names are the same, reported in both ways; `None` where one is no name, or the two ways differ.
 fn are_same(alloc: Global, one: &[u8], other: &[u8]) -> Option<bool> {
     match (Name::new(alloc, one), Name::new(alloc, other)) {
         (Ok(name), Ok(second)) => {
@@ -188,7 +188,7 @@ fn say_found_in(
     }
 }
 
-/// Adds the length of fields as they are written, and their text behind what stands there.
+/// Adds the length of fields as they are written, and their text after what is there.
 fn say_canonical(alloc: Global, answer: &mut Vec<u8>, fields: &Fields) -> Result<(), AllocError> {
     let len = canonical_len(fields).unwrap_or(0);
     say_line(alloc, answer, &len)?;
@@ -235,7 +235,7 @@ fn is_pushed<A: Allocator + Copy>(
     }
 }
 
-/// Pushes the fields, and again each that was refused. Tells whether one was, and `None` where it changed what was
+/// Pushes the fields, and again each that was refused. Says whether one was, and `None` where it changed what was
 /// pushed or was refused again.
 fn push_all<A: Allocator + Copy>(
     alloc: A,

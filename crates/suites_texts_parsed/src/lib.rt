@@ -17,7 +17,7 @@ use suites_script::Case;
 pub use text::{say, say_done, say_fields, say_line, say_outcome, say_parts, say_text, text_of};
 pub use written::{say_written, say_written_twice};
 
-/// Adds what a case answers, and tells whether it is a case of these crates. `kept` is the text that cases speak of
+/// Adds what a case answers, and says whether it is a case of these crates. `kept` is the text that cases speak of
 /// which give none.
 pub fn answer(
     alloc: Global,

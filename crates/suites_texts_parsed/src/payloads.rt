@@ -5,7 +5,7 @@ use std::alloc::{AllocError, Global};
 use suites_script::Case;
 use warc_payload::{MOST_HEAD_BYTES, body_start, front};
 
-/// Adds what the head at the front of a block tells.
+/// Adds what the head at the front of a block reports.
 fn say_http(alloc: Global, answer: &mut Vec<u8>, block: &[u8]) -> Result<(), AllocError> {
     match body_start(&block[..MOST_HEAD_BYTES.min(block.len())]) {
         Ok(head) => {

@@ -4,8 +4,8 @@ use std::alloc::{AllocError, Global};
 
 /// A call that asks for memory.
 pub trait Attempt {
-    /// Whether the request of a number, counted from 1, came and was refused; `None` where the call tells otherwise, or
-    /// leaves something else behind.
+    /// Whether the request of a number, counted from 1, came and was refused; `None` where the call reports something
+    /// else, or leaves something else.
     fn refused_at(&self, alloc: Global, number: u64) -> Option<bool>;
 }
 

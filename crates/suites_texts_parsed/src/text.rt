@@ -17,7 +17,7 @@ pub fn text_of<'a>(case: &'a Case<'_>, kept: &'a [u8]) -> &'a [u8] {
     }
 }
 
-/// Adds texts, one behind the other.
+/// Adds texts, one after the other.
 pub fn say_parts(answer: &mut Vec<u8>, parts: &[&[u8]]) -> Result<(), AllocError> {
     for part in parts {
         answer.extend_from_slice(part)?;

@@ -22,7 +22,7 @@ pub(crate) fn say_moment(
     }
 }
 
-/// How one date stands to another, where all comparisons agree.
+/// How one date compares with another, where all comparisons agree.
 fn order_of(one: &[u8], other: &[u8]) -> Option<Ordering> {
     let one = read_date(one)?;
     let other = read_date(other)?;
@@ -33,7 +33,7 @@ fn order_of(one: &[u8], other: &[u8]) -> Option<Ordering> {
     agree.then_some(order)
 }
 
-/// Adds how one date stands to another.
+/// Adds how one date compares with another.
 fn say_order(alloc: Global, case: &Case<'_>, answer: &mut Vec<u8>) -> Result<(), AllocError> {
     let reported = match order_of(case.word(1), case.word(2)) {
         Some(Ordering::Less) => "earlier",

@@ -1,4 +1,4 @@
-//! What is written behind what stands in a vector.
+//! What is written after what is in a vector.
 
 use std::alloc::{AllocError, Allocator, Global};
 use warc_field::{Fields, write_area};
@@ -7,7 +7,7 @@ use warc_vectors::RefusingAllocator;
 
 /// What can be written.
 pub trait Writable {
-    /// Writes it behind what stands in a vector.
+    /// Writes it after what is in a vector.
     fn write_after<A: Allocator>(&self, written: &mut Vec<u8, A>) -> Result<(), AllocError>;
 }
 
@@ -23,7 +23,7 @@ impl Writable for Framed {
     }
 }
 
-/// Adds what is written behind a text.
+/// Adds what is written after a text.
 pub fn say_written<T: Writable>(
     alloc: Global,
     answer: &mut Vec<u8>,
@@ -34,7 +34,7 @@ pub fn say_written<T: Writable>(
     answer.extend_from_slice(&written)
 }
 
-/// Adds whether it could not be written behind what stands in a vector, and what stands there then.
+/// Adds whether it could not be written after what is in a vector, and what is there then.
 fn say_written_into<T: Writable, A: Allocator>(
     answer: &mut Vec<u8>,
     it: &T,

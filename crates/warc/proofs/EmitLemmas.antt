@@ -1,4 +1,4 @@
--- Texts that are made from the bytes of a source and go to an output, one behind another.
+-- Texts that are made from the bytes of a source and go to an output, one after another.
 use Rattle.std.proofs.Common.{◌≡◌, ℕ, List, [], ◌++◌, Option, Some, Result, Ok, Err, append_assoc, refl, sym, ap, subst, ◌∙◌}
 use Rattle.std.proofs.lemmas.List.{append-nil}
 use Rattle.std.proofs.lemmas.Result.{IfErr-weaker, on_ok_weaker}

@@ -49,7 +49,7 @@ cut_by (outs.Read n) found text old new device is went = (text, is, went)
 cut_by (outs.Write n) found text old new device is went = (text, is, went)
 cut_by (outs.Memory n) found text old new device is went = absurd device
 
--- where a part of a row's record lies
+-- where a part of a row's record is
 part_there : (part : Part) (bytes : List ℕ) (p : Placed) → IsPlacedIn bytes p → take (part_len part (row_of p)) (drop (part_start part (row_of p)) bytes) ≡ part_text part bytes p
 part_there Head bytes p has = refl
 part_there Block bytes p has = has.block

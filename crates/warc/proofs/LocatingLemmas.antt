@@ -1,4 +1,4 @@
--- Where a body lies over the bytes of an archive, and what is read to find it.
+-- Where a body is over the bytes of an archive, and what is read to find it.
 use Rattle.std.proofs.Common.{◌≡◌, ℕ, List, None, Ok, Err, slice_get, refl, sym, ◌∙◌}
 use Rattle.warc_frame.specs.Seen.{SeenSource}
 use Rattle.warc_index.specs.Orders.{Indexes}

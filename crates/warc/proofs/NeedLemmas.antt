@@ -30,7 +30,7 @@ use Rattle.warc.proofs.PartLemmas.{given_at}
 
 -- ---- members of a series
 
--- a member is a continuation with a number of at least 2, and stands at its position
+-- a member is a continuation with a number of at least 2, and is at its position
 pub record IsMember (p : ℕ) (piece : Piece) (m : Member) : Type 0 where
   pub position : m.position ≡ p
   pub kind : is_continuation piece.kind ≡ true
@@ -70,7 +70,7 @@ from_piece all j piece at = by_found (slice_get all j) refl (sym (slice_get-map 
     by_found None is e = absurd (cc)
     by_found (Some r) is e = (r, is, cc)
 
--- at the position of a segment stands a continuation with a number of at least 2
+-- at the position of a segment is a continuation with a number of at least 2
 pub record IsContinuationAt (all : List ReadRecord) (q : ℕ) : Type 0 where
   pub it : ReadRecord
   pub is_present : slice_get all q ≡ Some it

@@ -20,7 +20,7 @@ use Rattle.warc_reading.specs.Row.{Placed, row_of}
 use Rattle.warc_reading.proofs.StreamLemmas.{spells_all}
 use Rattle.warc_checking.proofs.SizeLemmas.{area_short, check_short, digits, head_len, line_len, record_len, records_len}
 
--- a value is no longer than the fields that it stands in
+-- a value is no longer than the fields that it is in
 value_by : (b : Bool) (f : Pair) (rest : Option Pair) (n : ℕ) → length f.1 ≤ n → length (unwrap_or (option_map (λ (g : Pair). g.1) rest) []) ≤ n
     → length (unwrap_or (option_map (λ (g : Pair). g.1) (if b then Some f else rest)) []) ≤ n
 value_by true f rest n here later = here

@@ -43,7 +43,7 @@ use Rattle.warc_reading.proofs.RemainLemmas.{written}
 abbrev pub read_all : List Placed → List ReadRecord
 read_all records = map read_record (contents records)
 
--- the block of a record that stands in the bytes is at its place
+-- the block of a record that is in the bytes is at its place
 place_here : (bytes : List ℕ) (p : Placed) → IsPlacedIn bytes p → IsPlaceOf bytes (place_of p) (read_record p.content)
 place_here bytes p has = record { within = omega (arith, has.end, has.within); block = has.block; wanted = refl; truncated = refl }
 
@@ -209,7 +209,7 @@ in_all : (n q : ℕ) (places : List Place) → All (EndsBy n) places → IsInOne
 in_all n q places all (p, here, from, to) = omega (arith, to, All-contains (EndsBy n) places p all here)
 
 module _ (bytes : List ℕ) (records : List Placed) (position : ℕ) (p : Placed) (spelled : SpellsFrom 0 records bytes) (there : slice_get records position ≡ Some p) where
-  -- what is joined to a record lies among the bytes, whatever its head is read as
+  -- what is joined to a record is among the bytes, whatever its head is read as
   pub joined_end : (q : PlacedRecord) (items : List Place) → q.place.start ≡ p.block_start → q.place.len ≡ length p.content.block → joined_places (map placed_record records) q ≡ Ok items → All (EndsBy (length bytes)) items
   joined_end q items start len joined =
       let has = written bytes records spelled position p there in

@@ -35,7 +35,7 @@ first_by : (n p : ℕ) (ps : List ℕ) → n ≤ p → AscendFrom (p + 1) ps →
 first_by n p ps le ascend (inl lt) = inr (omega (arith, lt), ascend)
 first_by n p ps le ascend (inr ge) = let same : p ≡ n = omega (arith, le, ge) in inl (ps, ap (λ q. q ∷ ps) same)
 
--- a number is the first of positions from it on, or they are all behind it
+-- a number is the first of positions from it on, or they are all after it
 first_is : (n : ℕ) (ps : List ℕ) → AscendFrom n ps → ((more : List ℕ) × (ps ≡ n ∷ more)) ⊎ AscendFrom (n + 1) ps
 first_is n [] ascend = inr tt
 first_is n (p ∷ ps) (le, ascend) = first_by n p ps le ascend (cases_lt n p)

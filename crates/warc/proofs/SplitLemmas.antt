@@ -88,7 +88,7 @@ segment_copy {A} cut copy part digest at bytes text inside version_is fields_are
       is = text_is ∙ canonical_is (segment_of r cut.uuid cut.size at) ∙ same_text _ _ _ _ _ _ (sym is.version ∙ sym version_is) (sym fields) piece;
     }
 
--- ---- segments, one behind another
+-- ---- segments, one after another
 
 -- the first of them, and one more
 pub texts_more : (f : ℕ → Record) (n : ℕ)
@@ -205,7 +205,7 @@ segments_of_row {A} cut row head bad bytes text version fields start len by judg
       is.is ∙ ap canonical_texts records ∙ ap (λ n. canonical_texts (map (segment_of p.content cut.uuid cut.size) (range_with_len 0 (segment_count cut.size n)))) (sym len_is),
     )
 
--- the copy that is written of it where it stands whole
+-- the copy that is written of it where it is whole
 pub whole_of_row : {A : Type 0} (copy : Copied A) (size : ℕ) (row : Row) (head : Head A) (bad : Bool) (bytes text : List ℕ) → copy.version ≡ head.version
     → copy.fields ≡ head.fields → copy.block_start ≡ row.block_start → copy.block_len ≡ row.block_len → IsCutBy size row head bad None
     → IsJudgedFor size row head bytes bad → IsTextWith (split_text size) row head bytes text → IsCopy copy bytes text

@@ -1,4 +1,4 @@
--- A record that is read again is the one that stands there.
+-- A record that is read again is the one that is there.
 use Rattle.std.proofs.Common.{◌≡◌, ◌≢◌, ℕ, zero, suc, ◌+◌, ◌<◌, ◌≤◌, ◌^◌, inl, List, [], ◌∷◌, length, map, take, drop, Option, Some, None, Result, Ok, Err, IfOk, IfErr, MatchResult, refl, sym, ap, subst, ◌∙◌, arith}
 use Rattle.std.specs.List.{slice_get}
 use Rattle.warc_frame.specs.Failing.{HasFailedBy, MayHaveFailedBy}
@@ -36,7 +36,7 @@ pub memory_reported : (kind : FaultKind) (offset : ℕ) (P : Type 0) → (P → 
 memory_reported NoMemory offset P never is = refl
 memory_reported kind offset P never is = absurd (never is)
 
--- where it stands, and that it ends before offset 2^64
+-- where it is, and that it ends before offset 2^64
 pub end_by_row : (bytes : List ℕ) (p : Placed) (row : Row) (has : IsPlacedIn bytes p) → row ≡ row_of p → row.offset + has.len ≡ row.block_start + row.block_len + 4
 end_by_row bytes p row has same = omega (arith, ap (λ (r : Row). r.offset) same, ap (λ (r : Row). r.block_start) same, ap (λ (r : Row). r.block_len) same, has.end)
 

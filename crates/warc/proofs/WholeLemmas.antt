@@ -97,7 +97,7 @@ output_texts law text_of rows seen {old} {new} {before} {after} {answer} same se
       fails = fails_more (λ bytes held it. (it.0, are bytes it.0 it.1)) sends.fails;
     }
 
--- ---- the texts of rows, one behind another
+-- ---- the texts of rows, one after another
 
 texts_parts_on : (text_of : Record → List ℕ) (bytes : List ℕ) (xs ys : List Row) (text : List ℕ) (records : List Placed) → AllByRecursion (HasWhole bytes) records
     → xs ++ ys ≡ map row_of records → text ≡ flat_map text_of (contents records) → InTurn (AreTextsOf text_of xs) (AreTextsOf text_of ys) bytes text

@@ -29,7 +29,7 @@ pub record ComesToSegment (all : List ReadRecord) (p q : ℕ) : Type 0 where
   pub way : ComesTo all p first
   pub segment : IsSegmentOf all first q
 
--- the record at p needs the one at q: it lies on the way, or is a segment of a record on the way
+-- the record at p needs the one at q: it is on the way, or is a segment of a record on the way
 abbrev pub Needs : List ReadRecord → ℕ → ℕ → Type 0
 Needs all p q = ComesTo all p q ⊎ ComesToSegment all p q
 

@@ -1,4 +1,4 @@
--- Where the body of a replay lies in the source, and what finding it reads. This project's own notion.
+-- Where the body of a replay is in the source, and what finding it reads. This project's own notion.
 use Rattle.std.specs.Prelude.{◌≡◌, ℕ, List, slice_get, None, Result, Ok, Err, IfErr}
 use Rattle.warc_value.specs.Dates.{Instant}
 use Rattle.warc_frame.specs.Effects.{FailsBy, Preserves, ReadsOnly}

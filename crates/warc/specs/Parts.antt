@@ -14,7 +14,7 @@ use Rattle.warc.specs.declared.fault.ExtractFault.TheVariants.{NoRecord, Out}
 use Rattle.warc.specs.declared.record.part.Part.{Part}
 use Rattle.warc.specs.declared.record.part.Part.TheVariants.{Head, Block}
 
--- a part of a record of an archive of these bytes: what lies from its first byte to its block, or its block
+-- a part of a record of an archive of these bytes: what is from its first byte to its block, or its block
 abbrev pub part_text : Part → List ℕ → Placed → List ℕ
 part_text Head bytes p = slice_range bytes p.offset p.block_start
 part_text Block bytes p = p.content.block

@@ -1,4 +1,4 @@
--- What stands and what is left out besides named records, by position. States of the code: no public clause cites them.
+-- What is and what is left out besides named records, by position. States of the code: no public clause cites them.
 use Rattle.std.specs.Prelude.{◌≡◌, ◌⊎◌, ◌↔◌, ℕ, ◌<◌, Bool, true, false, List, [], ◌∷◌, length, Contains, slice_get, slice_index_or, slice_set, Option, Some, Result, IfErr, OnOk}
 use Rattle.warc_frame.specs.Effects.{FailsBy}
 use Rattle.warc_frame.specs.Seen.{IfHeld, SeenSource}

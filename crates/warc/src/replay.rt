@@ -1,4 +1,4 @@
-//! What captures give: the way to an origin, its body, where it lies, and what is stored.
+//! What captures give: the way to an origin, its body, where it is, and what is stored.
 
 pub(crate) mod answer;
 pub(crate) mod body;

@@ -17,7 +17,7 @@ use Rattle.warc_answer.specs.declared.answer.Reason.{Reason}
 use Rattle.warc_answer.specs.declared.answer.Reason.TheVariants.{NotFound}
 use Rattle.warc_answer.proofs.PayloadLemmas.{payload_once, payload_some}
 
--- ---- the origin stands in the list
+-- ---- the origin is in the list
 
 pub below_is_present : {A : Type 0} (xs : List A) (p : ℕ) (x : A) → slice_get xs p ≡ Some x → p < length xs
 below_is_present [] p x e = absurd (cc)

@@ -22,7 +22,7 @@ use Rattle.warc_answer.proofs.StoredLemmas.{text_there}
 
 -- ---- one payload
 
--- all that is behind a head, as it is stored
+-- all that is after a head, as it is stored
 abbrev following : ResponseHead → List ℕ → Option StoredPayload
 following head rest = Some (record { coded = is_transfer_coded head; bytes = rest })
 

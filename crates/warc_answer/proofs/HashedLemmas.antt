@@ -37,7 +37,7 @@ front_taken text buf n within same =
     let less : n ≤ 65536 = omega (arith, length-take n buf, length-take 65536 text) in
     sym (take-take n n buf (omega arith)) ∙ ap (take n) same ∙ take-take n 65536 text less
 
--- the front behind a head, and what was read after the front, is all that is behind the head
+-- the front after a head, and what was read after the front, is all that is after the head
 pub after_head : (text buf : List ℕ) (n head_len : ℕ) → n ≤ length buf → take n buf ≡ front_of text → head_len ≤ n
     → take (n - head_len) (drop head_len buf) ++ drop n text ≡ drop head_len text
 after_head text buf n head_len within same less =

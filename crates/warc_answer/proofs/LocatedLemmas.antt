@@ -26,7 +26,7 @@ span_more bytes places spans s left gone at i d lie lt left_is gone_is at_is is 
     span_text bytes spans x
     ∙ (ap (λ l. l ++ span_bytes bytes x) is ∙ block_more bytes [] places s left gone at i d lie lt left_is gone_is at_is)
 
--- a span of a block lies within the bytes
+-- a span of a block is within the bytes
 pub within_more : (bytes : List ℕ) (places : List Place) (spans : List Span) (left gone at i : ℕ) (d : Place)
     → LieIn places bytes → i < length places → gone ≡ min left (get_or places i d).len
     → at ≡ (get_or places i d).start + gone → AreInside spans bytes

@@ -16,7 +16,7 @@ same_payload once block a b x y e f g h =
     let status : a.status ≡ b.status = e ∙ (ap Some same.0 ∙ sym f) in
     λ i. record { status = status i; bytes = same.1 i }
 
--- behind an HTTP head there is one thing
+-- after an HTTP head there is one thing
 head_once : AtMostOneBody → NoBodyWhereCoded → (block : List ℕ) (a b : Result Payload Reason) → IsAfterHead block a
     → IsAfterHead block b → a ≡ b
 head_once once coded block (Ok a) (Ok b) x y = ap Ok (same_payload once block a b x.0 y.0 x.1 y.1 x.2 y.2)

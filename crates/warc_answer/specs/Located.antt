@@ -1,4 +1,4 @@
--- Where a body lies in a source: the answer of a replay, without its bytes. This project's own notion.
+-- Where a body is in a source: the answer of a replay, without its bytes. This project's own notion.
 use Rattle.std.specs.Prelude.{ℕ, ◌+◌, ◌≤◌, List, length, take, drop, All, Option, Result, Ok, Err}
 use Rattle.std.specs.List.{flat_map}
 use Rattle.warc_frame.specs.Record.{Record}

@@ -1,4 +1,4 @@
-//! Where the body of an origin lies in a source, without reading the body.
+//! Where the body of an origin is in a source, without reading the body.
 ghost use Rattle.std.specs.Prelude.{◌≡◌, ℕ, List, length, drop, slice_get, Result, IfErr, IfOk};
 ghost use Rattle.warc_frame.specs.Effects.{FailsBy};
 ghost use Rattle.warc_frame.specs.Record.{Record};
@@ -27,7 +27,7 @@ pub struct Span {
     pub len: u64,
 }
 
-/// A body that lies in a source: its answer, and the spans whose bytes, one after another, it is.
+/// A body that is in a source: its answer, and the spans whose bytes, one after another, it is.
 #[derive(Drop)]
 pub struct Located<A: Allocator = Global> {
     answer: Answer,
@@ -88,7 +88,7 @@ fn cut_front<A: Allocator>(
     Ok(spans)
 }
 
-/// Where the payload of an origin lies, and what it is. `places` are the places of the joined blocks, as
+/// Where the payload of an origin is, and what it is. `places` are the places of the joined blocks, as
 /// `Parts::join` gives them; `http` says whether the origin is an HTTP response. Each byte of the joined blocks is read
 /// at most once, to judge their digests and to find the HTTP head. If the source changes later, the spans don't follow.
 ///

@@ -1,4 +1,4 @@
--- What `check` tells of no records, and of some.
+-- What `check` reports of no records, and of some.
 use Rattle.std.proofs.Common.{◌≡◌, ℕ, ◌+◌, ◌<◌, List, [], ◌∷◌, Result, length, codes, refl, sym, ap, subst, ◌∙◌, arith}
 use Rattle.std.specs.Fmt.{digits}
 use Rattle.std.proofs.lemmas.List.{append-nil, length-map}
@@ -49,7 +49,7 @@ module _ (bytes : List ℕ) (records : List Placed) (rows : List Row) (can : Are
   pub some_findings : 0 < length rows → findings_of_archive (contents records) ≡ findings_of_records (contents records)
   some_findings lt = findings_of_some records (omega (arith, as_many, lt))
 
--- the line that there is no record is what `check` tells of none
+-- the line that there is no record is what `check` reports of none
 pub puts_none : {old new : Seen} {waits waiting : Staged} {answer : Result ℕ OutFault} (bytes : List ℕ) (records : List Placed) (rows : List Row)
     → AreCheckable bytes records rows → length rows ≡ 0 → PutsLines (codes "- N12\n") 1 old new waits waiting answer
     → PutsCheck (contents records) old new waits waiting answer
@@ -58,7 +58,7 @@ puts_none {old} {new} {waits} {waiting} {answer} bytes records rows can none put
     let Q : List ℕ → Type 0 = λ text. P text (length (findings_of_archive (contents records))) in
     subst Q (sym (none_text bytes records rows can none)) (subst (P (codes "- N12\n")) (sym (none_number bytes records rows can none)) puts)
 
--- the lines of findings are what it tells of some
+-- the lines of findings are what it reports of some
 pub puts_some : {old new : Seen} {waits waiting : Staged} {answer : Result ℕ OutFault} (bytes : List ℕ) (records : List Placed) (rows : List Row)
     → AreCheckable bytes records rows → 0 < length rows → PutsFindingsOf (contents records) old new waits waiting answer
     → PutsCheck (contents records) old new waits waiting answer

@@ -1,4 +1,4 @@
--- The lines of findings, and what a record's row tells of it.
+-- The lines of findings, and what a record's row says about it.
 use Rattle.std.proofs.Common.{◌≡◌, ℕ, ◌++◌, List, [], ◌∷◌, map, codes, decimal, unwrap_or, append_assoc, sym, ap, ◌∙◌, refl, subst, Result}
 use Rattle.std.proofs.lemmas.Grind.{flat_map-append}
 use Rattle.std.proofs.lemmas.List.{append-nil, map-append}

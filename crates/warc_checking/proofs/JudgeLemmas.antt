@@ -25,7 +25,7 @@ use Rattle.warc_checking.proofs.OwnFindingLemmas.{own_more}
 abbrev pub head_there : (row : Row) (bytes : List ℕ) → HasTextOf row bytes → HasHeadOf row bytes
 head_there row bytes is = record { placed = is.placed; has = is.has; row_is = is.row_is }
 
--- the block lies among the bytes
+-- the block is among the bytes
 pub block_there : (row : Row) (bytes : List ℕ) (start len : ℕ) → start ≡ row.block_start → len ≡ row.block_len
     → HasTextOf row bytes → HasRange start len bytes
 block_there row bytes start len start_is len_is is =
@@ -56,7 +56,7 @@ reads_again row start len wanted {old} {mid} {new} start_is len_is order head bl
     (reads_judged wanted start len block) in
     reads_both (reads_head_of row head) (reads_block_of row row.block_len order here)
 
--- the findings of the first records are those of all where they are so many
+-- the findings of the first n records are the findings of all where there are n
 pub all_judged : (bytes : List ℕ) (records : List Placed) (rows : List Row) (n : ℕ) → AreCheckable bytes records rows
     → length rows ≤ n → map own_findings (contents (take n records)) ≡ map own_findings (contents records)
 all_judged bytes records rows n can past =

@@ -1,4 +1,4 @@
--- The next record of those whose findings are told.
+-- The next record of those whose findings are reported.
 use Rattle.std.proofs.Common.{◌≡◌, ℕ, ◌+◌, Bool, List, [], length, map, take, Some, if◌then◌else◌, unwrap_or, sym, ap, ◌∙◌}
 use Rattle.std.proofs.lemmas.Option.{slice_get-map}
 use Rattle.std.specs.List.{slice_get}

@@ -1,4 +1,4 @@
--- Findings in flat lists, and the lines of those that are told.
+-- Findings in flat lists, and the lines of those that are reported.
 use Rattle.std.proofs.Common.{◌≡◌, ℕ, zero, suc, ◌+◌, ◌-◌, ◌<◌, ◌≤◌, Bool, ◌&&◌, if◌then◌else◌, List, [], ◌∷◌, ◌++◌, Some, None, length, map, take, drop, set, slice_range, get_or, true, false, append_assoc, length-append, refl, sym, ap, subst, ◌∙◌, arith}
 use Rattle.std.proofs.Math.Seq.{drop-append_seam, take-length}
 use Rattle.std.proofs.lemmas.List.{append-nil, drop-append-le, drop-map, length-drop, length-take-le, map-append, map_more, take-append-drop, take-append-le, take-map, take_all}
@@ -25,7 +25,7 @@ slice_front a b xs more order le =
     ap (take (b - a)) (drop-append-le a xs more (omega (arith, order, le)))
     ∙ take-append-le (b - a) (drop a xs) more (omega (arith, length-drop a xs, order, le))
 
--- what stands behind a list
+-- what is after a list
 pub slice_after : {X : Type 0} (a b : ℕ) (xs ys : List X) → a ≡ length xs → b ≡ length (xs ++ ys) → slice_range (xs ++ ys) a b ≡ ys
 slice_after a b xs ys start end =
     ap (λ n. take (b - n) (drop n (xs ++ ys))) start ∙ ap (take (b - length xs)) (drop-append_seam xs ys)
@@ -298,7 +298,7 @@ module _ {X : Type 0} (seen : X → SeenFinding) (test : SeenFinding → Bool) w
       ∙ ap (λ l. output ++ l) (sym (text_append position so_far rest)
       ∙ ap (record_lines position) (sym (filter-append test (map seen (take i xs)) (map seen (drop i xs))) ∙ ap (filter test) (sym (map-append seen (take i xs) (drop i xs)) ∙ ap (map seen) (take-append-drop i xs))))
 
--- three texts of a record, one behind another
+-- three texts of a record, one after another
 pub two_texts : (position : ℕ) (a b : List SeenFinding) (output : List ℕ) → (output ++ record_lines position a) ++ record_lines position b ≡ output ++ record_lines position (a ++ b)
 two_texts position a b output = append_assoc output (record_lines position a) (record_lines position b) ∙ ap (λ l. output ++ l) (sym (text_append position a b))
 
@@ -321,7 +321,7 @@ pub once_line : (position : ℕ) (f : SeenFinding) (holds : Bool) → holds ≡ 
 once_line position f true is = sym (append-nil (line_text (about_record position f)))
 once_line position f false is = absurd (cc is)
 
--- a part that lies within, whatever the ends are called
+-- a part that is within, whatever the ends are called
 pub part_is : (count : ℕ) (ends slice : List ℕ) (p : FindingSpan) → slice ≡ ends → ((n : ℕ) → AreEnds n slice → IsPart n p) → AreEnds count ends → IsPart count p
 part_is count ends slice p same within all = let P : List ℕ → Type 0 = λ l. AreEnds count l in within count (subst P (sym same) all)
 

@@ -82,7 +82,7 @@ text_rest rs n output =
     append_assoc output (first_text n rs) (rest_text n rs)
     ∙ ap (λ l. output ++ l) (sym (ap (flat_map line_text) lines ∙ flat_map-append line_text (findings_of_first n rs) (flat_map f (enumerate_from (0 + length (take n rs)) (drop n rs)))))
 
--- the first records are all where they are so many
+-- the first n records are all of them where there are n
 pub first_all : (bytes : List ℕ) (records : List Placed) (rows : List Row) (n : ℕ) → AreCheckable bytes records rows → length rows ≤ n
     → findings_of_first n (contents records) ≡ findings_of_records (contents records)
 first_all bytes records rows n can past =

@@ -1,4 +1,4 @@
--- How ids are counted in buckets, and what an id that is alone in its bucket tells.
+-- How ids are counted in buckets, and what an id that is alone in its bucket means.
 use Rattle.std.proofs.Common.{◌≡◌, ◌⊎◌, inl, inr, ℕ, zero, suc, ◌+◌, ◌*◌, ◌/◌, ◌<◌, ◌≤◌, Bool, true, false, ◌||◌, List, [], ◌∷◌, ◌++◌, Option, Some, None, length, map, take, drop, refl, sym, ap, ◌∙◌, arith}
 use Rattle.std.proofs.Math.Nat.{mod-lt}
 use Rattle.std.proofs.Math.Seq.{take-append_seam}
@@ -98,7 +98,7 @@ placed_at [] j r is = absurd (cc is)
 placed_at (p ∷ ps) zero r is = (p, refl, cc is, refl)
 placed_at (p ∷ ps) (suc j) r is = placed_at ps j r is
 
--- an id that is alone in its bucket stands in no record before
+-- an id that is alone in its bucket is in no record before
 pub alone : (bytes : List ℕ) (records : List Placed) (rows : List Row) (i : ℕ) (row : Row) (ids : Ids) → GoodHeadsRead → AreCheckable bytes records rows
     → IsTally (length rows) rows ids.counts ids.buckets → slice_get rows i ≡ Some row → IsAlone (take i (contents records)) ids (id_key row.id)
 alone bytes records rows i row ids law can tally row_is = λ key key_is low.

@@ -31,7 +31,7 @@ pub read_all : (bytes items : List ℕ) (most : ℕ) → items ≡ take (length 
 read_all bytes items most is within end =
     is ∙ take_all (length items) bytes end ∙ sym (take_all most bytes (omega (arith, within, end)))
 
--- a read that gives nothing tells the end
+-- a read that gives nothing reports the end
 pub ended : (n at len room : ℕ) → (at < len → 0 < room → 0 < n) → n ≡ 0 → 0 < room → len ≤ at
 ended n at len room some none more = by_test (nat_lt at len) refl
   where

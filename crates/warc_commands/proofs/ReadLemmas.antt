@@ -162,7 +162,7 @@ four_times_at_most is = record { near = is.near; cost = λ bytes held. omega (ar
 near_then : (These : ℕ → Type 0) (old mid new : SeenSource) → mid.watches ≡ old.watches → AsksNear old mid → ((q : ℕ) → These q → q ≤ max_archive) → AsksOnly These mid new → AsksNear old new
 near_then These old mid new watched first inside then = λ off. then (λ q in_. ap (λ (w : ℕ → Bool). w q) watched ∙ off q (inside q in_)) ∙ first off
 
--- where the record of a row lies
+-- where the record of a row is
 record RowLies (bytes : List ℕ) (row : Row) : Type 0 where
   order : row.offset ≤ row.block_start
   end : row.block_start + row.block_len ≤ length bytes
@@ -273,7 +273,7 @@ module _ {X : Type 0} {Is : List ℕ → X → Type 0} {old mid last new : SeenS
             omega (arith, opens.cost bytes held, closed.heads.bound, ap (λ l. heads_len l) is.are.rows_are, heads_short 0 is.are.records bytes is.are.spelled, some.reads.bound, selection_short bytes rows some.positions is some.ascending);
       })
 
--- what a replay asks for lies in the archive
+-- what a replay asks for is in the archive
 inside_near : {S : Type 0} {old mid : SeenSource} {archive : Archived S} (last : SeenSource) → Opens IsIndexed old mid (Ok archive)
     → AsksInside archive.listing.rows archive.index archive.parts mid last → AsksNear old last
 inside_near {S} {old} {mid} {archive} last opens inside =

@@ -1,4 +1,4 @@
--- Which sizes a word tells, computed.
+-- Which sizes a word gives, computed.
 use Rattle.std.proofs.Common.{◌≡◌, ◌^◌, None, Some, codes, refl}
 use Rattle.warc_field.specs.Decimal.{decimal_of}
 use Rattle.warc_commands.specs.Program.{size_of}

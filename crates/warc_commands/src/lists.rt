@@ -66,7 +66,7 @@ pub(crate) fn put_in_order<A: Allocator>(positions: &mut Vec<usize, A>)
     positions.dedup();
 }
 
-/// The first of these positions at which there is no record, of so many.
+/// The first of these positions at which there is no record, if there are `count` records.
 pub(crate) fn first_absent(positions: &[usize], count: usize) -> Option<usize>
     ensures { result ≡ find (λ p. nat_le count p) positions.now }
 {

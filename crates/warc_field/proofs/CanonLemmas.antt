@@ -39,7 +39,7 @@ canonical_spells (f ∷ fs) h = (canonical_line f, canonical_fields fs, record {
 pub canonical_reads : (fields : List Pair) → AreFields fields → area_of (canonical_fields fields) ≡ Ok fields
 canonical_reads fields are = area-reads (canonical_fields fields) fields (canonical_spells fields are)
 
--- one turn over the fields: `item`, of this name and value, stands at place i
+-- one turn over the fields: `item`, of this name and value, is at place i
 module _ (fields items : List Pair) (same : items ≡ fields) (i : ℕ) (item : Pair) (name value : List ℕ) (within : i < length items) (is : item ≡ get_or items i item) (n : name ≡ item.0) (v : value ≡ item.1) where
   pub canonical_step : canonical_fields (drop i fields) ≡ canonical_line (name, value) ++ canonical_fields (drop (i + 1) fields)
   canonical_step =

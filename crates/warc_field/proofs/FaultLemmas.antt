@@ -91,7 +91,7 @@ empty_front : (front rest more : List ℕ) → more ≡ front ++ rest → length
 empty_front [] rest more e h = sym e
 empty_front (x ∷ xs) rest more e h = absurd (omega (arith, h))
 
--- a bad line behind a field's line
+-- a bad line after a field's line
 following : (field : Pair) (line more : List ℕ) (k : ℕ) → IsFieldLine field line → begins_blank more ≡ false → IsFirstBadLine more k → IsFirstBadLine (line ++ more) (length line + k)
 following field line more k is begins later = record {
   fields = field ∷ later.fields;

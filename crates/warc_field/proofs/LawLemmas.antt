@@ -94,7 +94,7 @@ unfolding is_name
 name-first [] more c n = absurd (false≢true n)
 name-first (b ∷ bs) more c n = no_cr b c (name_no_cr b (and_parts (is_name_byte b) _ (name_bytes (b ∷ bs) n)).0)
 
--- a field's line, the lines behind it and what follows them
+-- a field's line, the lines after it and what follows them
 regroup_more : (name rest left tail : List ℕ) → (name ++ (58 ∷ rest ++ 13 ∷ 10 ∷ left)) ++ tail ≡ name ++ (58 ∷ (rest ++ 13 ∷ 10 ∷ (left ++ tail)))
 regroup_more name rest left tail = append_assoc name (58 ∷ rest ++ 13 ∷ 10 ∷ left) tail ∙ ap (λ xs. name ++ xs) (append_assoc (58 ∷ rest) (13 ∷ 10 ∷ left) tail)
 
@@ -123,11 +123,11 @@ crlf_at-following xs ys k =
     let e : suc (length xs + k) ≡ length xs + suc k = omega arith in
     rw (get_or-following xs ys k, e, get_or-following xs ys (suc k))
 
--- a field's line, its CRLF and what follows it, behind a CRLF
+-- a field's line, its CRLF and what follows it, after a CRLF
 regroup_front : (name rest left tail : List ℕ) → 13 ∷ 10 ∷ (name ++ (58 ∷ (rest ++ 13 ∷ 10 ∷ (left ++ tail)))) ≡ (13 ∷ 10 ∷ (name ++ 58 ∷ rest)) ++ (13 ∷ 10 ∷ (left ++ tail))
 regroup_front name rest left tail = ap (λ xs. 13 ∷ 10 ∷ xs) (sym (append_assoc name (58 ∷ rest) (13 ∷ 10 ∷ (left ++ tail))))
 
--- behind a CRLF, an area that is spelled ends with one
+-- after a CRLF, an area that is spelled ends with one
 ends_crlf : (fields : List Pair) (area tail : List ℕ) → SpellsFields fields area → crlf_at (13 ∷ 10 ∷ (area ++ tail)) (length area) ≡ true
 ends_crlf [] area tail h = ap (λ a. crlf_at (13 ∷ 10 ∷ (a ++ tail)) (length a)) h
 ends_crlf (f ∷ fs) area tail (line, left, is, e, spells) =
@@ -138,7 +138,7 @@ ends_crlf (f ∷ fs) area tail (line, left, is, e, spells) =
     let size : length area ≡ length front + length left = omega (arith, ap length text, length-append f.0 (58 ∷ rest ++ 13 ∷ 10 ∷ left), length-append (58 ∷ rest) (13 ∷ 10 ∷ left), length-append f.0 (58 ∷ rest)) in
     ap (λ xs. crlf_at xs (length area)) whole ∙ ap (crlf_at (front ++ (13 ∷ 10 ∷ (left ++ tail)))) size ∙ crlf_at-following front (13 ∷ 10 ∷ (left ++ tail)) (length left) ∙ ends_crlf fs left tail spells
 
--- behind the version line's CRLF, the first empty line is that behind the area
+-- after the version line's CRLF, the first empty line is that after the area
 pub empty_line_ends_area : (fields : List Pair) (area more : List ℕ) → SpellsFields fields area → (empty_at (crlf ++ (area ++ (crlf ++ more))) (length area) ≡ true) × ((k : ℕ) → k < length area → empty_at (crlf ++ (area ++ (crlf ++ more))) k ≡ false)
 empty_line_ends_area fields area more spells =
     let second : crlf_at (13 ∷ 10 ∷ (area ++ 13 ∷ 10 ∷ more)) (suc (suc (length area))) ≡ true = ap (crlf_at (area ++ 13 ∷ 10 ∷ more)) (let e : length area ≡ length area + 0 = omega arith in e) ∙ crlf_at-following area (13 ∷ 10 ∷ more) 0 in

@@ -1,4 +1,4 @@
--- Parts, lines, and where a CRLF stands.
+-- Parts, lines, and where a CRLF is.
 use Rattle.std.proofs.Common.{◌≡◌, ℕ, zero, suc, ◌+◌, ◌-◌, ◌<◌, ◌≤◌, Bool, true, false, not, ◌&&◌, ◌==◌, List, [], ◌∷◌, ◌++◌, length, take, drop, get_or, append_assoc, refl, sym, ap, ◌∙◌, get_or-drop, length-drop, arith, inl, inr, ⊎_elim, ◌⊎◌}
 use Rattle.std.proofs.lemmas.List.{get_or_past}
 use Rattle.std.proofs.lemmas.Bool.{cases_lt, cases_eq, false≢true, eqb-true}
@@ -119,7 +119,7 @@ pub and_false_left : (v w : Bool) → v ≡ false → (v && w) ≡ false
 and_false_left true w h = cc
 and_false_left false w h = refl
 
--- a CRLF behind the first i bytes
+-- a CRLF after the first i bytes
 pub crlf_at-drop : (t : List ℕ) (i k : ℕ) → crlf_at (drop i t) k ≡ crlf_at t (i + k)
 crlf_at-drop t i k =
     let e : i + suc k ≡ suc (i + k) = omega arith in
@@ -152,7 +152,7 @@ module _ (t : List ℕ) (at : ℕ) where
   pub cr_there : (step : ℕ) → Passes (is_byte 13) (drop at t) step → get_or t (at + step) 0 ≡ 13
   cr_there step is = sym (get_or-drop at t step 0) ∙ eqb-true _ 13 is
 
-  -- one turn of a search that found CR with no LF behind it
+  -- one turn of a search that found CR with no LF after it
   module _ (from step : ℕ) (before : (k : ℕ) → from ≤ k → k < at → crlf_at t k ≡ false) (first : NoneBefore (Passes (is_byte 13) (drop at t)) 0 (length (drop at t)) step) where
     pub crlf-up_to : (k : ℕ) → from ≤ k → k < at + step → crlf_at t k ≡ false
     crlf-up_to k low high = ⊎_elim (before k low) (λ above. crlf-before step first k above high) (cases_lt k at)
@@ -242,14 +242,14 @@ unfolding first trim_first
 tail-blank [] p ps e h = cc
 tail-blank (q ∷ qs) p ps e h = ap (λ c. c ++ flat_map continued qs) (continued-blank q h)
 
--- behind a CRLF that no space or tab follows
+-- after a CRLF that no space or tab follows
 pub unfolded-other : (t part more : List ℕ) → parts t ≡ part ∷ parts more → begins_blank more ≡ false → unfolded t ≡ part ++ 13 ∷ 10 ∷ unfolded more
 unfolding unfolded
 unfolded-other t part more e h =
     let cut = parts-cons more in
     ap joined_parts e ∙ ap (λ xs. part ++ xs) (tail-other (parts more) cut.0 cut.1 cut.2 (begins_blank-first more ∙ h))
 
--- behind one that spaces or tabs follow
+-- after one that spaces or tabs follow
 pub unfolded-blank : (t part more : List ℕ) → parts t ≡ part ∷ parts more → begins_blank more ≡ true → unfolded t ≡ part ++ 32 ∷ unfolded (drop (prefix_len is_blank more) more)
 unfolding unfolded
 unfolded-blank t part more e h =

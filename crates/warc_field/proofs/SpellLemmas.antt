@@ -38,7 +38,7 @@ unfolding later
 later-in_front b [] = refl
 later-in_front b (p ∷ ps) = refl
 
--- each CRLF in the text has a space or tab behind it
+-- each CRLF in the text has a space or tab after it
 abbrev pub AllFold : List ℕ → Type 0
 AllFold t = list_all begins_blank (later (parts t)) ≡ true
 
@@ -56,7 +56,7 @@ unfolding later
 all-rest [] h = refl
 all-rest (p ∷ ps) h = (and_parts _ _ h).1
 
--- behind a CRLF in it stands a space or tab, and what follows it is such a text too
+-- after a CRLF in it is a space or tab, and what follows it is such a text too
 pub fold-here : (b c : ℕ) (bs : List ℕ) → AllFold (b ∷ c ∷ bs) → is_crlf b c ≡ true → begins_blank bs ≡ true
 unfolding later
 fold-here b c bs f cr =
@@ -85,7 +85,7 @@ lines-cut (b ∷ c ∷ bs) more f h =
     (true_or_false (is_crlf b c)) in
     lines-more b c (bs ++ 13 ∷ 10 ∷ more) inside ∙ ap (in_front b) (lines-cut (c ∷ bs) more (fold-rest b c bs f) h)
 
--- a byte that is no CR stands before the first line
+-- a byte that is no CR is before the first line
 pub lines-keep : (b : ℕ) (t : List ℕ) → (b ≡ 13 → ⊥) → lines (b ∷ t) ≡ in_front b (lines t)
 lines-keep b [] ne = lines-one b ∙ sym (ap (in_front b) lines-nil)
 lines-keep b (c ∷ bs) ne = lines-more b c bs (and_false_left _ _ (and_false_left _ _ (not_true _ (λ is. ne (eqb-true b 13 is)))))

@@ -1,4 +1,4 @@
--- Where the first CRLF CRLF of a text stands.
+-- Where the first CRLF CRLF of a text is.
 use Rattle.std.proofs.Common.{◌≡◌, ℕ, zero, suc, ◌+◌, ◌<◌, ◌≤◌, Bool, true, false, not, cond, ◌&&◌, ◌==◌, List, [], ◌∷◌, ◌++◌, Option, Some, None, length, drop, get_or, refl, sym, ap, subst, ◌∙◌, arith, inl, inr, ◌⊎◌, ⊎_elim}
 use Rattle.std.specs.Prelude.{option_map}
 use Rattle.std.specs.List.{list_all}
@@ -37,7 +37,7 @@ unfolding empty_line
 empty_line-none [] none = refl
 empty_line-none (b ∷ bs) none = rw (none 0, empty_line-none bs (λ k. none (suc k)))
 
--- a CRLF behind the first i bytes
+-- a CRLF after the first i bytes
 crlf_at-drop : (t : List ℕ) (i : ℕ) → crlf_at (drop i t) 0 ≡ crlf_at t i
 crlf_at-drop t i =
     let zeroth : i + 0 ≡ i = omega arith in

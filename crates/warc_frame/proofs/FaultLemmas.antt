@@ -16,7 +16,7 @@ use Rattle.warc_frame.proofs.ReadLemmas.{record-spelled, le_from}
 use Rattle.warc_frame.proofs.SpellLemmas.{record-read, ok_parts, nothing, spells_some}
 use Rattle.warc_frame.proofs.StableLemmas.{record-fault-stays, take-more}
 
--- a record that the text begins with, and what is behind it
+-- a record that the text begins with, and what is after it
 pub same_front : (judge : Judgement) (r s : Record) (f1 r1 f2 r2 : List ℕ) → Spells r f1 → Spells s f2 → judge r.fields ≡ None → judge s.fields ≡ None → f1 ++ r1 ≡ f2 ++ r2 → (r ≡ s) × (length f1 ≡ length f2) × (r1 ≡ r2)
 same_front judge r s f1 r1 f2 r2 a b ja jb e =
     let one = record-read judge r f1 r1 a ja in
@@ -140,7 +140,7 @@ reads_some judge q t = reads_with judge (length t) q t (omega arith)
 spelled_reads : (judge : Judgement) (q : ℕ) (rs : List Record) (t : List ℕ) → SpellsAll rs t → AllAccepted judge rs → ReadsAs judge q t rs None
 spelled_reads judge q rs t spelled accepted = record { front = t; rest = []; text = sym (append-nil t); spelled = spelled; accepted = accepted; fault_is = refl }
 
--- a text that ends by the limit lies within it
+-- a text that ends by the limit is within it
 within_all : (q : ℕ) (t : List ℕ) → q + length t ≤ max_archive → (within_limit q t ≡ t) × (goes_on q t ≡ false)
 unfolding within_limit goes_on
 within_all q t l = (take_all (max_archive - q) t (omega (arith, l)), false_from_ne_true _ (λ is. absurd (omega (arith, ltb-true _ _ is, l))))
@@ -186,7 +186,7 @@ within-more q t x h =
     let all : take (max_archive - q) t ≡ t = take_all (max_archive - q) t size in
     (all, (take (max_archive - q - length t) x, take-more (max_archive - q) t x ∙ ap (λ xs. xs ++ take (max_archive - q - length t) x) all))
 
--- the fault behind the records stays
+-- the fault after the records stays
 reads-stay : (judge : Judgement) (q : ℕ) (t x : List ℕ) (rs : List Record) (f : Fault) → ReadsAs judge q t rs (Some f) → (f.kind ≡ Truncated → ⊥) → ReadsAs judge q (t ++ x) rs (Some f)
 reads-stay judge q t x rs f h other =
     let has = h.fault_is in

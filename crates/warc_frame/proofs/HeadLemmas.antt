@@ -106,7 +106,7 @@ room_at t v n p h cr e inside = ⊎_elim
     (λ late. omega (arith, late, e))
     (cases_lt p 8)
 
--- a head holds its version line and the empty line behind it
+-- a head holds its version line and the empty line after it
 pub head_room : (t : List ℕ) (v : Version) (n : ℕ) → version_of t ≡ Some v → head_len t ≡ Some n → 12 ≤ n
 unfolding head_front
 head_room t v n h e =

@@ -42,7 +42,7 @@ unfolding judged
 accepted_head judge t (Ok head) ok = rw ok refl
 accepted_head judge t (Err f) ok = refl
 
--- a judgement that accepts the head told finds what framing finds
+-- a judgement that accepts the head reported finds what framing finds
 record_judged : (judge : Judgement) (t : List ℕ) → AcceptsOpen judge (unclosed_of t) → record_of judge t ≡ record_of any_fields t
 record_judged judge t ok =
     record_of-is judge t ∙ ap (λ r. r >>= after_head t) (head_judged judge t ∙ accepted_head judge t (head_of any_fields t) ok) ∙ sym (record_of-is any_fields t)
@@ -119,7 +119,7 @@ judged_fails judge head kind finds = rw finds refl
 some_head : (judge : Judgement) (t : List ℕ) (head : Head) → head_of judge t ≡ Ok head → t ≢ []
 some_head judge t head read none = let e : None ≡ Some head.len = sym empty_head ∙ sym (ap head_len none) ∙ (head_parts judge t head read).1 in absurd cc
 
--- the fault that the judgement finds in the head told last
+-- the fault that the judgement finds in the head reported last
 pub head_with_findings : (judge : Judgement) (at : ℕ) (text : List ℕ) (reported : Reported) (u : Unclosed) (kind : FaultKind) → IsExact text reported → reported.unclosed ≡ Some u → AllAccepted judge reported.records → judge u.fields ≡ Some kind → at + length text ≤ max_archive
     → (front rest : List ℕ) × (text ≡ front ++ rest) × SpellsAll reported.records front × IsFirstFault judge at text (fault kind (at + length front))
 head_with_findings judge at text reported u kind x held accepted finds low =

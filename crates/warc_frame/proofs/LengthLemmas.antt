@@ -9,7 +9,7 @@ use Rattle.warc_frame.specs.declared.version.Version.{Version}
 use Rattle.warc_frame.specs.Record.{canonical_len}
 use Rattle.warc_frame.proofs.CanonicalLemmas.{canonical_size}
 
--- a field's line is at most one byte longer when it is written canonically: by the space behind its colon
+-- a field's line is at most one byte longer when it is written canonically: by the space after its colon
 line_len : (f : Pair) (line : List ℕ) → IsFieldLine f line → length (canonical_line f) ≤ length line + 1
 line_len f line is =
     let rest = is.rest in

@@ -62,7 +62,7 @@ module _ (name : List ℕ) (xs : List Pair) (i : ℕ) (field : Pair) (inside : i
   found_second (Some value) so some here =
       omega (arith, count_same here, so.0, sum_by-take-le (λ (f : Pair). cond (same f.0 name) 1 0) xs (i + 1))
 
--- behind the last field
+-- after the last field
 pub found_end : (name : List ℕ) (fields : List Pair) (i : ℕ) (found : Option (Bor (List ℕ))) (result : Result (Bor (List ℕ)) FramedFault) → IsFound name (take i fields) found → length fields ≤ i → result ≡ ok_or found Missing → MatchResult result (λ value. (count_of name fields ≡ 1) × (first_value name fields ≡ Some value.now)) (λ fault. ((count_of name fields ≡ 0) × (fault ≡ Missing)) ⊎ ((2 ≤ count_of name fields) × (fault ≡ Repeated)))
 found_end name fields i None result so past e = rw e (inl (rw (take_all i fields past) at so, refl))
 found_end name fields i (Some value) result so past e = rw e (rw (take_all i fields past) at so)

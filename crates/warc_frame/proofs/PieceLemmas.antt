@@ -8,7 +8,7 @@ use Rattle.std.specs.List.{concat}
 abbrev pub ended : Bor (List ℕ) × ℕ → List ℕ
 ended c = c.0.now ++ c.1 ∷ []
 
--- one more piece, and the pieces behind it
+-- one more piece, and the pieces after it
 pub pieces_more : {X : Type 0} (text : X → List ℕ) (output : List ℕ) (pieces : List X) (i : ℕ) (d : X) → i < length pieces
     → (output ++ concat (map text (take i pieces))) ++ text (get_or pieces i d) ≡ output ++ concat (map text (take (i + 1) pieces))
 pieces_more text output pieces i d lt =

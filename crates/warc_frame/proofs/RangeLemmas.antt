@@ -43,7 +43,7 @@ asks_more These old mid new at len failed are watched read asks = λ off.
 pub filled_none : (at len : ℕ) (s : SeenSource) → ReadsOnly (IsInRange at len) 0 s s
 filled_none at len s = record { kept = refl; watched = refl; near = λ off. refl; bound = omega arith }
 
--- the bytes behind some of a range, up to its end, are of it
+-- the bytes after some of a range, up to its end, are of it
 in_rest : (at filled asked len q : ℕ) → filled + asked ≤ len → IsInRange (at + filled) asked q → IsInRange at len q
 in_rest at filled asked len q le in_ = (omega (arith, in_.0), omega (arith, in_.1, le))
 

@@ -19,7 +19,7 @@ use Rattle.warc_frame.proofs.CanonicalLemmas.{version_size, head_size}
 use Rattle.warc_frame.proofs.HeadLemmas.{begins-front, version-begins, head-place, head_room}
 use Rattle.warc_frame.proofs.RowLemmas.{bind_ok, ok_same, needs-ok, refuses-ok, accepts-ok, at_front-ok, fields_or_line-ok, not_false}
 
--- a head stands at the front of a text: each row lets it pass
+-- a head is at the front of a text: each row lets it pass
 pub record HasHead (judge : Judgement) (t : List ℕ) (head : Head) : Type 0 where
   pub version : version_of t ≡ Some head.version
   pub len : head_len t ≡ Some head.len

@@ -25,7 +25,7 @@ went_out_more start before now gone piece old n new reported number took short s
   number = capped-add old n (length gone) new number sum;
 }
 
--- a piece that went out behind what had gone, with nothing waiting
+-- a piece that went out after what had gone, with nothing waiting
 pub sent_is_staged : {X Y : Type 0} (answer : Result X Y) (start now : Option (List ℕ)) (output gone piece : List ℕ) (buffer : Staged) → output ≡ gone → buffer.bytes ≡ []
     → OnOk answer (now ≡ append_known start (gone ++ piece)) → OnOk answer (buffer.sent ≡ capped (length (gone ++ piece)))
     → OnOk answer (IsStaged start (output ++ piece) now buffer)

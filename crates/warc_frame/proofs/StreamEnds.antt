@@ -13,7 +13,7 @@ none_map : (o : Option ℕ) → option_map suc o ≡ None → o ≡ None
 none_map None h = refl
 none_map (Some q) h = absurd cc
 
--- past the end nothing stands
+-- past the end nothing is
 pub empty_at-past : (t : List ℕ) (k : ℕ) → length t < k + 4 → empty_at t k ≡ false
 empty_at-past t k h = false_from_ne_true _ (λ is.
     let both = and_parts _ _ is in
@@ -25,7 +25,7 @@ later : (b : ℕ) (bs : List ℕ) (k : ℕ) → empty_at (b ∷ bs) 0 ≡ false 
 later b bs zero here following = here
 later b bs (suc k) here following = following k
 
--- no CRLF CRLF stands anywhere in a text without an empty line
+-- no CRLF CRLF is anywhere in a text without an empty line
 pub empty_line-nowhere : (t : List ℕ) → empty_line t ≡ None → (k : ℕ) → empty_at t k ≡ false
 unfolding empty_line
 empty_line-nowhere [] h k = empty_at-past [] k (omega arith)
@@ -34,7 +34,7 @@ empty_line-nowhere (b ∷ bs) h k = ⊎_elim
     (λ is. let e : option_map suc (empty_line bs) ≡ None = rw is at h in later b bs k is (empty_line-nowhere bs (none_map (empty_line bs) e)))
     (true_or_false (empty_at (b ∷ bs) 0))
 
--- the same bytes stand in a text with more behind it
+-- the same bytes are in a text with more after it
 pub empty_at-front : (a b : List ℕ) (k : ℕ) → k + 4 ≤ length a → empty_at (a ++ b) k ≡ empty_at a k
 empty_at-front a b k h = rw (get_or_append_left a b 0 k (omega arith), get_or_append_left a b 0 (suc k) (omega arith), get_or_append_left a b 0 (suc (suc k)) (omega arith), get_or_append_left a b 0 (suc (suc (suc k))) (omega arith)) refl
 
@@ -82,7 +82,7 @@ below : (b : ℕ) (bs : List ℕ) (k q : ℕ) → empty_at (b ∷ bs) 0 ≡ fals
 below b bs zero q here lt following = here
 below b bs (suc k) q here lt following = following k (omega arith)
 
--- none stands before the first
+-- none is before the first
 pub empty_line-before : (t : List ℕ) (p : ℕ) → empty_line t ≡ Some p → (k : ℕ) → k < p → empty_at t k ≡ false
 unfolding empty_line
 empty_line-before [] p h k l = absurd cc
@@ -92,7 +92,7 @@ empty_line-before (b ∷ bs) p h k l = ⊎_elim
     below b bs k q.0 is (omega (arith, q.2)) (empty_line-before bs q.0 q.1))
     (true_or_false (empty_at (b ∷ bs) 0))
 
--- the place behind the kept bytes
+-- the place after the kept bytes
 after_kept : (kept piece : List ℕ) (k : ℕ) → length kept ≤ k → empty_at (kept ++ piece) k ≡ empty_at piece (k - length kept)
 after_kept kept piece k h = ap (empty_at (kept ++ piece)) (let e : k ≡ length kept + (k - length kept) = omega arith in e) ∙ empty_at-following kept piece (k - length kept)
 
@@ -100,7 +100,7 @@ before_piece : (kept piece : List ℕ) (i p k : ℕ) → NoneBefore (kept ++ pie
 before_piece kept piece i p k none l found room lt (inl early) = none k early
 before_piece kept piece i p k none l found room lt (inr late) = after_kept kept piece k (omega arith) ∙ empty_line-before piece p found (k - length kept) (omega arith)
 
--- none stands before the piece or across its border: the first in the piece is the first of all
+-- none is before the piece or across its border: the first in the piece is the first of all
 pub first_in_piece : (kept piece : List ℕ) (i p : ℕ) → NoneBefore (kept ++ piece) (length kept + i) → min (length piece) 3 ≤ i → empty_line piece ≡ Some p → p + 4 ≤ length piece → empty_line (kept ++ piece) ≡ Some (length kept + (p + 4) - 4)
 first_in_piece kept piece i p none l found room =
     let here : empty_at (kept ++ piece) (length kept + p) ≡ true = empty_at-following kept piece p ∙ empty_line-at piece p found in
@@ -115,6 +115,6 @@ nowhere_there kept piece i k none l found (inr late) (inr long) = after_kept kep
 pub none_in_piece : (kept piece : List ℕ) (i : ℕ) → NoneBefore (kept ++ piece) (length kept + i) → min (length piece) 3 ≤ i → empty_line piece ≡ None → empty_line (kept ++ piece) ≡ None
 none_in_piece kept piece i none l found = empty_line-none (kept ++ piece) (λ k. nowhere_there kept piece i k none l found (cases_lt (k + 3) (length kept + i)) (cases_lt (length piece) 3))
 
--- a CRLF CRLF that stands wholly in the front of a text is the first there too
+-- a CRLF CRLF that is wholly in the front of a text is the first there too
 pub empty_line-less : (a b : List ℕ) (p : ℕ) → empty_line (a ++ b) ≡ Some p → p + 4 ≤ length a → empty_line a ≡ Some p
 empty_line-less a b p h l = empty_line-first a p (sym (empty_at-front a b p l) ∙ empty_line-at (a ++ b) p h) (λ k lt. sym (empty_at-front a b k (omega arith)) ∙ empty_line-before (a ++ b) p h k lt)

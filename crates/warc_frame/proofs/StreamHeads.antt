@@ -1,4 +1,4 @@
--- What the head at the front of a text is, told from parts of the text.
+-- What the head at the front of a text is, read from parts of the text.
 use Rattle.std.proofs.Common.{◌≡◌, ◌≢◌, ℕ, zero, suc, min, ◌+◌, ◌-◌, ◌<◌, ◌≤◌, Bool, true, false, cond, ◌&&◌, nat_le, nat_lt, List, [], ◌∷◌, ◌++◌, Option, Some, None, Result, Ok, Err, length, length-append, length-drop, take, drop, refl, sym, ap, ◌∙◌, arith, ⊎_elim}
 use Rattle.std.specs.Prelude.{option_map, is_none, nat_eq}
 use Rattle.std.specs.List.{slice_range, starts_with}

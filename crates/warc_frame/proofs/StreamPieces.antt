@@ -86,7 +86,7 @@ wanted at text reported f w = record {
 pub refused_memory : (at : ℕ) (text : List ℕ) (reported : Reported) (f : Fault) → Refuses at text reported f → IsMemoryFault at text f
 refused_memory at text reported f r is = let P : FaultKind → Type 0 = λ k. RefusesAs k at text reported f in (reported.records, wanted at text reported f (subst P is r))
 
--- where the record begins that isn't ended, behind an event
+-- where the record begins that isn't ended, after an event
 starts : {A : Type 0} (at : ℕ) (taken piece : List ℕ) (reported : Reported) (new : State) (took start : ℕ) (event : Event A) → Takes at taken reported new piece took event → AreRecordsBefore at taken reported.records start
     → AreRecordsBefore at (taken ++ take took piece) (report reported piece event).records (start_on start new.position event)
 starts at taken piece reported new took start events.More t s = is_present_more at taken (take took piece) reported.records start s
@@ -97,7 +97,7 @@ starts at taken piece reported new took start events.End t s =
     let all : x.front ≡ taken ++ take took piece = sym (x.text_is ∙ ap (λ xs. x.front ++ xs) x.ends ∙ append-nil x.front) in
     record { front = x.front; rest = x.rest; text_is = x.text_is; spelled = x.spelled; offset_is = t.is_at.position_is ∙ ap (λ xs. at + length xs) (sym all) }
 
--- what is kept behind an event
+-- what is kept after an event
 pub keeps_on : {A : Type 0} (at : ℕ) (taken piece : List ℕ) (old new : Keeping) (d : State) (took : ℕ) (event : Event A) → Takes at taken old.reported d piece took event → AreRecordsBefore at taken old.reported.records old.start
     → new.reported ≡ report old.reported piece event → new.start ≡ start_on old.start d.position event → Keeps at (taken ++ take took piece) new d
 keeps_on at taken piece old new d took event t s reported start =
@@ -113,7 +113,7 @@ keeps_on at taken piece old new d took event t s reported start =
 pub cut_off : kinds.Truncated ≡ kinds.Memory → ⊥
 cut_off e = cc
 
--- the bytes of pieces, one behind the other
+-- the bytes of pieces, one after the other
 joined_append : {X : Type 0} (v : X → List ℕ) (xs ys : List X) → flat_map v (xs ++ ys) ≡ flat_map v xs ++ flat_map v ys
 joined_append v [] ys = refl
 joined_append v (x ∷ xs) ys = ap (λ r. v x ++ r) (joined_append v xs ys) ∙ sym (append_assoc (v x) (flat_map v xs) (flat_map v ys))

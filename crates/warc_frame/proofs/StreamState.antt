@@ -1,4 +1,4 @@
--- What was reported is what lies in the bytes taken.
+-- What was reported is what is in the bytes taken.
 use Rattle.std.proofs.Common.{◌≡◌, ℕ, zero, suc, ◌+◌, ◌-◌, ◌<◌, ◌≤◌, ◌^◌, true, false, List, [], ◌∷◌, ◌++◌, Option, Some, None, Ok, length, length-append, take, drop, refl, sym, ap, subst, ◌∙◌, arith}
 use Rattle.std.proofs.Math.Seq.{drop-append_seam, take-append_seam}
 use Rattle.std.proofs.lemmas.List.{append-nil, length-take-le, take_all, drop_all}
@@ -57,7 +57,7 @@ block_rest u (suc left) matched count fewer first =
       ap (take u.block_len) whole ∙ take_all u.block_len u.bytes (omega (arith, count)),
     )
 
--- what a text tells that is a head and a part of what follows it
+-- what a text reports that is a head and a part of what follows it
 pub unclosed_after : (u : Unclosed) (head y : List ℕ) → IsHeadOf u head → take u.block_len y ≡ u.bytes → unclosed_of (head ++ y) ≡ Some u
 unclosed_after u head y h e =
     ap (λ r. opened r (head ++ y)) (head_after u head y h)
@@ -79,7 +79,7 @@ cut_at rest o d phases.Head s = cut_in_head rest o d.kept s
 cut_at rest o d phases.Block s = cut_in_block rest o d.left d.matched s.1
 cut_at rest o d (phases.Failed f) s = absurd s
 
--- what was reported is what lies in the bytes taken
+-- what was reported is what is in the bytes taken
 pub lies_there : (at : ℕ) (taken : List ℕ) (reported : Reported) (d : State) → IsAt at taken reported d → Lies taken reported
 lies_there at taken reported d s =
     let cut = cut_at s.rest reported.unclosed d d.phase s.phase_is in

@@ -1,4 +1,4 @@
--- How what a decoder stands for goes on.
+-- How what a decoder represents changes.
 use Rattle.std.proofs.Common.{◌≡◌, ◌≢◌, ℕ, min, ◌+◌, ◌-◌, ◌<◌, ◌≤◌, ◌^◌, true, false, nat_lt, List, [], ◌++◌, length, take, drop, refl, sym, ap, ◌∙◌, subst, arith, length-append, Option, Some, None, Result, Ok, Err, MatchResult, IfOk, IsSome, ⊎_elim}
 use Rattle.std.specs.Prelude.{is_err, is_ok, if◌then◌else◌}
 use Rattle.std.specs.List.{slice_range}
@@ -178,7 +178,7 @@ end_text : (rest head bytes part : List ℕ) (m : ℕ) → rest ≡ head ++ (byt
 end_text rest head bytes part m e h same =
     ap (λ x. x ++ part) e ∙ append_assoc head (bytes ++ take m closing) part ∙ ap (λ x. head ++ x) (append_assoc bytes (take m closing) part ∙ ap (λ x. bytes ++ x) (more_matched m part h same))
 
--- the state behind more of what closes a record
+-- the state after more of what closes a record
 block_more : (rest : List ℕ) (o : Option Unclosed) (left m : ℕ) (part : List ℕ) → InBlock rest o left m → left ≡ 0 → part ≡ take (length part) (drop m closing) → m + length part < 4 → InBlock (rest ++ part) o left (m + length part)
 block_more rest o left m part st none same few = record {
   head = st.head;
@@ -321,7 +321,7 @@ phase_some rest o d phases.Block s some e =
     not_nil st.head (st.part.bytes ++ take d.matched closing) (length st.head) (head_room st.head st.part.version (length st.head) parts.0 parts.1) refl (sym st.rest_is ∙ e)
 phase_some rest o d (phases.Failed f) s some e = absurd s
 
--- a decoder in a head of which it keeps bytes, or behind one
+-- a decoder in a head of which it keeps bytes, or after one
 pub rest_some : (at : ℕ) (taken : List ℕ) (reported : Reported) (d : State) → (s : IsAt at taken reported d) → (d.phase ≡ phases.Head → d.kept ≢ []) → s.rest ≢ []
 rest_some at taken reported d s some = phase_some s.rest reported.unclosed d d.phase s.phase_is some
 
@@ -392,7 +392,7 @@ no_memory at taken reported d text near f s ph front is = record {
 some_same : (m n : ℕ) → Some m ≡ Some n → m ≡ n
 some_same m n e = cc
 
--- the fault of a head is that of the text at whose front it stands
+-- the fault of a head is that of the text at whose front it is
 head_failed : (at : ℕ) (taken text near end more : List ℕ) (reported : Reported) (d : State) (v : Version) (g f : Fault) → IsAt at taken reported d → d.phase ≡ phases.Head → within_limit at text ≡ taken ++ near → near ≡ end ++ more
     → version_of (d.kept ++ end) ≡ Some v → head_len (d.kept ++ end) ≡ Some (length (d.kept ++ end)) → head_of any_fields (d.kept ++ end) ≡ Err g → f ≡ following (d.position - length d.kept) g → Refutes at text reported f
 head_failed at taken text near end more reported d v g f s ph front split version len fails is =

@@ -1,4 +1,4 @@
--- The parts of a canonical text, one behind the other.
+-- The parts of a canonical text, one after the other.
 use Rattle.std.proofs.Common.{◌≡◌, ℕ, ◌+◌, List, [], ◌∷◌, ◌++◌, length, length-append, append_assoc, arith}
 use Rattle.warc_field.specs.Lines.{crlf}
 use Rattle.warc_field.specs.Area.{Pair, canonical_fields}

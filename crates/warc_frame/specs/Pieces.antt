@@ -14,7 +14,7 @@ abbrev pub ClosesFramed : Option Unclosed → Type 0
 ClosesFramed None = Unit {0}
 ClosesFramed (Some u) = IsFramed (record { version = u.version; fields = u.fields; block = u.bytes })
 
--- a part lies in the piece, and what an end closes can be framed
+-- a part is in the piece, and what an end closes can be framed
 abbrev pub MayKeep : {A : Type 0} → ℕ → Option Unclosed → Event A → Type 0
 MayKeep n unclosed events.More = Unit {0}
 MayKeep n unclosed (events.Head version fields number) = Unit {0}

@@ -1,4 +1,4 @@
--- What the steps of a reader of a stream reported, and what of it lies in the bytes. This project's own notion.
+-- What the steps of a reader of a stream reported, and what of it is in the bytes. This project's own notion.
 use Rattle.std.specs.Prelude.{◌≡◌, ◌≢◌, ℕ, ◌+◌, List, [], ◌∷◌, ◌++◌, length, take, drop, slice_range, Option, Some, None, IsSome, Result, Ok, Err}
 use Rattle.warc_field.specs.Area.{Pair}
 use Rattle.warc_frame.specs.declared.version.Version.{Version}
@@ -74,7 +74,7 @@ unclosed_of t = opened (head_of any_fields t) t
 abbrev pub IsCut : List ℕ → Type 0
 IsCut t = record_of any_fields t ≡ Err (fault Truncated (length t))
 
--- what was reported is exactly what lies in the text: its whole records, the head after them, the bytes of its block
+-- what was reported is exactly what is in the text: its whole records, the head after them, the bytes of its block
 pub record Lies (text : List ℕ) (reported : Reported) : Type 0 where
   pub front : List ℕ
   pub rest : List ℕ
@@ -117,7 +117,7 @@ IfReported (events.Part from to) P = P
 IfReported events.End P = P
 
 -- the frame fault of a text that begins at offset `at`, which stays whatever follows; what was reported is all that
--- lies before it: the records, and of what the fault is in, a head that is whole and can be framed and the bytes of its
+-- is before it: the records, and of what the fault is in, a head that is whole and can be framed and the bytes of its
 -- block
 pub record Refutes (at : ℕ) (text : List ℕ) (reported : Reported) (f : Fault) : Type 0 where
   pub found : Option Fault

@@ -101,7 +101,7 @@ impl<A: Allocator + Copy> Decoder<A> {
 
     /// The offset after the bytes taken.
     pub fn position(&self) -> u64
-        // What was reported is exactly what lies in the bytes taken.
+        // What was reported is exactly what is in the bytes taken.
         ensures history { (at : ℕ) (taken : List ℕ) (reported : Reported) → IsAt at taken reported self.now
             → (result ≡ at + length taken) × Lies taken reported }
         ensures value { result ≡ self.now.position }

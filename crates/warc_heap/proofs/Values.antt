@@ -1,4 +1,4 @@
--- The machine value of `Memory`: what its field owns tells it, and is made of nothing.
+-- The machine value of `Memory`: what its field owns determines it, and is made of nothing.
 use Rattle.std.proofs.Common.{◌≡◌, ℕ, zero, suc, List, [], ◌∷◌, ◌++◌, refl, ◌∙◌}
 use seplogic.Ra.Ura.{Ura}
 use mir.Val.{Val, vstruct, vcons, vnil, of_list}

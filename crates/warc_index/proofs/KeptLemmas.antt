@@ -584,7 +584,7 @@ before_first all key m e first itself j r at hit same h =
       from = itself;
     }))
 
--- a record with the id stands at the position
+-- a record with the id is at the position
 pub record HasIdAt (all : List Indexed) (key : List ℕ) (p : ℕ) : Type 0 where
   pub it : Indexed
   pub is_present : slice_get all p ≡ Some it

@@ -124,7 +124,7 @@ mark_itself : (a : Mark) → is_same_mark a a ≡ true
 mark_itself a = and_from (a.major == a.major) (a.minor == a.minor) (eq-eqb a.major a.major refl) (eq-eqb a.minor
     a.minor refl)
 
--- the capture that an entry of the target stands for
+-- the capture that an entry of the target means
 pub record IsCaptureAt (all : List Indexed) (uri : List ℕ) (e : Entry) : Type 0 where
   pub it : Indexed
   pub is_present : slice_get all e.position ≡ Some it
@@ -266,7 +266,7 @@ missed_pair all uri m timed missed =
       | inr no1 ↦ no1
     ])
 
--- behind the first of another mark, which isn't below this one, none has it
+-- after the first of another mark, which isn't below this one, none has it
 numbers_above : (m n p i j q : ℕ) → (nat_lt m i || (m == i && nat_lt n j)) ≡ false → ((m == i) && (n == j)) ≡ false →
     ((nat_lt i m || (i == m && nat_lt j n)) || (not (nat_lt m i || (m == i && nat_lt n j)) && nat_lt q p)) ≡ true
 numbers_above m n p i j q a b = grind (arith, nat_tests)

@@ -105,7 +105,7 @@ stays_below all p q lt e = referent_at-below all (slice_get all p) q (ok_from (i
 
 -- ---- as many steps as there are
 
--- a chain that has used up its steps has a walk of so many
+-- a chain that has used up its steps has a walk with that number of steps
 walks : (k : ℕ) (all : List Indexed) (p : ℕ) → origin_within k all p ≡ Err Loop → IsSome (walk (next_of all) p k)
 walks zero all p e = refl
 walks (suc k) all p e = by_case (λ q. walks k all q) (is_revisit_at all p) refl (referent_at all

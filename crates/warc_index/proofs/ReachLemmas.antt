@@ -177,7 +177,7 @@ ends_first all k m p is =
     at_once all m p (origin_within k all p) (next_none all p is) (no_revisit all k p is ∙ ap (settled p)
     (sym (step_ends all p is)))
 
--- a chain of so many steps, and a way of so many or more
+-- a chain of a number of steps, and a way of at least that number
 goes_as : (k m : ℕ) (all : List Indexed) (p : ℕ) → k ≤ m
     → IsSettled all (origin_within k all p) (place_after (next_of all) m p)
 goes_as zero m all p le = by_case (is_revisit_at all p) refl

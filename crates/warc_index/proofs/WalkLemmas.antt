@@ -69,13 +69,13 @@ ended next p k (suc m) le e = elim (cases_lt m k) [
   | inr early ↦ ap (option_and_then next) (ended next p k m early e)
 ]
 
--- where it stands is below n
+-- where it is is below n
 below : (next : ℕ → Option ℕ) (n p k q : ℕ) → p < n → StaysBelow n next → walk next p k ≡ Some q → q < n
 below next n p zero q h stays e = let z : p ≡ q = (cc) in omega arith
 below next n p (suc k) q h stays e =
     option_and_then_some next (walk next p k) q e (λ x was goes. stays x q (below next n p k x h stays was) goes)
 
--- before it ends it stands somewhere
+-- before it ends it is somewhere
 is_present : (next : ℕ → Option ℕ) (p k m : ℕ) → k ≤ m → IsSome (walk next p m)
     → walk next p k ≡ Some (unwrap_or (walk next p k) 0)
 is_present next p k m le on = by_case (walk next p k) refl
@@ -108,7 +108,7 @@ shifted : (next : ℕ → Option ℕ) (p i j d : ℕ) → walk next p i ≡ walk
 shifted next p i j zero e = rw (add-zero, add-zero) e
 shifted next p i j (suc d) e = simp add-suc (ap (option_and_then next) (shifted next p i j d e))
 
--- after any number of rounds the walk stands at that place
+-- after any number of rounds the walk is at that place
 rounds : (next : ℕ → Option ℕ) (p i d m : ℕ) → walk next p i ≡ walk next p (i + d)
     → walk next p i ≡ walk next p (i + m * d)
 rounds next p i d zero e = let z : i ≡ i + 0 * d = omega arith in ap (walk next p) z

@@ -116,7 +116,7 @@ own : origin_of three 1 ≡ Ok 1
 unfolding on_literals
 own = refl
 
--- by id in another case, though the record stands later and is later
+-- by id in another case, though the record is later and is later
 by_id : origin_of (revisit (codes "a") (codes "2020") (refers_to
     (codes "urn:UUID:00000000-0000-4000-8000-00000000000B") ∷ [])
     ∷ resource (codes "b") (codes "2021") [] ∷ []) 0 ≡ Ok 1

@@ -9,12 +9,12 @@ use Rattle.warc_index.specs.Referents.{next_of}
 abbrev pub onward : (ℕ → Option ℕ) → ℕ → ℕ
 onward next p = unwrap_or (next p) p
 
--- the place that the way from p has reached after so many steps, or at which it ended
+-- the place that the way from p has reached after n steps, or at which it ended
 abbrev pub place_after : (ℕ → Option ℕ) → ℕ → ℕ → ℕ
 place_after next zero p = p
 place_after next (suc steps) p = place_after next steps (onward next p)
 
--- the way from p reaches q in so many steps, or in more
+-- the way from p reaches q in n steps or more
 pub record Reaches (next : ℕ → Option ℕ) (least p q : ℕ) : Type 0 where
   pub steps : ℕ
   pub enough : least ≤ steps

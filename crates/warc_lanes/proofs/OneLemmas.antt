@@ -80,7 +80,7 @@ short_message hash buffer m used held short at =
     let none : length m / 64 * 64 ≡ 0 = omega arith in
     ap (λ (n : ℕ). take n buffer) at ∙ held.1 ∙ ap (λ (n : ℕ). drop n m) none
 
--- the padding tells the length modulo 2 ^ 64 alone
+-- the padding gives the length modulo 2 ^ 64 alone
 pub padding_of : (len n : ℕ) → len ≡ n % 2 ^ 64 → padding len ≡ padding n
 padding_of len n is =
     let used : len % 64 ≡ n % 64 = omega arith in

@@ -1,4 +1,4 @@
--- What is put of a body for callers in other languages: what is said of it, and where it lies. This project's own
+-- What is put of a body for callers in other languages: what is said of it, and where it is. This project's own
 -- notion.
 use Rattle.std.specs.Prelude.{◌≡◌, ℕ, List, length, map, unwrap_or, Option, Some, None, Result, Ok, Err}
 use Rattle.warc_value.specs.Dates.{Instant}
@@ -56,7 +56,7 @@ pub record IsBodyPut (body : Location) (number : ℕ) (answer : AnswerNumbers) (
   pub spans_are : HoldsFront (map span_numbers body.spans) spans
   pub number_is : number ≡ length body.spans
 
--- a body that lies so is put
+-- a body that is so is put
 pub record PutsBody (Lies : Location → Type 0) (number : ℕ) (answer : AnswerNumbers) (spans : List SpanNumbers)
     : Type 0 where
   pub body : Location

@@ -73,7 +73,7 @@ abbrev pub MakesLent : List ℕ → List ℕ → List ℕ → List ℕ → List 
     → ℕ → ℕ → Type 0
 MakesLent kind uri date uuid content_type block = MakesTo (planned (kind_named kind) uri date uuid content_type block)
 
--- the positions that are named, which are some of so many, in their order, each once
+-- the positions that are named, of those below a limit, in their order, each once
 pub record AreNamedPositions (count : ℕ) (named positions : List ℕ) : Type 0 where
   pub are : ArePositions count positions
   pub each : (p : ℕ) → Contains positions p ↔ Contains named p

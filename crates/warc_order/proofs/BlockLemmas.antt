@@ -41,7 +41,7 @@ start_of-within [] (suc b) = omega arith
 start_of-within (l ∷ ls) (suc b) =
     rw (length-append l (flattened (take b ls)), length-append l (flattened ls)) (omega (arith, start_of-within ls b))
 
--- ---- what stands at a place
+-- ---- what is at a place
 
 pub at_place : (ls : List (List Slot)) (b o : ℕ) (d : Slot) → b < length ls → o < length (get_or ls b []) →
     get_or (flattened ls) (start_of ls b + o) d ≡ get_or (get_or ls b []) o d
@@ -383,7 +383,7 @@ keep_more t ls bs i old new h n e f inv =
 
 -- ---- wide blocks that are cut
 
--- one more piece behind others
+-- one more piece after others
 pub pieces_more : (bs : List Held) (b : Held) (old ss : List Slot) (from to : ℕ) → from ≤ to → to ≤ length ss →
     b.list ≡ take (to - from) (drop from ss) → flattened (lists_of bs) ≡ old ++ take from ss →
     flattened (lists_of (bs ++ b ∷ [])) ≡ old ++ take to ss

@@ -1,4 +1,4 @@
--- Columns: the blanks at the front, and the values behind them.
+-- Columns: the blanks at the front, and the values after them.
 use Rattle.std.proofs.Common.{◌≡◌, ℕ, ◌+◌, ◌-◌, ◌<◌, ◌≤◌, List, [], ◌∷◌, ◌++◌, length, map, take, get_or, sym, ap, ◌∙◌, inl, inr, arith, min}
 use Rattle.std.specs.Prelude.{Option, Some, None, unwrap_or, IfSome, IfNone}
 use Rattle.std.specs.List.{range_with_len}
@@ -16,14 +16,14 @@ blank_at n s i e lt blank =
     get_or_append_left (map blank (range_with_len 0 s.blanks)) s.items (blank i) i (omega arith)
     ∙ get_or-map-range_with_len blank 0 s.blanks i i (blank i) (omega arith) (omega arith)
 
--- a value behind the blanks
+-- a value after the blanks
 item_at : {A : Type 0} (n : ℕ) (items : List A) (s : Sparse A) (i : ℕ) (blank : ℕ → A) → n ≡ s.blanks →
     items ≡ s.items → n ≤ i → get_or (values blank s) i (blank i) ≡ get_or items (i - n) (blank i)
 item_at n items s i blank e f le =
     rw (e, f) (get_or-append_right (map blank (range_with_len 0 s.blanks)) s.items s.blanks i (blank i)
     (length-map-range_with_len blank 0 s.blanks) (omega arith))
 
--- what is read behind the blanks
+-- what is read after the blanks
 pub some_at : {A : Type 0} (n : ℕ) (items : List A) (s : Sparse A) (i : ℕ) (r : Option A) → n ≡ s.blanks →
     items ≡ s.items → n ≤ i → ((d : A) → unwrap_or r d ≡ get_or items (i - n) d) → IfSome r (HoldsAt s i)
 some_at n items s i None e f le read = tt
@@ -47,7 +47,7 @@ one_more n [] value blank none is =
     ∙ (ap (λ v. map blank (range_with_len 0 n) ++ v ∷ []) (sym (is ∙ ap blank l))
     ∙ ap (λ us. us ++ value ∷ []) (sym (append-nil (map blank (range_with_len 0 n))))))
 
--- the first so many
+-- the first n
 pub first_of : {A : Type 0} (s : Sparse A) (count n kept : ℕ) (items : List A) (blank : ℕ → A) → n ≡ min s.blanks count →
     items ≡ take kept s.items → kept ≡ count - s.blanks →
     map blank (range_with_len 0 n) ++ items ≡ take count (values blank s)

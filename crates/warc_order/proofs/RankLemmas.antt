@@ -1,4 +1,4 @@
--- What stands where a test ends.
+-- What is where a test ends.
 use Rattle.std.proofs.Common.{◌≡◌, ℕ, zero, suc, ◌≤◌, Bool, true, false, cond, not, List, [], ◌∷◌, length, get_or, Option, Some, None, refl, sym, ap, subst, ◌∙◌, inl, inr, arith, true≢false, find, slice_get, insert, ◌⊎◌}
 use Rattle.std.proofs.lemmas.Bool.{cases_Bool, cases_lt}
 use Rattle.std.proofs.lemmas.Cmp.{upto, tied_itself}
@@ -14,7 +14,7 @@ use Rattle.std.specs.List.Sorted.{IsPartitionedBy, IsPartitionPoint, IsPermutati
 use Rattle.warc_order.specs.declared.slot.Slot.{Slot}
 use Rattle.warc_order.specs.Ranking.{placed, last_from, find_last, IsRanked, IsFirstOf, IsLastOf}
 
--- a test ends behind the first element, at what is left
+-- a test ends after the first element, at what is left
 abbrev pub EndsAt : (Slot → Bool) → List Slot → ℕ → Type 0
 EndsAt t xs c = IsPartitionPoint (λ p. t p ≡ true) (λ p. t p ≡ false) xs c
 
@@ -104,7 +104,7 @@ from_le Less e = refl
 from_le Equal e = refl
 from_le Greater e = absurd (true≢false (sym e))
 
--- the test of not coming behind ends for good too
+-- the test of not coming after ends for good too
 pub upto_ends : (compare : Slot → Slot → Ordering) (xs : List Slot) (q : Slot) → IsTotalOrder compare →
     IsRanked compare xs → IsPartitionedBy (λ p. is_le (compare p q)) xs
 upto_ends compare xs q total ranked i j d le lt hit = elim (cases_lt i j) [

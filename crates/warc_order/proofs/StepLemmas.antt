@@ -36,7 +36,7 @@ gt_not_lt Greater e = refl
 pub ranked_of_strict : (compare : Slot → Slot → Ordering) (xs : List Slot) → IsStrict compare xs → IsRanked compare xs
 ranked_of_strict compare xs strict i j d h k = lt_not_gt _ (strict i j d h k)
 
--- the test of not coming behind the p-th ends behind it
+-- the test of not coming after the p-th ends after it
 pub ends_after : (compare : Slot → Slot → Ordering) → IsTotalOrder compare → (xs : List Slot) (p : ℕ) (s : Slot) →
     IsStrict compare xs → p < length xs → ((d : Slot) → get_or xs p d ≡ s) →
     EndsAt (λ q. is_le (compare q s)) xs (p + 1)

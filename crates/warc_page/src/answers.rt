@@ -1,4 +1,4 @@
-//! What an open archive gives for the page's questions: where a body lies, or why there is none.
+//! What an open archive gives for the page's questions: where a body is, or why there is none.
 ghost use Rattle.std.specs.Prelude.{◌≡◌, List, None, true, map};
 ghost use Rattle.warc_value.specs.Dates.{instant_of};
 ghost use Rattle.warc_frame.specs.Seen.{IfHeld};

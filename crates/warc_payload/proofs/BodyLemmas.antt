@@ -1,4 +1,4 @@
--- What a block gives behind its HTTP head: a body, a coded one, or no head, and one of these alone.
+-- What a block gives after its HTTP head: a body, a coded one, or no head, and one of these alone.
 use Rattle.std.proofs.Common.{◌≡◌, ◌⊎◌, inl, inr, ℕ, ◌<◌, ◌≤◌, List, length, refl, subst, arith}
 use Rattle.std.proofs.lemmas.Bool.{cases_Bool, cases_lt}
 use Rattle.httparse.specs.Grammar.{ResponseHead, ReadsResponse, print_response, status_code}

@@ -10,12 +10,12 @@ pub no_bytes : (text : List ℕ) → length text ≡ 0 → text ≡ []
 no_bytes [] is = refl
 no_bytes (b ∷ bs) is = absurd (omega (arith, is))
 
--- a run lies in its text
+-- a run is in its text
 pub run_within : (at : ℕ) (text : List ℕ) (count len : ℕ) (found : Option Fault) → IsRun at text count len found → len ≤ length text
 run_within at text count len found run =
     omega (arith, run.len_is, ap length run.reads.text, length-append run.reads.front run.reads.rest)
 
--- a piece lies in its text
+-- a piece is in its text
 pub piece_within : (at : ℕ) (text : List ℕ) (piece : Piece) → IsPiece at text piece → piece_len piece ≤ length text
 piece_within at text (Records offset len count) (is, some, found, run) = run_within at text count len found run
 piece_within at text (Damage offset len fault) (is, damage) = damage.within

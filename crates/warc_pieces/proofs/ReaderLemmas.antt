@@ -1,4 +1,4 @@
--- What a reader of pieces has given, and where it stands.
+-- What a reader of pieces has given, and where it is.
 use Rattle.std.proofs.Common.{Bool, false, IfSome, min, ◌≡◌, ◌≢◌, ℕ, zero, suc, ⊎_elim, ◌+◌, ◌-◌, ◌*◌, ◌<◌, ◌≤◌, ◌⊎◌, inl, inr, List, [], ◌∷◌, ◌++◌, length, length-append, take, drop, Option, None, Some, Result, Ok, Err, refl, sym, ap, subst, ◌∙◌, arith}
 use Rattle.std.proofs.lemmas.List.{drop-drop, drop_all, length-drop, length-take, take_all}
 use Rattle.std.proofs.Math.Seq.{drop-append_seam}
@@ -121,7 +121,7 @@ run_to_damage bytes at count len f kinds.TooLong a b run = run
 run_to_damage bytes at count len f kinds.Read a b run = absurd (a refl)
 run_to_damage bytes at count len f kinds.Memory a b run = absurd (b refl)
 
--- a run lies in the bytes
+-- a run is in the bytes
 pub run_inside : (bytes : List ℕ) (at count len : ℕ) (found : Option Fault) → at ≤ length (near bytes)
     → IsRun at (drop at (near bytes)) count len found → at + len ≤ length (near bytes)
 run_inside bytes at count len found low run =
@@ -197,7 +197,7 @@ damage_piece bytes at next f low found is =
     let P : List ℕ → Type 0 = λ t. IsDamage at (drop at t) (next - at) f in
     record { is = (refl, subst P (sym (near_twice bytes)) damage); after_is = sym there; before = λ no. absurd (no refl); stops = tt }
 
--- ---- where a walk stands
+-- ---- where a walk is
 
 -- at offset 2^48 a source ends, if a read there gives nothing
 pub ends_there : (bytes : List ℕ) (at n : ℕ) (buf : List ℕ) → at ≡ max_archive → at ≤ length (near bytes) → Gives bytes max_archive buf n → n ≡ 0

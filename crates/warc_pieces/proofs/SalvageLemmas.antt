@@ -93,7 +93,7 @@ records_of_longer at text more (Damage offset len fault ∷ pieces) records low 
 
 -- ---- the records of all runs
 
--- the records of pieces, which are good and spelled by their joined bytes, at most so many
+-- the records of pieces, which are good and spelled by their joined bytes, up to a limit
 record AreSaved (text : List ℕ) (pieces : List Piece) (most : ℕ) : Type 0 where
   records : List Record
   spelled : SpellsAll records (salvaged text pieces)

@@ -274,7 +274,7 @@ search_ends bytes from at tries end w low comes is absent = record {
   next = inl is;
 }
 
--- a good record lies at the next version line
+-- a good record is at the next version line
 pub search_finds : (bytes : List ℕ) (from at tries line len : ℕ) (w now : Shown) → from ≤ at → ComesTo bytes from at tries w
     → NoneBefore (OccursAt (near bytes) line_start) at (length (near bytes)) line → FindsRecord line bytes (Ok len) → IsNextRecord bytes from line
 search_finds bytes from at tries line len w now low comes first (r, is) = record {
@@ -284,13 +284,13 @@ search_finds bytes from at tries line len w now low comes first (r, is) = record
   next = inr (begins_with_one (drop line (near bytes)) r len is);
 }
 
--- a fault of what lies at an offset
+-- a fault of what is at an offset
 fault_there : (kind : FaultKind) (at : ℕ) (bytes : List ℕ) (f : Fault) → kind ≢ Read → kind ≢ Memory → MissesBy kind at bytes f → IsFaultAt at (drop at (near bytes)) f
 fault_there Read at bytes f not_read not_memory miss = absurd (not_read refl)
 fault_there Memory at bytes f not_read not_memory miss = absurd (not_memory refl)
 fault_there kind at bytes f not_read not_memory miss = miss
 
--- none lies at an offset, at the version line or after it
+-- none is at an offset, at the version line or after it
 none_from : (bytes : List ℕ) (line q : ℕ) (g : Fault) → record_of head_fault (drop line (near bytes)) ≡ Err g → line ≤ q → (0 < q - line → BeginsWithNone (drop (q - line) (drop line (near bytes)))) → BeginsWithNone (drop q (near bytes))
 none_from bytes line q g is most after =
     let P : ℕ → Type 0 = λ k. BeginsWithNone (drop k (near bytes)) in
@@ -302,7 +302,7 @@ none_from bytes line q g is most after =
     subst BeginsWithNone there (after (omega (arith, later))))
     (cases_lt q (line + 1))
 
--- none lies at the next version line, nor before an offset after it
+-- none is at the next version line, nor before an offset after it
 pub search_goes_on : (bytes : List ℕ) (from at tries line next : ℕ) (f : Fault) (w now : Shown) → from ≤ at → ComesTo bytes from at tries w
     → NoneBefore (OccursAt (near bytes) line_start) at (length (near bytes)) line → OccursAt (near bytes) line_start line → f.kind ≢ Read → f.kind ≢ Memory → MissesBy f.kind line bytes f → Shows bytes now
     → line < next → next ≤ length (near bytes) → NoneWithin (drop line (near bytes)) (next - line) → ComesTo bytes from next (tries + 1) now

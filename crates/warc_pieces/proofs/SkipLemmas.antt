@@ -1,4 +1,4 @@
--- How far a search goes on after a place at which no good record lies.
+-- How far a search goes on after a place at which no good record begins.
 use Rattle.std.proofs.Common.{◌≡◌, ◌≢◌, ℕ, zero, suc, ◌+◌, ◌-◌, ◌<◌, ◌≤◌, max, true, false, List, ◌∷◌, ◌++◌, length, take, drop, get_or, append_assoc, length-append, Bool, [], if◌then◌else◌, Option, Some, None, Result, Err, refl, sym, ap, subst, ◌∙◌, arith, ⊎_elim}
 use Rattle.std.specs.Prelude.{is_some, option_map, slice_range}
 use Rattle.std.proofs.lemmas.Bool.{and_parts, cases_lt, false_from_ne_true}
@@ -91,7 +91,7 @@ first_found t more q finds p occurs =
     (λ (after : q ≤ p). after)
     (cases_lt p q)
 
--- where a text has none, none lies in it whole
+-- where a text has none, none is in it whole
 pub first_beyond : (t more : List ℕ) → FindsNeedle t (crlf ++ crlf) 0 None → (p : ℕ) → OccursAt (t ++ more) (crlf ++ crlf) p → length t ≤ p + 3
 first_beyond t more none p occurs = ⊎_elim
     (λ (before : p + 3 < length t). absurd (none p (omega arith) (omega (arith, before)) (in_text (crlf ++ crlf) t more p (omega (arith, before)) occurs)))

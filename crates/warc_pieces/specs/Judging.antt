@@ -17,7 +17,7 @@ IsFaultAt at text f = (g : Fault) × (record_of head_fault text ≡ Err g) × (f
 abbrev pub IsTorn : List ℕ → Type 0
 IsTorn text = (text ≡ []) ⊎ (record_of head_fault text ≡ Err (fault Truncated (length text)))
 
--- a read failed at an offset, and what lies before it is no more than the beginning of a record
+-- a read failed at an offset, and what is before it is no more than the beginning of a record
 pub record IsUnreadAt (at : ℕ) (bytes : List ℕ) (offset : ℕ) : Type 0 where
   pub after : at ≤ offset
   pub cut : IsTorn (drop at (take offset (near bytes)))

@@ -14,7 +14,7 @@ use Rattle.warc_pieces.specs.declared.piece.Piece.TheVariants.{Records, Damage}
 unfoldable pub near : List ℕ → List ℕ
 near bytes = take max_archive bytes
 
--- a text begins with a good record, which lies whole in it
+-- a text begins with a good record, which is whole in it
 pub record BeginsWithOne (text : List ℕ) : Type 0 where
   pub content : Record
   pub front : List ℕ
@@ -32,7 +32,7 @@ pub record IsRun (at : ℕ) (text : List ℕ) (count len : ℕ) (found : Option 
   pub len_is : len ≡ length reads.front
 
 -- The first `len` bytes of a text at offset `at` are damage: the text begins with no good record, and this is its
--- fault; the next good record that lies whole in it begins after these bytes, or they are all of it.
+-- fault; the next good record that is whole in it begins after these bytes, or they are all of it.
 pub record IsDamage (at : ℕ) (text : List ℕ) (len : ℕ) (fault : Fault) : Type 0 where
   pub fault_is : ReadsAs head_fault at text [] (Some fault)
   pub some : 0 < len

@@ -39,7 +39,7 @@ StopsBy TooLong bytes end stop f = (f.offset ≡ max_archive) × (end ≡ max_ar
 StopsBy kind bytes end stop f = ⊥
 
 -- Reading stops after pieces that end at an offset. No good record is passed over: none begins from there to `stop`
--- that lies whole in what was read.
+-- that is whole in what was read.
 pub record IsStop (bytes : List ℕ) (end : ℕ) (f : Fault) : Type 0 where
   pub stop : ℕ
   pub after : end ≤ stop
@@ -50,13 +50,13 @@ abbrev pub IsStoppedBy : List ℕ → ℕ → Option Fault → Type 0
 IsStoppedBy bytes end None = Unit {0}
 IsStoppedBy bytes end (Some f) = IsStop bytes end f
 
--- a reader stands before a piece of these bytes. A state of the code
+-- a reader is before a piece of these bytes. A state of the code
 pub record IsWalkBefore (bytes : List ℕ) (w : Shown) (at : ℕ) (damage : Option Fault) : Type 0 where
   pub shows : Shows bytes w
   pub within : at ≤ length (near bytes)
   pub found : IsDamagedAt at bytes damage
 
--- a walk along a source stands before a piece of these bytes
+-- a walk along a source is before a piece of these bytes
 abbrev pub IsWalkAt : {A : Type 0} → List ℕ → Walk A → Type 0
 IsWalkAt bytes walk = IsWalkBefore bytes walk.window walk.at walk.damage
 

@@ -7,7 +7,7 @@ use Rattle.warc_pieces.specs.Judging.{MissesBy}
 use Rattle.warc_pieces.specs.Pieces.{BeginsWithOne, near}
 use Rattle.warc_pieces.specs.Window.{Shown, reached}
 
--- the least offset from `from` on at which a good record lies whole, or the end of the bytes
+-- the least offset from `from` on at which a good record is whole, or the end of the bytes
 pub record IsNextRecord (bytes : List ℕ) (from found : ℕ) : Type 0 where
   pub after : from ≤ found
   pub within : found ≤ length (near bytes)
@@ -15,7 +15,7 @@ pub record IsNextRecord (bytes : List ℕ) (from found : ℕ) : Type 0 where
   pub next : (found ≡ length (near bytes)) ⊎ BeginsWithOne (drop found (near bytes))
 
 -- A search stopped at an offset: a read failed, or memory ran out for the head there. From `from` to that offset no
--- good record begins that lies whole before the fault's.
+-- good record begins that is whole before the fault's.
 pub record IsSearchStopped (bytes : List ℕ) (from : ℕ) (f : Fault) : Type 0 where
   pub at : ℕ
   pub after : from ≤ at

@@ -1,4 +1,4 @@
--- How far no good record begins after a place at which none lies.
+-- How far no good record begins after a place at which none begins.
 use Rattle.std.specs.Prelude.{◌≡◌, ℕ, ◌+◌, ◌-◌, ◌<◌, ◌≤◌, true, List, length, drop, slice_range, is_some, Ok}
 use Rattle.warc_field.specs.Area.{Pair, area_of, canonical_fields, count_of}
 use Rattle.warc_frame.specs.FaultText.{name_of}

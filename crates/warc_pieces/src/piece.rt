@@ -14,7 +14,7 @@ pub enum Piece {
         /// How many records they are.
         count: u64,
     },
-    /// Bytes at none of which a good record begins that lies whole in the source.
+    /// Bytes at none of which a good record begins that is whole in the source.
     Damage {
         /// Where they begin.
         offset: u64,

@@ -22,7 +22,7 @@ use std::alloc::{Allocator, Global};
 use std::marker::Model;
 use warc_frame::{Fault, FaultKind, MAX_ARCHIVE, OutBuffer, OutFault, Sink, Source, put_range};
 
-/// Where a walk along a source stands: at the offset at which the next piece begins.
+/// Where a walk along a source is: at the offset at which the next piece begins.
 #[derive(Drop)]
 struct Walk<A: Allocator> {
     window: Window<A>,

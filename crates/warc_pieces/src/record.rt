@@ -294,7 +294,7 @@ fn record_len_by_fields<S: Source, A: Allocator + Copy>(
     close_record(source, window, at, end)
 }
 
-/// The length of the good record at an offset, or why none lies there whole. It reads on by the window as long as what
+/// The length of the good record at an offset, or why none is there whole. It reads on by the window as long as what
 /// that shows is no whole head, and no further; of a block that isn't shown it looks at the four bytes after it alone.
 #[inline(always)]
 pub(crate) fn record_len<S: Source, A: Allocator + Copy>(

@@ -55,8 +55,8 @@ pub(crate) fn is_failure(fault: &Fault) -> bool
     fault.kind == FaultKind::Read || fault.kind == FaultKind::Memory
 }
 
-/// The least offset from `from` on at which a good record lies whole, or the end of the bytes. Only version lines are
-/// judged, and of those within one head as few as tell of all.
+/// The least offset from `from` on at which a good record is whole, or the end of the bytes. Only version lines are
+/// judged, and of those within one head as few as decide all.
 pub(crate) fn next_record<S: Source, A: Allocator + Copy>(
     alloc: A,
     source: &mut S,

@@ -1,4 +1,4 @@
-//! How far a search goes on after a place at which no good record lies. Heads that end together are judged together,
+//! How far a search goes on after a place at which no good record begins. Heads that end together are judged together,
 //! and what was searched for the end of a head isn't searched again: so the time for bytes that are full of version
 //! lines grows with their number, and not with its square.
 ghost use Rattle.std.specs.Prelude.{◌≡◌, ℕ, ◌+◌, ◌-◌, ◌<◌, ◌≤◌, ◌++◌, List, [], true, slice_range, is_some, Err, IfErr, IfSome, Some, if◌then◌else◌, length, max};

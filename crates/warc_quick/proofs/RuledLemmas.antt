@@ -56,7 +56,7 @@ is_target Truncated = refl
 is_target IdentifiedPayloadType = refl
 is_target ContentType = refl
 
--- a target's value stands if its bare text isn't empty, another's if it isn't empty itself
+-- a target's value is if its bare text isn't empty, another's if it isn't empty itself
 abbrev value_is_present : Bool → Option (List ℕ) → Bool
 value_is_present target value = if target then is_some (bare_present value) else is_some (option_and_then unless_empty value)
 

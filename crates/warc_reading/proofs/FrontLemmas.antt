@@ -97,13 +97,13 @@ module _ {A B L : Type 0} {Sees : B → List Pair → List ℕ → Type 0} {K : 
         longest = none;
       }
 
-  -- less than a record lies behind it
+  -- less than a record is after it
   pub longest_cut : Lies text reported → IsLongestFront text rows
   longest_cut lies =
       let front = (same_front text [] lies.front lies.rest reported r has (append-nil text ∙ lies.text_is) lies.spelled).0 in
       front_at text lies.rest (lies.text_is ∙ ap (λ f. f ++ lies.rest) (sym front)) (reads_none lies.rest (fault Truncated (length lies.rest)) lies.cut)
 
-  -- memory was wanted for the record behind it
+  -- memory was wanted for the record after it
   pub longest_before : (piece more : List ℕ) (offset : ℕ) → offset ≡ length has.front → IsLongestFront (take offset ((text ++ piece) ++ more)) rows
   longest_before piece more offset at =
       let parts : (text ++ piece) ++ more ≡ has.front ++ (has.rest ++ (piece ++ more)) =
@@ -112,7 +112,7 @@ module _ {A B L : Type 0} {Sees : B → List Pair → List ℕ → Type 0} {K : 
       ap (take offset) parts ∙ ap (λ n. take n (has.front ++ (has.rest ++ (piece ++ more)))) at ∙ take-append_seam has.front (has.rest ++ (piece ++ more)) ∙ sym (append-nil has.front) in
       front_at (take offset ((text ++ piece) ++ more)) [] cut none_in
 
-  -- a fault lies behind it, within the limit
+  -- a fault is after it, within the limit
   within : (t more : List ℕ) → length t ≤ max_archive → take max_archive (t ++ more) ≡ t ++ take (max_archive - length t) more
   within t more short =
       let sum : max_archive ≡ length t + (max_archive - length t) = omega (arith, short) in

@@ -1,4 +1,4 @@
--- Reading on in a source behind records that are kept.
+-- Reading on in a source after records that are kept.
 use Rattle.std.proofs.Common.{◌≡◌, ◌≢◌, ℕ, ◌+◌, ◌-◌, ◌^◌, ◌<◌, ◌≤◌, inl, inr, Bool, true, false, List, [], ◌∷◌, ◌++◌, length, take, drop, if◌then◌else◌, Option, None, Some, Result, Ok, Err, MatchResult, IfErr, IfOk, IfSome, OnErr, refl, sym, ap, subst, ◌∙◌, arith, length-append}
 use Rattle.std.proofs.Math.Nat.{min-eq_left}
 use Rattle.std.proofs.Math.Seq.{drop-append_seam, take-add, take-append_seam, take-append-add}
@@ -76,7 +76,7 @@ shorter q (p ∷ ps) more a b (front, rest, one, at, start, is, tail) (front2, r
     let P : ℕ → Type 0 = λ n. SpellsFrom n (ps ++ more) rest2 in
     omega (arith, shorter (q + length front) ps more rest rest2 tail (subst P same tail2), same, ap length is ∙ length-append front rest, ap length is2 ∙ length-append front2 rest2)
 
--- the record that is being read begins behind those that were kept
+-- the record that is being read begins after those that were kept
 begins_after : {A B L : Type 0} {Sees : B → List Pair → List ℕ → Type 0} (K : L → List Placed → Type 0) (bytes text : List ℕ) (was : List Row × L) (is : IsKeptOf K bytes was) (reported : Reported) (r : StreamState A L B) → HasRead Sees (Since K is.listed.are.records) text reported r
     → length bytes ≤ r.begin
 begins_after K bytes text was is reported r has =
@@ -84,13 +84,13 @@ begins_after K bytes text was is reported r has =
     let P : List Placed → Type 0 = λ rs. SpellsFrom 0 rs has.front in
     omega (arith, has.begin_is, shorter 0 is.listed.are.records on.0 bytes has.front is.listed.are.spelled (subst P on.1 has.spelled))
 
--- so memory is wanted behind them
+-- so memory is wanted after them
 wants_after : {A B L : Type 0} {Sees : B → List Pair → List ℕ → Type 0} (K : L → List Placed → Type 0) (bytes taken : List ℕ) (was : List Row × L) (is : IsKeptOf K bytes was) (reported : Reported) (r : StreamState A L B) (offset : ℕ)
     → HasRead Sees (Since K is.listed.are.records) (bytes ++ taken) reported r → BeginsSince (bytes ++ taken) r.begin offset → length bytes ≤ offset
 wants_after K bytes taken was is reported r offset has (inl same) = omega (arith, same, begins_after K bytes (bytes ++ taken) was is reported r has)
 wants_after K bytes taken was is reported r offset has (inr after) = omega (arith, after, length-append bytes taken)
 
--- a decoder that begins behind records might have taken them
+-- a decoder that begins after records might have taken them
 pub at_after : (at start : ℕ) (bytes : List ℕ) (records : List Record) (d : State) → SpellsAll records bytes → start ≡ at + length bytes
     → IsAt start [] nothing d → IsAt at bytes (record { records = records; unclosed = None }) d
 at_after at start bytes records d spelled begins is =
@@ -105,7 +105,7 @@ at_after at start bytes records d spelled begins is =
       phase_is = subst P none is.phase_is;
     }
 
--- what is kept of records stands where the decoder begins behind them
+-- what is kept of records is where the decoder begins after them
 pub kept_is_present : {A B L : Type 0} {Sees : B → List Pair → List ℕ → Type 0} (K : L → List Placed → Type 0) (bytes : List ℕ) (d : State) (r : StreamState A L B) → IsKeptOf K bytes (r.rows, r.beside) → r.begin ≡ length bytes → r.current ≡ None
     → IsAt r.begin [] nothing d → IsReadSoFar Sees K bytes d r
 kept_is_present {A} {B} {L} {Sees} K bytes d r is at none start =
@@ -212,7 +212,7 @@ pub on_err : {X E P : Type 0} (r : Result X E) → P → OnErr r P
 on_err (Ok x) p = tt
 on_err (Err e) p = p
 
--- behind the bytes that a source begins with, it gives the others
+-- after the bytes that a source begins with, it gives the others
 more_given : (start : ℕ) (old new : SeenSource) (taken bytes more : List ℕ) → HasGivenFrom start old new taken → start ≡ length bytes → old.holds ≡ Some (bytes ++ more) → taken ≡ take (length taken) more
 more_given start old new taken bytes more has at held =
     has.part (bytes ++ more) held ∙ ap (λ n. take (length taken) (drop n (bytes ++ more))) at ∙ ap (take (length taken)) (drop-append_seam bytes more)
@@ -573,7 +573,7 @@ grows_from {L} {Is} {old} {new} rows now l m answer same also grows =
     let Q : L → Type 0 = λ x. Grows Is (now, x) old new answer in
     subst Q also (subst P same grows)
 
--- what was kept before is kept, once all behind it is forgotten
+-- what was kept before is kept, once all after it is forgotten
 pub kept_again : {L : Type 0} (K : L → List Placed → Type 0) (bytes : List ℕ) (rows now : List Row) (l m k : L) (n : ℕ) (is : IsKeptOf K bytes (rows, l)) → now ≡ rows → n ≡ length rows
     → IsLeft K is.listed.are.records m → ((records : List Placed) → K m records → K k (take n records)) → IsKeptOf K bytes (now, k)
 kept_again K bytes rows now l m k n is same size (more, left) forgets =

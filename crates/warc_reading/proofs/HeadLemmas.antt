@@ -1,4 +1,4 @@
--- What is read where a record's head stands.
+-- What is read where a record's head is.
 use Rattle.std.proofs.Common.{◌≡◌, inl, ℕ, ◌+◌, ◌-◌, ◌≤◌, List, length, take, drop, slice_range, Option, Some, None, Result, Ok, Err, IfOk, MatchResult, sym, ap, subst, ◌∙◌, arith}
 use Rattle.warc_frame.specs.Reading.{Head, any_fields, head_of}
 use Rattle.warc_frame.specs.declared.fault.Fault.{Fault}
@@ -70,7 +70,7 @@ fails_ended {X} {Expected} {old} {new} Memory e n is has =
     let P : OutFault → Type 0 = λ f. FailsBy {X = X} Expected (Err f) old new in
     subst P (sym is) (record { may = has.may; failed = has.failed })
 
--- a row's head lies among the bytes
+-- a row's head is among the bytes
 pub head_reaches : (bytes : List ℕ) (inside now : Row) (len n : ℕ) → inside ≡ now → n ≡ len
     → now.offset + len ≡ now.block_start → HasHeadOf now bytes → inside.offset + n ≤ length bytes
 head_reaches bytes inside now len n same size end is =

@@ -27,7 +27,7 @@ use Rattle.warc_reading.proofs.RefusalLemmas.{stays_more, stays_not_read}
 use Rattle.warc_reading.proofs.SourceLemmas.{not_raised, raised_by_one}
 use Rattle.warc_reading.proofs.StreamLemmas.{accepts_reported, same_front}
 
--- a text of which good records lie in front, and behind them less than one
+-- a text that begins with good records, and after them less than one
 cut_by : {A B L : Type 0} {Sees : B → List Pair → List ℕ → Type 0} {K : L → List Placed → Type 0} (text : List ℕ) (reported : Reported) (r : StreamState A L B) (lies : Lies text reported) (rest : List ℕ) → lies.rest ≡ rest → HasRead Sees K text reported r → length text ≤ max_archive
     → (f : Fault) → IsFaultOf text f → f.kind ≡ Truncated
 cut_by text reported r lies [] none has short f is =
@@ -49,7 +49,7 @@ rest_cut text reported r lies has =
     let P : List ℕ → Type 0 = λ t. IsCut t in
     subst P (sym at) lies.cut
 
--- so no whole record lies between the one that is being read and the end of the text, or one that begins later
+-- so no whole record is between the one that is being read and the end of the text, or one that begins later
 pub cut_since : {A B L : Type 0} {Sees : B → List Pair → List ℕ → Type 0} {K : L → List Placed → Type 0} (text : List ℕ) (reported : Reported) (r : StreamState A L B) (offset : ℕ) → Lies text reported → HasRead Sees K text reported r → BeginsSince text r.begin offset → offset < length text
     → IsCut (drop offset text)
 cut_since text reported r offset lies has (inl same) before =

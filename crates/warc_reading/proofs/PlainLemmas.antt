@@ -23,13 +23,13 @@ use Rattle.warc_reading.proofs.GoodLemmas.{accepted, are_good}
 use Rattle.warc_reading.proofs.GrowLemmas.{at_after, kept_is_present}
 use Rattle.warc_reading.proofs.StreamLemmas.{accepted_more, kept_whole, spells_all, spells_more}
 
--- a record that is spelled behind others
+-- a record that is spelled after others
 all_more : (rs : List Record) (r : Record) (text last : List ℕ) → SpellsAll rs text → Spells r last → SpellsAll (rs ++ r ∷ []) (text ++ last)
 all_more [] r text last none one = (last, [], one, ap (λ t. t ++ last) none ∙ sym (append-nil last), refl)
 all_more (x ∷ rs) r text last (front, rest, first, is, more) one =
     (front, rest ++ last, first, ap (λ t. t ++ last) is ∙ append_assoc front rest last, all_more rs r rest last more one)
 
--- the decoder begins anew behind a record that it might have taken
+-- the decoder begins anew after a record that it might have taken
 pub next_at : (at : ℕ) (taken last : List ℕ) (reported : Reported) (d after : State) (r : Record) → IsBetween d → IsAt at taken reported d → Spells r last
     → IsAt (d.position + length last) [] nothing after → (next : Reported) × IsAt at (taken ++ last) next after
 next_at at taken last reported d after r between is one start =
@@ -39,7 +39,7 @@ next_at at taken last reported d after r between is one start =
           (omega (arith, is.position_is, length-append taken last)) start,
     )
 
--- a record is kept behind those of a text
+-- a record is kept after those of a text
 kept_more : {L : Type 0} (K : L → List Placed → Type 0) (text last : List ℕ) (rows : List Row) (l m : L) (p : Placed) (is : IsKeptOf K text (rows, l))
     → Spells p.content last → head_fault p.content.fields ≡ None → p.offset ≡ length text → p.block_start + length p.content.block + 4 ≡ length text + length last
     → length (text ++ last) ≤ max_archive → K m (is.listed.are.records ++ p ∷ []) → IsKeptOf K (text ++ last) (rows ++ row_of p ∷ [], m)

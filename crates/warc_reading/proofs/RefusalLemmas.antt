@@ -21,7 +21,7 @@ use Rattle.warc_reading.proofs.GoodLemmas.{are_good}
 use Rattle.warc_reading.proofs.KindLemmas.{head_kind, is_of_head, limited_kind}
 use Rattle.warc_reading.proofs.StreamLemmas.{accepts_reported, same_front, spells_all}
 
--- more bytes behind a record's end
+-- more bytes after a record's end
 end_more : (text more : List ℕ) (offset : ℕ) → IsRecordEnd text offset → IsRecordEnd (text ++ more) offset
 end_more text more offset is = record {
   records = is.records;
@@ -115,7 +115,7 @@ refuses_by Read offset at text reported is e = limited_kind _ is.found is.reads.
 refuses_by Truncated offset at text reported is e = cc e
 refuses_by kind offset at text reported is e = cc e
 
--- neither the decoder nor a judge of heads tells a failed read
+-- neither the decoder nor a judge of heads reports a failed read
 pub refuses_not_read : (at : ℕ) (text : List ℕ) (reported : Reported) (f : Fault) → Refuses at text reported f → f.kind ≢ Read
 refuses_not_read at text reported f is = refuses_by f.kind f.offset at text reported is
 

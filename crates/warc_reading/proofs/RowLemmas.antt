@@ -19,7 +19,7 @@ slice_front a b xs more order le =
 length-slice_range : (xs : List ℕ) (a b : ℕ) → b ≤ length xs → length (slice_range xs a b) ≡ b - a
 length-slice_range xs a b le = length-take-le (b - a) (drop a xs) (omega (arith, length-drop a xs, le))
 
--- a part behind bytes
+-- a part after bytes
 pub slice_after : (a b : ℕ) (xs ys more : List ℕ) → a ≡ length xs → b ≡ a + length ys → slice_range (xs ++ (ys ++ more)) a b ≡ ys
 slice_after a b xs ys more start end =
     ap (take (b - a)) (drop_at xs (ys ++ more) a (sym start)) ∙ take_at ys more (b - a) (omega (arith, end))
@@ -32,7 +32,7 @@ stays texts more e w =
     let target = slice_front e.id_end e.target_end texts more w.target w.end in
     rw (kind, date, id, target) refl
 
--- rows stay when bytes are added behind their texts
+-- rows stay when bytes are added after their texts
 pub rows_stay : (texts more : List ℕ) (es : List RowEntry) → AreWithin (length texts) es → map (row_at (texts ++ more)) es ≡ map (row_at texts) es
 rows_stay texts more [] within = refl
 rows_stay texts more (e ∷ es) (w, within) = rw (stays texts more e w) (ap (λ rows. row_at texts e ∷ rows) (rows_stay texts more es within))
@@ -48,7 +48,7 @@ pub within_more : (n : ℕ) (es : List RowEntry) (e : RowEntry) → AreWithin n 
 within_more n [] e within w = (w, tt)
 within_more n (x ∷ es) e (v, within) w = (v, within_more n es e within w)
 
--- the row of an entry that was added behind the others, whose texts were added behind theirs
+-- the row of an entry that was added after the others, whose texts were added after theirs
 module _ (t k d i g t1 t2 t3 t4 : List ℕ) (e : RowEntry) (h1 : t1 ≡ t ++ k) (h2 : t2 ≡ t1 ++ d) (h3 : t3 ≡ t2 ++ i) (h4 : t4 ≡ t3 ++ g)
     (a : e.kind_start ≡ length t) (b : e.kind_end ≡ length t1) (c : e.date_end ≡ length t2) (f : e.id_end ≡ length t3) (j : e.target_end ≡ length t4) where
   e4 : t4 ≡ t3 ++ (g ++ [])
@@ -250,7 +250,7 @@ cut_kept texts ps i p ts qs is kept cut first =
     let (flat, rows) = flat_cut texts (map unpacked ps) i (unpacked p) ts (map unpacked qs) (entry_at ps i p is) kept.flat cut entries in
     (kept_flat (length ts) qs flat, sym (rows_unpacked ts qs) ∙ rows ∙ ap (take i) (rows_unpacked texts ps))
 
--- a row that was added, and its texts behind the others
+-- a row that was added, and its texts after the others
 pub push_kept : (t t1 t2 t3 t4 : List ℕ) (row : Row) (p : Packed) (ps qs : List Packed) → t1 ≡ t ++ row.kind → t2 ≡ t1 ++ row.date → t3 ≡ t2 ++ row.id
     → t4 ≡ t3 ++ row.target → length t4 < 2 ^ 64 → IsPackedOf (length t) row p → qs ≡ ps ++ p ∷ [] → AreKept (length t) ps
     → AreKept (length t4) qs × (map (packed_row t4) qs ≡ map (packed_row t) ps ++ row ∷ [])

@@ -1,4 +1,4 @@
--- What is kept of a stream stands for the bytes that were taken.
+-- What is kept of a stream means the bytes that were taken.
 use Rattle.std.proofs.Common.{◌≡◌, ℕ, ◌+◌, ◌≤◌, List, [], ◌∷◌, ◌++◌, length, map, Option, Some, None, Result, Ok, Err, IsSome, refl, sym, ap, subst, ◌∙◌, arith, length-append}
 use Rattle.std.proofs.lemmas.List.{append_assoc, append-nil, append_cancel_left, length-map, map-append}
 use Rattle.warc_field.specs.Area.{Pair}
@@ -23,7 +23,7 @@ pub spells_all : (q : ℕ) (ps : List Placed) (text : List ℕ) → SpellsFrom q
 spells_all q [] text is = is
 spells_all q (p ∷ ps) text (front, rest, one, at, block, text_is, more) = (front, rest, one, text_is, spells_all (q + length front) ps rest more)
 
--- one more record behind them
+-- one more record after them
 pub spells_more : (q : ℕ) (ps : List Placed) (p : Placed) (text last : List ℕ) → SpellsFrom q ps text → Spells p.content last → p.offset ≡ q + length text
     → p.block_start + length p.content.block + 4 ≡ (q + length text) + length last → SpellsFrom q (ps ++ p ∷ []) (text ++ last)
 spells_more q [] p text last is one at block =
@@ -118,7 +118,7 @@ more_kept {A} {B} {L} {Sees} text more reported r has = record {
   current = matches_more Sees (length has.front) has.rest more reported.unclosed r.current has.current;
 }
 
--- the front of the records that were told is the same in each view of the bytes
+-- the front of the records that were reported is the same in each view of the bytes
 pub same_front : {A B L : Type 0} {Sees : B → List Pair → List ℕ → Type 0} {K : L → List Placed → Type 0} (text more front rest : List ℕ) (reported : Reported) (r : StreamState A L B) (has : HasRead Sees K text reported r) → text ++ more ≡ front ++ rest
     → SpellsAll reported.records front → (has.front ≡ front) × (has.rest ++ more ≡ rest)
 same_front text more front rest reported r has is spelled =
@@ -165,7 +165,7 @@ head_kept {A} {B} {L} {Sees} {K} text more rs u old new c has exact none rows be
       current = subst M (sym current) is;
     }
 
--- bytes of a block were told
+-- bytes of a block were reported
 abbrev pub TakesPart : {A B : Type 0} → (B → List Pair → List ℕ → Type 0) → List ℕ → Option (Current A B) → Option (Current A B) → Type 0
 TakesPart {A} {B} Sees part old new = (c : Current A B) → old ≡ Some c → (d : Current A B) × (new ≡ Some d)
     × (d.head ≡ c.head) × (d.block_start ≡ c.block_start) × (d.block_len ≡ c.block_len)
@@ -259,7 +259,7 @@ end_kept_by {A} {B} {L} {Sees} {K} text more rs u old new c has is whole exact b
       current = subst M (sym current) tt;
     }
 
--- the text ends behind its last record
+-- the text ends after its last record
 pub kept_whole : {A B L : Type 0} {Sees : B → List Pair → List ℕ → Type 0} {K : L → List Placed → Type 0} (text : List ℕ) (reported : Reported) (r : StreamState A L B) → HasRead Sees K text reported r → SpellsAll reported.records text
     → length text ≤ max_archive → IsKeptOf K text (r.rows, r.beside)
 kept_whole text reported r has spelled short =

@@ -19,7 +19,7 @@ pub record IsUnread (bytes : List ℕ) (offset : ℕ) : Type 0 where
   pub before : IsOnlyCut (take offset bytes)
 
 -- memory ran out for the record that begins at this offset, and `asked` was the last offset asked for: all
--- records before it are good, a byte of it is there, and no whole record lies between it and `asked`
+-- records before it are good, a byte of it is there, and no whole record is between it and `asked`
 pub record IsUnkept (bytes : List ℕ) (asked offset : ℕ) : Type 0 where
   pub end : IsRecordEnd bytes offset
   pub begins : offset < length bytes

@@ -151,12 +151,12 @@ Follows start taken old new = old.next ≡ Some start
 abbrev pub HasGiven : SeenSource → SeenSource → List ℕ → Type 0
 HasGiven old new text = HasGivenFrom 0 old new text
 
--- the decoder stands between records: whatever it took, all of it was reported
+-- the decoder is between records: whatever it took, all of it was reported
 abbrev pub IsBetween : State → Type 0
 IsBetween d =
     (at : ℕ) (taken : List ℕ) (reported : Reported) → IsAt at taken reported d → Finishes at taken reported (Ok tt)
 
--- the front of a piece is taken, and what lies in it is kept; or it is refused, and what was kept stays
+-- the front of a piece is taken, and what is in it is kept; or it is refused, and what was kept stays
 pub record TakesFront {A B L : Type 0} (Sees : B → List Pair → List ℕ → Type 0) (Keeps : L → List Placed → Type 0)
     (piece : List ℕ) (d : State) (r : StreamState A L B) (after : State) (now : StreamState A L B)
     (answer : Result ℕ Fault) : Type 0 where

@@ -28,7 +28,7 @@ use warc_frame::{Decoder, Event, Fault, FaultKind, MAX_ARCHIVE, ReadFault, Sourc
 use warc_quick::{QuickRecord, quick_record, record_with_findings};
 use warc_record::{GoodHead, good_head_of};
 
-/// The record that is being read: what its head says, where its block lies, and what took the bytes of it so far.
+/// The record that is being read: what its head says, where its block is, and what took the bytes of it so far.
 #[derive(Drop)]
 struct Current<A: Allocator, B> {
     head: GoodHead<A>,
@@ -212,7 +212,7 @@ impl<A: Allocator + Copy, B: TakeBlock, L: Keep<A, Block = B> + Drop> StreamStat
     }
 }
 
-/// The record that a piece begins with, if it can be read in place: the decoder stands between records, the head is
+/// The record that a piece begins with, if it can be read in place: the decoder is between records, the head is
 /// plain, and the record ends within the piece and within the limit of an archive. It is read with its findings if
 /// heads are checked.
 #[inline(always)]

@@ -25,7 +25,7 @@ passes : (test : Bool) (fault : FaultKind) → (if test then None else Some faul
 passes true fault e = refl
 passes false fault e = absurd (cc)
 
--- a field without a fault stands there, and its value reads
+-- a field without a fault is there, and its value reads
 is_present_and_reads : (found : Option (List ℕ)) (again : Bool) (reads : List ℕ → Bool) (missing repeated bad : FaultKind)
     → option_or (if is_none found then Some missing else if again then Some repeated else None) (if option_map_or reads found false then None else Some bad) ≡ None
     → (value : List ℕ) × (found ≡ Some value) × (reads value ≡ true)
@@ -63,7 +63,7 @@ good_heads_read fields good =
       date_reads = instant.1;
     }
 
--- a field stands exactly once and reads, exactly where it has no fault
+-- a field is exactly once and reads, exactly where it has no fault
 module _ (name : List ℕ) (reads : List ℕ → Bool) (missing repeated bad : FaultKind) (fields : List Pair) where
   abbrev FaultOf : Option (List ℕ) → Bool → Option FaultKind
   FaultOf found again =

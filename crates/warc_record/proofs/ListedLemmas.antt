@@ -15,7 +15,7 @@ use Rattle.warc_record.specs.Table.{Rule, rules}
 use Rattle.warc_record.specs.Findings.{SeenFinding, NotUtf8, Digest, SegmentNumber, IdUsed, NoContentType, Profile, BareId, NoOrigin, finding_number, once, is_broken, broken_rule, by_table, not_utf8, is_not_utf8, has_bad_segment, lacks_content_type, has_unknown_profile, has_bare_id, lacks_origin, findings_by}
 use Rattle.warc_record.specs.FindingLaws.{IsByTable, IsOnce, IsNotUtf8, IsFinding, sentences, ListedWhereTheyHold, NumbersNeverFall}
 
--- ---- which stand in the list
+-- ---- which are in the list
 
 single : {X : Type 0} (z f : X) → Contains (z ∷ []) f → z ≡ f
 single z f (zero, lt, e) = e
@@ -134,7 +134,7 @@ all_of_them : (r : Reading) (fs : List Pair) (size : ℕ) (bad used : Bool) → 
 unfolding findings_by
 all_of_them r fs size bad used = refl
 
--- what stands among the first stands among all
+-- what is among the first is among all
 from_ten : (r : Reading) (fs : List Pair) (size : ℕ) (bad used : Bool) (f : SeenFinding) → Contains (to_ten r fs size bad used) f → Contains (to_eleven r fs size bad used) f
 from_ten r fs size bad used f h = Contains-append_left (to_ten r fs size bad used) (once NoOrigin (lacks_origin r fs)) f h
 
@@ -165,7 +165,7 @@ from_two r fs size bad used f h = from_three r fs size bad used f (Contains-appe
 from_one : (r : Reading) (fs : List Pair) (size : ℕ) (bad used : Bool) (f : SeenFinding) → Contains (to_one r fs size bad used) f → Contains (to_eleven r fs size bad used) f
 from_one r fs size bad used f h = from_two r fs size bad used f (Contains-append_left (to_one r fs size bad used) (by_table HasForbidden r.kind fs) f h)
 
--- what a finding of a number stands for
+-- what a finding of a number means
 say : (r : Reading) (fs : List Pair) (size : ℕ) (bad used : Bool) (n : SeenFinding) (b : Bool) (f : SeenFinding)
     → Contains (sentences r fs size bad used) (n, b) → Contains (once n b) f → IsFinding r fs size bad used f
 say r fs size bad used n b f there h = inr (inr ((n, b), there, once_to n b f h))

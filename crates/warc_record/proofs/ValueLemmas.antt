@@ -17,7 +17,7 @@ all_drop p zero xs h = h
 all_drop p (suc n) [] h = refl
 all_drop p (suc n) (x ∷ xs) h = all_drop p n xs (and_parts _ _ h).1
 
--- a value's bytes may stand in one
+-- a value's bytes may are in one
 value_bytes : (value : List ℕ) → is_value value ≡ true → list_all is_value_byte value ≡ true
 unfolding is_value
 value_bytes value is = (and_parts _ _ (and_parts _ _ is).0).0

@@ -1,4 +1,4 @@
--- How often a number stands: twice where it stands at two places.
+-- How often a number is: twice where it is at two places.
 use Rattle.std.proofs.Common.{◌≡◌, inl, inr, ℕ, zero, suc, ◌+◌, ◌<◌, ◌≤◌, Bool, true, false, cond, ◌==◌, List, [], ◌∷◌, Some, slice_get, refl, sym, ◌∙◌, ap, arith, eq-eqb}
 use Rattle.std.specs.Prelude.{count_by}
 use Rattle.std.proofs.lemmas.Bool.{cases_Bool, eqb-true}
@@ -8,7 +8,7 @@ use Rattle.warc_segment.specs.Series.{Member, count_numbered, numbers_of}
 abbrev one_of : ℕ → ℕ → ℕ
 one_of k n = cond (n == k) 1 0
 
--- how often a number stands in a list
+-- how often a number is in a list
 abbrev pub times : ℕ → List ℕ → ℕ
 times k ks = count_by (λ n. n == k) ks
 

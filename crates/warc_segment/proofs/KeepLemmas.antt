@@ -42,7 +42,7 @@ members_more all r =
     (0 + length all, r)))
     ∙ ap (λ (k : ℕ). filter_map kept_of (enumerate_from 0 all) ++ option_to_list (kept_of (k, r))) z))
 
--- what is held of so many records, one more
+-- what is held of n records, and of one more
 pub kept_more : (count : ℕ) (es es' : List Entry) (fs fs' : List TotalAndPlace) (all : List PlacedRecord) (r : PlacedRecord)
     → held_in count es fs ≡ kept_in all
     → side_by_side es' fs' ≡ side_by_side es fs ++ option_to_list (kept_of (count, r))
@@ -106,7 +106,7 @@ first_members (suc j) p n (r ∷ all) e =
     (λ m f. is_early n p m (stored_position p r m f) (omega arith))
     ∙ ap (cons_option (kept_of (p, r))) (first_members j (p + 1) n all (omega arith))
 
--- of rising positions, the early ones stand in front
+-- of rising positions, the early ones are in front
 abbrev before_n : ℕ → Entry → Bool
 before_n n e = nat_lt e.position n
 

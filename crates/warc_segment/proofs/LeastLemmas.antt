@@ -1,4 +1,4 @@
--- What stands in a list, in its filter and in its image; the least of a list of numbers.
+-- What is in a list, in its filter and in its image; the least of a list of numbers.
 use Rattle.std.proofs.Common.{◌≡◌, ◌⊎◌, inl, inr, ℕ, zero, suc, ◌<◌, ◌≤◌, min, Bool, true, false, cond, List, [], ◌∷◌, length, get_or, map, Option, Some, None, slice_get, refl, sym, ◌∙◌, ap, subst, arith}
 use Rattle.std.specs.Prelude.{filter, find, ⊤}
 use Rattle.std.specs.List.{position_or_len}
@@ -8,7 +8,7 @@ use Rattle.std.proofs.lemmas.List.Sums.{position_or_len_is}
 use Rattle.std.proofs.lemmas.Option.{slice_get-get_or, slice_get_past}
 use Rattle.warc_segment.specs.Gaps.{lesser, least}
 
--- an element stands in a list
+-- an element is in a list
 abbrev pub IsReadSoFar : {X : Type 0} → List X → X → Type 0
 IsReadSoFar xs x = (i : ℕ) × (slice_get xs i ≡ Some x)
 
@@ -123,7 +123,7 @@ pub least_same : (ks ls : List ℕ) → ((j : ℕ) → IsReadSoFar ks j → IsRe
     → least ks ≡ least ls
 least_same ks ls to back = same_least ks ls (least ks) (least ls) (least_in ks) (least_in ls) to back
 
--- the first is the least where none behind it is less
+-- the first is the least where none after it is less
 pub least_front : (k : ℕ) (ks : List ℕ) → ((j : ℕ) → IsReadSoFar ks j → k ≤ j) → least (k ∷ ks) ≡ Some k
 least_front k ks up = by_least (least (k ∷ ks)) (least_in (k ∷ ks)) refl
   where

@@ -1,4 +1,4 @@
--- The gaps of a series whose members stand in the order of their numbers.
+-- The gaps of a series whose members are in the order of their numbers.
 use Rattle.std.proofs.Common.{◌≡◌, ◌≢◌, inl, inr, ℕ, zero, suc, ◌+◌, ◌-◌, ◌<◌, ◌≤◌, Bool, true, false, cond, ◌&&◌, ◌==◌, List, [], ◌∷◌, length, get_or, map, Option, Some, None, option_map, slice_get, refl, sym, ◌∙◌, ap, arith}
 use Rattle.std.specs.Prelude.{filter, find, nat_le, nat_lt, is_some, nat_eq, sum_by, option_and_then}
 use Rattle.std.specs.Option.{option_or, option_eq, option_map_or}
@@ -61,7 +61,7 @@ twice_of members k hit =
     let le : 2 ≤ count_numbered k members = grind (arith, nat_tests) in
     twice_at k (numbers_of members) (omega arith)
 
--- where the numbers before a place rise, none of them stands twice
+-- where the numbers before a place rise, none of them is twice
 once_before : (members : List Member) (i k : ℕ) → AreOrdered (numbers_of members) → Rises (numbers_of members) (i + 1)
     → k < i → k < length (numbers_of members) → is_present_twice members (get_or (numbers_of members) k 0) ≡ false
 once_before members i k ordered rises less within =
@@ -143,7 +143,7 @@ end_is_first (m ∷ members) up = elim (cases_Bool (has_a_total m)) [
 length_numbers : (members : List Member) → length (numbers_of members) ≡ length members
 length_numbers members = length-map members (λ m. m.number)
 
--- a member's number stands where the member does
+-- a member's number is where the member does
 number_at : (members : List Member) (i : ℕ) (m : Member) → slice_get members i ≡ Some m
     → get_or (numbers_of members) i 0 ≡ m.number
 number_at members i m at =
@@ -274,7 +274,7 @@ past_end n members k past =
     let off : nat_le k n ≡ false = grind (arith, nat_tests) in
     and_left (nat_le 2 k && nat_le k n) (count_numbered k members == 0) (and_right (nat_le 2 k) (nat_le k n) off)
 
--- the number at a place isn't the next one, and nothing behind the place has that one
+-- the number at a place isn't the next one, and nothing after the place has that one
 missing_at : (members : List Member) (i : ℕ) → AreOrdered (numbers_of members)
     → Rises (numbers_of members) (length (numbers_of members)) → CountsUp (numbers_of members) i
     → i < length (numbers_of members) → get_or (numbers_of members) i 0 ≢ i + 2

@@ -31,7 +31,7 @@ same_pieces bytes (p ∷ ps) (r ∷ rs) stored =
     ap (λ (q : Piece). q ∷ map piece_placed ps) (same_piece bytes p r stored.0 stored.1)
     ∙ ap (λ (qs : List Piece). piece_read r ∷ qs) (same_pieces bytes ps rs stored.2)
 
--- at each position stands a record with its place, or none on either side
+-- at each position is a record with its place, or none on either side
 abbrev AreAt : List ℕ → Option Place → Option ReadRecord → Type 0
 AreAt bytes None None = Unit {0}
 AreAt bytes (Some p) (Some r) = IsPlaceOf bytes p r

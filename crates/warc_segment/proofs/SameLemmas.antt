@@ -142,7 +142,7 @@ absent_same n a b same =
     least_same (filter (is_absent n a) (tried a)) (filter (is_absent n b) (tried b)) (absent_pass n a b same)
     (absent_pass n b a (turned a b same))
 
--- ---- the member with a number, where none stands twice
+-- ---- the member with a number, where none is twice
 
 once : (members : List Member) → least_repeated members ≡ None → (k : ℕ) → count_numbered k members < 2
 once members none k = elim (cases_lt (count_numbered k members) 2) [
@@ -282,7 +282,7 @@ gap_same size a b same = by_case (least_repeated b) refl
         gap_following size a (end_of b) (repeated_same a b same ∙ e) (end_same a b same)
         ∙ (gap_to_same (end_of b) size a b same e ∙ sym (gap_following size b (end_of b) e refl))
 
--- without a gap, no number stands twice
+-- without a gap, no number is twice
 once_without_gap : (size : ℕ) (b : List Member) → gap_of size b ≡ None → least_repeated b ≡ None
 once_without_gap size b none = by_case (least_repeated b) refl
   where

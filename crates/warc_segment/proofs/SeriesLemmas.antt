@@ -11,7 +11,7 @@ use Rattle.warc_segment.specs.SeriesLaws.{IsLeastAbsent, LeastAbsentIsFirst, InO
 
 -- ---- the least number that passes
 
--- a number stands in a list
+-- a number is in a list
 abbrev IsReadSoFar : List ℕ → ℕ → Type 0
 IsReadSoFar ks k = (i : ℕ) × (slice_get ks i ≡ Some k)
 
@@ -109,7 +109,7 @@ counted_is_present (m ∷ members) k some = elim (cases_Bool (m.number == k)) [
       (suc later.0, later.1)
 ]
 
--- a number behind the end isn't absent
+-- a number after the end isn't absent
 not_past : (n : ℕ) (members : List Member) (j : ℕ) → n < j → is_absent n members j ≡ false
 not_past n members j past = grind (arith, nat_tests)
 

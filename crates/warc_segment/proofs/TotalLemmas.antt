@@ -16,7 +16,7 @@ use Rattle.warc_segment.specs.Joined.{ReadRecord, piece_read, with_members, Join
 
 -- ---- members and records
 
--- at a member's position stands a record with its total and its length
+-- at a member's position is a record with its total and its length
 record IsMemberOf (all : List ReadRecord) (m : Member) : Type 0 where
   it : ReadRecord
   is_present : slice_get all m.position ≡ Some it

@@ -4,7 +4,7 @@ use Rattle.std.proofs.lemmas.List.{drop-drop, drop-take, length-drop, length-tak
 use Rattle.warc_frame.specs.Device.{Gives}
 use Rattle.warc_stream.specs.Window.{IsCopiedFront, IsPieceOf}
 
--- what is behind the first k bytes of a front
+-- what is after the first k bytes of a front
 pub rest_of_front : (k len : ℕ) (xs : List ℕ) → k ≤ len → drop k (take len xs) ≡ take (len - k) (drop k xs)
 rest_of_front k len xs below =
     let whole : k + (len - k) ≡ len = omega arith in

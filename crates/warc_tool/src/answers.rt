@@ -6,7 +6,7 @@ use warc::{Archive, Listing};
 use warc_arguments::{Command, Request, bytes_of};
 use warc_host::{Host, HostFile};
 
-/// The field whose text tells whether two records have one payload.
+/// The field whose text says whether two records have one payload.
 const PAYLOAD_DIGEST: &[u8] = b"WARC-Payload-Digest";
 
 /// Writes a line if there is more to say of what a run reported on standard error: the date of the earliest capture

@@ -1,4 +1,4 @@
--- What each byte stands for in base32, tried one by one.
+-- What each byte means in base32, tried one by one.
 use Rattle.std.proofs.Common.{◌≡◌, ℕ, zero, suc, ◌<◌, ◌≤◌, Bool, true, false, ◌&&◌, nat_eq, nat_le, get_or, Option, Some, None, refl, arith}
 use Rattle.std.specs.Prelude.{unwrap_or}
 use Rattle.std.proofs.lemmas.Bool.{eqb-true, leb-true}

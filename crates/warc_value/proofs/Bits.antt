@@ -61,7 +61,7 @@ pub base32_of-append : (xs ys : List ℕ) → length xs ≡ 5 → base32_of (xs 
 unfolding base32_of fives bits_of number_of_bits
 base32_of-append xs ys e = rw (five_items xs e) refl
 
--- the front of the text with a group put behind its first part
+-- the front of the text with a group put after its first part
 front-put : (a : ℕ) (text group rest : List ℕ) → a ≤ length text → length group ≡ 8 → take (a + 8) (take a text ++ (group ++ rest)) ≡ take a text ++ group
 front-put a text group rest within long =
     let e : length (take a text) ≡ a = length-take-le a text within in
@@ -152,7 +152,7 @@ decoded-append : (xs ys : List ℕ) → length xs ≡ 8 → bytes_of (xs ++ ys) 
 unfolding bytes_of eights bits_of number_of_bits
 decoded-append xs ys e = rw (eight_items xs e) refl
 
--- the front of the bytes with a group put behind its first part
+-- the front of the bytes with a group put after its first part
 front-put-five : (a : ℕ) (bytes group rest : List ℕ) → a ≤ length bytes → length group ≡ 5 → take (a + 5) (take a bytes ++ (group ++ rest)) ≡ take a bytes ++ group
 front-put-five a bytes group rest within long =
     let e : length (take a bytes) ≡ a = length-take-le a bytes within in
@@ -182,7 +182,7 @@ decoded-more a b k m a' b' text bytes group whole ea ek eb em within inside long
     let e6 : bytes_of eight ≡ group = subst (λ (n : ℕ). bytes_of (take n (drop a text)) ≡ group) ek part.1 in
     cc
 
--- the characters of one more group stand for something
+-- the characters of one more group mean something
 pub symbols-more : (a k a' : ℕ) (text group : List ℕ) → a' ≡ a + 8 → k ≡ 8 → list_all is_symbol (take a text) ≡ true → Some group ≡ decoded_of (take k (drop a text)) → list_all is_symbol (take a' text) ≡ true
 symbols-more a k a' text group ea ek before is =
     let part = decoded_parts (take k (drop a text)) group is in
@@ -202,7 +202,7 @@ decoded-whole text bytes a b long ha hb all e =
     let j : bytes ≡ bytes_of text = sym h ∙ sym (append-nil (take b bytes)) ∙ ap (λ (xs : List ℕ). take b bytes ++ xs) (sym bytes_of-nil ∙ ap (λ (xs : List ℕ). bytes_of xs) (sym g)) ∙ e in
     rw (long, i) (ap (λ (xs : List ℕ). Some xs) j)
 
--- a group that stands for nothing
+-- a group that means nothing
 pub none-decoded : (text : List ℕ) (a k : ℕ) → None ≡ decoded_of (take k (drop a text)) → None ≡ unbase32_of text
 none-decoded text a k is =
     let bad : list_all is_symbol (take k (drop a text)) ≡ false = grind (arith, common_steps) in

@@ -281,7 +281,7 @@ fits_from-zip n at (b ∷ bs) few front =
     let rest = subst (λ (k : ℕ). fits_from n (at + 1) bs ≡ list_all (λ (pair : ℕ × ℕ). fits_place pair.0 pair.1) (zip (drop k places) bs)) (add-one at) (fits_from-zip n (at + 1) bs (omega arith) later) in
     rw (drop-cons places at 0 inside, place-in_front n at (length bs) front) (ap (λ (fit : Bool). fits_place (get_or places at 0) b && fit) rest)
 
--- a digit stands there
+-- a digit is there
 abbrev pub is_letter : ℕ → Bool
 is_letter place = list_any (λ letter. letter == place) (codes "YMDhmsf")
 
@@ -413,7 +413,7 @@ has_length-four : (n : ℕ) → has_length n ≡ true → 4 ≤ n
 unfolding has_length
 has_length-four n has = elim (cases_lt n 4) [ inl a ↦ grind (arith, common_steps) | inr b ↦ b ]
 
--- four digits stand in front
+-- four digits are in front
 pub four-digits : (text : List ℕ) → has_length (length text) ≡ true → fits_from (length text) 0 text ≡ true → (4 ≤ length text) × (list_all is_ascii_digit (take 4 text) ≡ true)
 four-digits text has fit =
     let four : 4 ≤ length text = has_length-four (length text) has in

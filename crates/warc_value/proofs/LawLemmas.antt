@@ -94,7 +94,7 @@ base32_is_undone bytes long small =
     let length_is : length (base32_of bytes) ≡ 32 = read.long in
     rw (length_is, read.symbols, read.back) refl
 
--- A character that stands for a number is that number's, but for its case.
+-- A character that means a number is that number's, but for its case.
 pub symbol_of-symbol_value : (c n : ℕ) → symbol_value c ≡ Some n → (n < 32) × (symbol_of n ≡ to_ascii_uppercase c)
 unfolding symbol_value symbol_of
 symbol_of-symbol_value c n is =

@@ -109,7 +109,7 @@ kept_len_first len (field ∷ fields) = elim (cases_Bool (same field.0 digest_na
           ∙ (rest ∙ sym (ap (option_map (λ value. decimal len)) (first_miss content_length field fields miss)))
     ]
 
--- fields of other names behind them change nothing
+-- fields of other names after them change nothing
 pub first_after : (name : List ℕ) (fields more : List Pair) → first_value name more ≡ None → first_value name (fields ++ more) ≡ first_value name fields
 first_after name [] more none = none
 first_after name (field ∷ fields) more none = elim (cases_Bool (same field.0 name)) [

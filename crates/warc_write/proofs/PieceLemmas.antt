@@ -1,4 +1,4 @@
--- The pieces of a block, one behind another, are the block.
+-- The pieces of a block, one after another, are the block.
 use Rattle.std.proofs.Common.{◌≡◌, ℕ, zero, suc, ◌+◌, ◌-◌, ◌*◌, ◌/◌, ◌<◌, ◌≤◌, List, ◌++◌, length, drop}
 use Rattle.std.proofs.Common.{sum_by, sym, ap, ◌∙◌, arith, take-append-drop, drop-drop, div-add-mod', div-le_self}
 use Rattle.std.specs.List.{flat_map, range_with_len}

@@ -92,7 +92,7 @@ next_wanted given uuid part (Some n) block is digest =
 
 -- ---- the first segment
 
--- where no field of the name stands in front, those behind count
+-- where no field of the name is in front, those after count
 past : (name : List ℕ) (fields more : List Pair) → first_value name fields ≡ None
     → first_value name (fields ++ more) ≡ first_value name more
 past name [] more none = refl

@@ -12,7 +12,7 @@ use Rattle.warc_frame.specs.declared.version.Version.{Version}
 use Rattle.warc_frame.specs.Spelling.{Spells, SpellsAll, canonical}
 use Rattle.warc_write.specs.Rendering.{AllGood, RenderedOpensAsSame, canonical_texts}
 
--- one more text of a list's elements, and the texts behind it
+-- one more text of a list's elements, and the texts after it
 pub texts_more : {X : Type 0} (text : X → List ℕ) (output : List ℕ) (xs : List X) (i : ℕ) (x : X) → i < length xs → x ≡ get_or xs i x
     → (output ++ flat_map text (take i xs)) ++ text x ≡ output ++ flat_map text (take (i + 1) xs)
 texts_more text output xs i x lt is =

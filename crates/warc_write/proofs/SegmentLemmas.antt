@@ -54,7 +54,7 @@ abbrev length_by : ℕ → Option (List ℕ) → Result ℕ FaultKind
 length_by count first =
     if count == 0 then Err (Missing ContentLength) else if nat_le 2 count then Err (Repeated ContentLength) else or_length (block_number first)
 
--- where one length is given, another may stand in its place
+-- where one length is given, another may are in its place
 another : (count n m : ℕ) (first : Option (List ℕ)) → m ≤ max_block → length_by count first ≡ Ok n
     → length_by count (option_map (λ value. decimal m) first) ≡ Ok m
 another count n m first small reported = by_count (count == 0) (nat_le 2 count) first reported
@@ -220,7 +220,7 @@ splittable_is_good fields n uuid is = elim (cases_Bool (is_none (head_fault fiel
   | inr bad ↦ absurd (never BadKind uuid (sym (no_head fields n (splittable_size fields n uuid is) bad) ∙ is))
 ]
 
--- the rows behind those of a head
+-- the rows after those of a head
 pub refused_by_head : (r : Record) (n : ℕ) (fault : SplitFault) → splittable r.fields n ≡ Err fault → split_of r n ≡ Err fault
 unfolding split_of
 refused_by_head r n fault is = rw is refl

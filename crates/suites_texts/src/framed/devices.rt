@@ -21,7 +21,7 @@ pub(crate) fn number_or_all(case: &Case<'_>, place: usize) -> usize {
     }
 }
 
-/// Adds what reads of a source give, each of 16 bytes at the offset where the bytes so far end. Tells how many gave
+/// Adds what reads of a source give, each of 16 bytes at the offset where the bytes so far end. Reports how many gave
 /// any.
 fn read_in_turns<S: Source>(source: &mut S, bytes: &mut Vec<u8>) -> Option<usize> {
     let mut buffer = [0; 16];
@@ -214,7 +214,7 @@ fn say_handed_on(alloc: Global, answer: &mut Vec<u8>, text: &[u8]) -> Result<(),
     say_taken(answer, &sink.into_inner())
 }
 
-/// Adds what a sink tells over a writer that takes two bytes and then fails, or takes none.
+/// Adds what a sink reports over a writer that takes two bytes and then fails, or takes none.
 fn say_full(
     alloc: Global,
     answer: &mut Vec<u8>,
@@ -236,7 +236,7 @@ fn say_once(alloc: Global, answer: &mut Vec<u8>, text: &[u8]) -> Result<(), Allo
     say_line(alloc, answer, &writes)
 }
 
-/// Adds what a sink tells over the writer that the second word names.
+/// Adds what a sink reports over the writer that the second word names.
 fn say_out(
     alloc: Global,
     case: &Case<'_>,

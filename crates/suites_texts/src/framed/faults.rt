@@ -57,7 +57,7 @@ fn say_faults(alloc: Global, case: &Case<'_>, answer: &mut Vec<u8>) -> Result<()
     Ok(())
 }
 
-/// Adds each fault of what is given, behind as many bytes as its word says.
+/// Adds each fault of what is given, after as many bytes as its word says.
 fn say_out_faults(alloc: Global, case: &Case<'_>, answer: &mut Vec<u8>) -> Result<(), AllocError> {
     say_line(alloc, answer, &OutFault::Read(case.number(1)))?;
     say_line(alloc, answer, &OutFault::Write(case.number(2)))?;

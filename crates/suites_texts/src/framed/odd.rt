@@ -110,7 +110,7 @@ impl Write for Full {
     }
 }
 
-/// What a send to such a writer tells, and what a write of its last byte tells then.
+/// What a send to such a writer reports, and what a write of its last byte reports then.
 pub(crate) fn sent_to_full(
     text: &[u8],
     fails: bool,
@@ -141,7 +141,7 @@ impl Write for FailsOnce {
     }
 }
 
-/// What a write to such a writer tells, and how often the writer was written to.
+/// What a write to such a writer reports, and how often the writer was written to.
 pub(crate) fn written_once(text: &[u8]) -> (Result<usize, WriteFault>, u32) {
     let mut sink = OutSink::new(FailsOnce { writes: 0 });
     let written = sink.write(text);

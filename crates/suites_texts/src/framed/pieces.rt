@@ -8,7 +8,7 @@ use suites_script::Case;
 use suites_texts_parsed::{say_line, say_refusals, say_text, text_of};
 use warc_frame::{FaultKind, Framed, MAX_ARCHIVE, decode, write_one};
 
-/// The canonical texts of records, one behind the other.
+/// The canonical texts of records, one after the other.
 fn texts_of(alloc: Global, records: &[Framed]) -> Result<Vec<u8>, AllocError> {
     let mut texts = Vec::new(alloc);
     for record in records {
@@ -17,7 +17,7 @@ fn texts_of(alloc: Global, records: &[Framed]) -> Result<Vec<u8>, AllocError> {
     Ok(texts)
 }
 
-/// What the pieces of a stream give whose first byte stands at an offset: their records' canonical texts, or the fault.
+/// What the pieces of a stream give whose first byte is at an offset: their records' canonical texts, or the fault.
 fn given_by(alloc: Global, at: u64, pieces: &[&[u8]]) -> Result<Vec<u8>, AllocError> {
     match decode(alloc, at.min(MAX_ARCHIVE), pieces) {
         Ok(records) => texts_of(alloc, &records),
@@ -90,7 +90,7 @@ fn say_cuttings(
     say_text(alloc, answer, &wanted, text)
 }
 
-/// The same of a case, whose words say where the first byte stands, how many places there are, and what is replaced.
+/// The same of a case, whose words say where the first byte is, how many places there are, and what is replaced.
 fn say_cuttings_of(
     alloc: Global,
     case: &Case<'_>,
@@ -130,7 +130,7 @@ fn is_reported_as_cut(alloc: Global, text: &[u8]) -> bool {
         && decode(alloc, 0, &[front, back]).err() == expected
 }
 
-/// The length of the first text that another begins with and that isn't told as cut off there.
+/// The length of the first text that another begins with and that isn't reported as cut off there.
 fn first_not_cut(alloc: Global, text: &[u8]) -> Option<usize> {
     for len in 1..text.len() {
         if !is_reported_as_cut(alloc, &text[..len]) {

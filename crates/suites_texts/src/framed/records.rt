@@ -78,7 +78,7 @@ fn count_of(alloc: Global, text: &[u8]) -> Result<usize, Fault> {
     Ok(text.len())
 }
 
-/// The length of the first text that another begins with and that isn't told as cut off there.
+/// The length of the first text that another begins with and that isn't reported as cut off there.
 fn first_not_cut(alloc: Global, text: &[u8]) -> Option<usize> {
     for len in 0..text.len() {
         if length(alloc, &text[..len]) != Err(FaultKind::Truncated.at(len as u64)) {

@@ -6,7 +6,7 @@ use suites_texts_parsed::{Attempt, say, say_line};
 use warc_frame::{Decoder, Event, Fault, FaultKind, MAX_ARCHIVE, Version};
 use warc_vectors::RefusingAllocator;
 
-/// What a step tells, with the number of a head's fields in their place.
+/// What a step reports, with the number of a head's fields in their place.
 #[derive(Clone, Copy, PartialEq, Eq)]
 enum Step {
     More,
@@ -15,7 +15,7 @@ enum Step {
     End,
 }
 
-/// What an event tells.
+/// What an event reports.
 fn step_of<A: Allocator>(event: Event<A>) -> Step {
     match event {
         Event::More => Step::More,
@@ -25,7 +25,7 @@ fn step_of<A: Allocator>(event: Event<A>) -> Step {
     }
 }
 
-/// How many bytes of a piece a step takes, and what it tells.
+/// How many bytes of a piece a step takes, and what it reports.
 fn take<A: Allocator + Copy>(
     decoder: &mut Decoder<A>,
     piece: &[u8],
@@ -36,7 +36,7 @@ fn take<A: Allocator + Copy>(
     }
 }
 
-/// Adds how many bytes a step takes, and what it tells.
+/// Adds how many bytes a step takes, and what it reports.
 fn say_step(
     alloc: Global,
     answer: &mut Vec<u8>,
@@ -56,7 +56,7 @@ fn say_step(
     say(alloc, answer, &reported)
 }
 
-/// Adds where a decoder stands, and what it tells if nothing follows.
+/// Adds where a decoder is, and what it reports if nothing follows.
 fn say_end(alloc: Global, answer: &mut Vec<u8>, decoder: &Decoder) -> Result<(), AllocError> {
     let position = decoder.position();
     let reported = match decoder.finish() {
@@ -66,7 +66,7 @@ fn say_end(alloc: Global, answer: &mut Vec<u8>, decoder: &Decoder) -> Result<(),
     say_line(alloc, answer, &reported)
 }
 
-/// Adds what a step tells, and what a decoder tells then.
+/// Adds what a step reports, and what a decoder reports then.
 fn say_piece(
     alloc: Global,
     answer: &mut Vec<u8>,
@@ -79,7 +79,7 @@ fn say_piece(
 }
 
 /// Adds what the steps of a decoder tell that begins where the second word says; each is given the text from one of
-/// the words behind it to before the next.
+/// the words after it to before the next.
 pub(crate) fn say_steps(
     alloc: Global,
     case: &Case<'_>,
@@ -97,7 +97,7 @@ pub(crate) fn say_steps(
     Ok(())
 }
 
-/// How many bytes of a text are taken one by one, each by a step that tells nothing.
+/// How many bytes of a text are taken one by one, each by a step that reports nothing.
 fn count_taken(decoder: &mut Decoder, text: &[u8]) -> usize {
     for (count, byte) in text.iter().enumerate() {
         if take(decoder, &[*byte]) != Ok((1, Step::More)) {
@@ -107,7 +107,7 @@ fn count_taken(decoder: &mut Decoder, text: &[u8]) -> usize {
     text.len()
 }
 
-/// Adds what a decoder tells that is given as many bytes of a text as the second word says, then each byte behind them
+/// Adds what a decoder reports that is given as many bytes of a text as the second word says, then each byte after them
 /// alone, then a byte, nothing, and two ends of lines.
 pub(crate) fn say_letters(
     alloc: Global,

@@ -225,7 +225,7 @@ impl<S: Source, A: Allocator + Copy> Archive<S, A> {
         path_from(&self.opened.kept, position)
     }
 
-    /// Where the body lies that `replay` writes: its answer, and the spans of the source whose bytes, one after
+    /// Where the body is that `replay` writes: its answer, and the spans of the source whose bytes, one after
     /// another, are the body. The origin's head is read, and each byte of the joined blocks at most once, to judge
     /// their digests and to find the HTTP head. It is refused as `replay` is before anything is written.
     pub fn locate(&mut self, uri: &[u8], moment: &Moment) -> Result<Located<A>, ReplayFault>
@@ -237,7 +237,7 @@ impl<S: Source, A: Allocator + Copy> Archive<S, A> {
         locate_for(source, rows, kept, uri, moment)
     }
 
-    /// Where the body lies that `replay_at` writes, as `locate` says it. If there is no record it is `NoRecord`, and if
+    /// Where the body is that `replay_at` writes, as `locate` says it. If there is no record it is `NoRecord`, and if
     /// the record there is no capture `NoCapture`.
     pub fn locate_at(&mut self, position: usize) -> Result<Located<A>, BodyFault>
         ensures locates { LocatesAt self.old.listing.rows self.old.index self.old.parts position

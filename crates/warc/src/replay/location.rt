@@ -1,4 +1,4 @@
-//! Where a body lies in the source, for callers that hold its bytes.
+//! Where a body is in the source, for callers that hold its bytes.
 ghost use Rattle.std.specs.Prelude.{List, Result};
 ghost use Rattle.warc_frame.specs.Record.{Record};
 ghost use Rattle.warc.specs.Locating.{LocatesAt, LocatesFor, LocatesOn};
@@ -20,7 +20,7 @@ use warc_reading::Rows;
 use warc_segment::laws::places_are_of_records;
 use warc_value::Moment;
 
-/// Where the payload at the end of a path lies.
+/// Where the payload at the end of a path is.
 fn locate_on<S: Source, A: Allocator + Copy>(
     source: &mut S,
     rows: &Rows<A>,
@@ -38,7 +38,7 @@ fn locate_on<S: Source, A: Allocator + Copy>(
     locate_joined(rows.allocator(), source, path, origin.http, &origin.places)
 }
 
-/// Where the payload lies that the records of a source give for a URI as of a moment.
+/// Where the payload is that the records of a source give for a URI as of a moment.
 pub(crate) fn locate_for<S: Source, A: Allocator + Copy>(
     source: &mut S,
     rows: &Rows<A>,
@@ -57,7 +57,7 @@ pub(crate) fn locate_for<S: Source, A: Allocator + Copy>(
     }
 }
 
-/// Where the body lies that the capture at a position gives.
+/// Where the body is that the capture at a position gives.
 pub(crate) fn locate_at<S: Source, A: Allocator + Copy>(
     source: &mut S,
     rows: &Rows<A>,

@@ -3,7 +3,7 @@ use Rattle.warc_frame.specs.Record.{max_archive}
 use Rattle.warc_pieces.proofs.SearchLemmas.{Tries}
 use Rattle.warc_pieces.proofs.search.next_record.Given as goal
 
--- no good record lies whole from an offset before this one on
+-- no good record is whole from an offset before this one on
 abbrev pub invariant-judging : goal.invariant-judging
 invariant-judging g l = record {
   low : l.from ≤ l.at;

@@ -4,7 +4,7 @@ use Rattle.warc_frame.specs.Reported.{Reported}
 use Rattle.warc_reading.specs.Stream.{Extends, Follows, HasGivenFrom, IsKeptOf, Since, IsReadSoFar}
 use Rattle.warc_reading.proofs.stream.read_through.Given as goal
 
--- some bytes were read behind those of the records that were kept
+-- some bytes were read after those of the records that were kept
 abbrev pub invariant-reading : goal.invariant-reading
 invariant-reading g l = record {
   taken : List ℕ;

@@ -5,7 +5,7 @@ use Rattle.warc_index.specs.Orders.{IsIndexOf}
 use Rattle.warc_index.specs.Referents.{next_of}
 use Rattle.warc_index.proofs.index.RecordIndex+Order+A+A.last_places.Given as goal
 
--- each way was taken on by so many steps, or by more
+-- each way was followed for at least `least` steps
 abbrev pub invariant-doubling : goal.invariant-doubling
 invariant-doubling g l = record {
   some : 1 ≤ l.steps;

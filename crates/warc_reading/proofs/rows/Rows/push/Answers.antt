@@ -5,7 +5,7 @@ use Rattle.warc_reading.proofs.RowLemmas.{push_kept}
 use Rattle.warc_reading.proofs.rows.Rows.push.Given.{Over}
 use Rattle.warc_reading.proofs.rows.Rows.push.Goals as goal
 
--- what is kept with the row behind the others
+-- what is kept with the row after the others
 pushed : (g : Over) (c : goal.After-push_reserved g)
     → AreKept (length c.put-4.new.texts.items) c.push_reserved.new.self.items
     × (map (packed_row c.put-4.new.texts.items) c.push_reserved.new.self.items ≡ map (packed_row c.self.inside.texts.items) c.self.inside.entries.items ++ c.args.row.now ∷ [])
