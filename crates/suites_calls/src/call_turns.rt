@@ -34,6 +34,8 @@ enum Turn {
     Unopened(Fault),
     /// The call failed, and went well when it was made again.
     Failed,
+    /// A request for memory was refused, and the call went well without it.
+    Harmless,
     /// Nothing failed.
     Done,
     Otherwise,
@@ -117,6 +119,7 @@ fn some_or_no(count: u64) -> &'static str {
 struct Turns {
     opening: u64,
     following: u64,
+    harmless: u64,
     /// Whether each came as it had to, until none did.
     is_whole: bool,
 }
@@ -126,6 +129,7 @@ impl Turns {
         Turns {
             opening: 0,
             following: 0,
+            harmless: 0,
             is_whole: false,
         }
     }
@@ -141,6 +145,10 @@ impl Turns {
             }
             Turn::Failed => {
                 self.following = self.following.saturating_add(1);
+                true
+            }
+            Turn::Harmless => {
+                self.harmless = self.harmless.saturating_add(1);
                 true
             }
             Turn::Done => {
@@ -161,15 +169,21 @@ impl Turns {
     ) -> Result<(), AllocError> {
         let (opening, following) = (self.opening, self.following);
         let line = if self.is_whole && is_counted {
-            format!(in alloc; "{opening} {of} while it is opened, {following} behind that\n")?
+            format!(in alloc; "{opening} {of} while it is opened, {following} after that\n")?
         } else if self.is_whole {
             let (opening, following) = (some_or_no(opening), some_or_no(following));
-            format!(in alloc; "{opening} {of} while it is opened, {following} behind that\n")?
+            format!(in alloc; "{opening} {of} while it is opened, {following} after that\n")?
         } else {
-            let number = opening.saturating_add(following);
-            format!(in alloc; "another outcome behind {number} {of}\n")?
+            let number = opening
+                .saturating_add(following)
+                .saturating_add(self.harmless);
+            format!(in alloc; "another outcome after {number} {of}\n")?
         };
-        answer.extend_from_slice(line.as_bytes())
+        answer.extend_from_slice(line.as_bytes())?;
+        if self.harmless > 0 {
+            add_number(alloc, answer, "without effect", self.harmless)?;
+        }
+        Ok(())
     }
 }
 
@@ -203,7 +217,7 @@ fn turn_refused(
     let source = source_of(alloc, bytes, usize::MAX)?;
     let turn = turn_opened(alloc, &heap, source, case, (whole, "out of memory"))?;
     Ok(match turn {
-        Turn::Done if heap.has_refused() => Turn::Otherwise,
+        Turn::Done if heap.has_refused() => Turn::Harmless,
         turn => turn,
     })
 }
@@ -264,7 +278,7 @@ fn count_cut(
         match turn_cut(alloc, subject, case, whole, (number, how))? {
             Turn::Failed => {}
             Turn::Done => return Ok(Some(number)),
-            Turn::Unopened(_) | Turn::Otherwise => return Ok(None),
+            Turn::Unopened(_) | Turn::Harmless | Turn::Otherwise => return Ok(None),
         }
     }
     Ok(None)
@@ -304,7 +318,7 @@ fn say_writes(
             )?;
             answer.extend_from_slice(line.as_bytes())
         }
-        _ => answer.extend_from_slice(b"another outcome behind a write\n"),
+        _ => answer.extend_from_slice(b"another outcome after a write\n"),
     }
 }
 

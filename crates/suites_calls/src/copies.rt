@@ -328,7 +328,7 @@ fn add_writes<S: Source, A: Allocator>(
             )?;
             answer.extend_from_slice(line.as_bytes())
         }
-        _ => answer.extend_from_slice(b"another outcome behind a write\n"),
+        _ => answer.extend_from_slice(b"another outcome after a write\n"),
     }
 }
 
@@ -336,9 +336,9 @@ fn add_writes<S: Source, A: Allocator>(
 fn add_reads(alloc: Global, turns: Option<Turns>, answer: &mut Vec<u8>) -> Result<(), AllocError> {
     let line = match turns {
         Some(Turns { opening, following }) => {
-            format!(in alloc; "{opening} reads while it is opened, {following} behind that\n")?
+            format!(in alloc; "{opening} reads while it is opened, {following} after that\n")?
         }
-        None => format!(in alloc; "another outcome behind a read\n")?,
+        None => format!(in alloc; "another outcome after a read\n")?,
     };
     answer.extend_from_slice(line.as_bytes())
 }
@@ -354,13 +354,13 @@ fn add_requests(
     let line = match turns {
         Some(Turns { opening, following }) if opening > few => {
             format!(in alloc;
-                "more than {few} requests while it is opened, {following} behind that\n"
+                "more than {few} requests while it is opened, {following} after that\n"
             )?
         }
         Some(Turns { opening, following }) => {
-            format!(in alloc; "{opening} requests while it is opened, {following} behind that\n")?
+            format!(in alloc; "{opening} requests while it is opened, {following} after that\n")?
         }
-        None => format!(in alloc; "another outcome behind a request\n")?,
+        None => format!(in alloc; "another outcome after a request\n")?,
     };
     answer.extend_from_slice(line.as_bytes())
 }

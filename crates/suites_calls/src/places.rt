@@ -97,7 +97,7 @@ pub(crate) fn add_head<A: Allocator>(
         Ok(head) => {
             let (fields, len, block) = (head.fields.len(), head.len, head.block_len);
             let line = format!(in alloc;
-                "{} {fields} fields, {len} bytes, and {block} behind it",
+                "{} {fields} fields, {len} bytes, and {block} after it",
                 head.version
             )?;
             add(text, &line)

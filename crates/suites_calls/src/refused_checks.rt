@@ -47,7 +47,7 @@ fn add_refusal(
     answer: &mut Vec<u8>,
 ) -> Result<(), AllocError> {
     let following = if is_following {
-        format!(in alloc; ", behind the requests of the first {front} bytes alone")?
+        format!(in alloc; ", after the requests of the first {front} bytes alone")?
     } else {
         String::new(alloc)
     };

@@ -123,7 +123,7 @@ pub(crate) fn say_reads(
     match count_reads(alloc, asked, &whole, most)? {
         Some((opening, following)) => {
             say_count(alloc, opening, "while the archive is opened", answer)?;
-            say_count(alloc, following, "behind that", answer)
+            say_count(alloc, following, "after that", answer)
         }
         None => answer.extend_from_slice(b"a run ends otherwise\n"),
     }
@@ -240,17 +240,14 @@ fn say_request(
         has_refused,
         again,
     } = run_refused(alloc, asked, number)?;
-    let is_so = if has_refused {
-        is_refused(alloc, &ended, whole)?
-    } else {
-        ended.is_like(whole)
-    };
     let is_again = !has_refused || again.is_like(whole);
-    if !is_so || !is_again {
-        say_count(alloc, number, "refused: the run ends otherwise", answer)?;
-    }
-    if has_refused {
+    let is_like = is_again && ended.is_like(whole);
+    if has_refused && is_like {
+        say_count(alloc, number, "refused: nothing changes", answer)?;
+    } else if has_refused && is_again && is_refused(alloc, &ended, whole)? {
         say_line(ended.err, last, answer)?;
+    } else if !is_like {
+        say_count(alloc, number, "refused: the run ends otherwise", answer)?;
     }
     Ok(has_refused)
 }

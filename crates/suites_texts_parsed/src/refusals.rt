@@ -34,7 +34,7 @@ pub fn say_refusals<T: Attempt>(
     } else if are_reported {
         format!(in alloc; "each told of, {count} in all\n")?
     } else {
-        format!(in alloc; "not told of behind {count}\n")?
+        format!(in alloc; "not reported after {count}\n")?
     };
     answer.extend_from_slice(reported.as_bytes())
 }
