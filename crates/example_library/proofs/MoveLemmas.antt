@@ -20,13 +20,13 @@ use Rattle.warc_write.specs.declared.made.MakeFault.{MakeFault}
 use Rattle.warc_answer.specs.Answers.{Given, IsAnswer}
 use Rattle.warc_answer.specs.declared.answer.Reason.{Reason}
 use Rattle.warc_reading.specs.Archive.{AreGood, IsArchiveOf, IsFaultOf, contents}
-use Rattle.warc.specs.Forms.{record_as, texts_as}
-use Rattle.warc.specs.Indexed.{Archived, IsIndexed}
+use Rattle.warc_rewrite.specs.Forms.{record_as, texts_as}
+use Rattle.warc_lookup.specs.Indexed.{Archived, IsIndexed}
 use Rattle.warc.specs.Laws.{AreSpelledBy, MigrationKeepsAnswers, NoFaultWhereSpelled, WrittenOpensAsSame, WrittenSpells}
 use Rattle.warc_reading.specs.Opening.{RefusesBy, faults_after}
 use Rattle.warc_reading.specs.Row.{Placed, Row}
-use Rattle.warc.specs.Taking.{IsTaken}
-use Rattle.warc.specs.declared.rewrite.forms.Form.TheVariants.{Canonical, Converted}
+use Rattle.warc_replay.specs.Taking.{IsTaken}
+use Rattle.warc_rewrite.specs.declared.forms.Form.TheVariants.{Canonical, Converted}
 use Rattle.example_library.specs.Migration.{IsMigrationOf, IsUnopened}
 use Rattle.example_library.specs.Opened.{IsRefused}
 use Rattle.example_library.specs.RoundTrip.{plan_of_draft}

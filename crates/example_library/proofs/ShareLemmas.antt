@@ -8,11 +8,12 @@ use Rattle.warc_answer.specs.Payloads.{read_record}
 use Rattle.warc_reading.specs.Archive.{IsArchiveOf, IsFaultOf, contents}
 use Rattle.warc_reading.specs.Row.{Row}
 use Rattle.warc.specs.ClosedLaws.{AnswersAreKept, GivesTheSame, IsAnswerAt, IsOutcomeOf, IsSameGiven, IsSameOutcome, IsSameRecord, NeededAreClosed, OutcomesAreKept}
-use Rattle.warc.specs.Closing.{AreWithNeeded}
-use Rattle.warc.specs.Closure.{records_read}
-use Rattle.warc.specs.Indexed.{Archived, IsIndexed}
-use Rattle.warc.specs.Laws.{NoFaultWhereSpelled, RecordsAreSpelled, SelectionIsAnArchive, SelectionIsOfTheSelected}
-use Rattle.warc.specs.Selecting.{ArePositions, at_positions, selected_text}
+use Rattle.warc_rewrite.specs.Closing.{AreWithNeeded}
+use Rattle.warc_rewrite.specs.Closure.{records_read}
+use Rattle.warc_lookup.specs.Indexed.{Archived, IsIndexed}
+use Rattle.warc.specs.Laws.{NoFaultWhereSpelled, RecordsAreSpelled}
+use Rattle.warc_rewrite.specs.SelectionLaws.{SelectionIsAnArchive, SelectionIsOfTheSelected}
+use Rattle.warc_rewrite.specs.Selecting.{ArePositions, at_positions, selected_text}
 use Rattle.example_library.specs.Opened.{IsRefused}
 use Rattle.example_library.specs.Share.{GivesAsBefore, IsShareOf}
 

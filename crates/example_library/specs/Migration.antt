@@ -8,10 +8,10 @@ use Rattle.warc_frame.specs.declared.fault.FaultKind.TheVariants.{Memory, Read}
 use Rattle.warc_answer.specs.Answers.{Given, IsAnswer}
 use Rattle.warc_answer.specs.declared.answer.Reason.{Reason}
 use Rattle.warc_reading.specs.Archive.{IsArchiveOf, contents}
-use Rattle.warc.specs.Forms.{texts_as}
-use Rattle.warc.specs.Indexed.{Archived, IsIndexed}
+use Rattle.warc_rewrite.specs.Forms.{texts_as}
+use Rattle.warc_lookup.specs.Indexed.{Archived, IsIndexed}
 use Rattle.warc_reading.specs.Row.{Row}
-use Rattle.warc.specs.declared.rewrite.forms.Form.TheVariants.{Converted}
+use Rattle.warc_rewrite.specs.declared.forms.Form.TheVariants.{Converted}
 use Rattle.example_library.specs.Opened.{IsRefused}
 use Rattle.example_library.specs.declared.migration.MoveFault.{MoveFault}
 use Rattle.example_library.specs.declared.migration.MoveFault.TheVariants.{Refused, Unwritten, Unopened}

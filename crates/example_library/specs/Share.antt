@@ -9,10 +9,10 @@ use Rattle.warc_answer.specs.declared.answer.ReplayFault.TheVariants.{Out}
 use Rattle.warc_reading.specs.Archive.{IsArchiveOf, contents}
 use Rattle.warc_reading.specs.Row.{Row}
 use Rattle.warc.specs.ClosedLaws.{GivesTheSame, IsAnswerAt, IsOutcomeOf, IsSameGiven, IsSameOutcome, IsSameRecord}
-use Rattle.warc.specs.Closing.{AreWithNeeded}
-use Rattle.warc.specs.Closure.{records_read}
-use Rattle.warc.specs.Indexed.{Archived, IsIndexed}
-use Rattle.warc.specs.Selecting.{selected_text}
+use Rattle.warc_rewrite.specs.Closing.{AreWithNeeded}
+use Rattle.warc_rewrite.specs.Closure.{records_read}
+use Rattle.warc_lookup.specs.Indexed.{Archived, IsIndexed}
+use Rattle.warc_rewrite.specs.Selecting.{selected_text}
 use Rattle.example_library.specs.declared.share.ShareFault.{ShareFault}
 use Rattle.example_library.specs.declared.share.ShareFault.TheVariants.{Unclosed, Unwritten, Unopened}
 

@@ -2,8 +2,8 @@
 ghost use Rattle.std.specs.Prelude.{◌≡◌, IfErr, IfOk};
 ghost use Rattle.warc_frame.specs.Seen.{IfHeld};
 ghost use Rattle.warc_reading.specs.Archive.{IsArchiveOf, contents};
-ghost use Rattle.warc.specs.Forms.{texts_as};
-ghost use Rattle.warc.specs.declared.rewrite.forms.Form.TheVariants.{Converted};
+ghost use Rattle.warc_rewrite.specs.Forms.{texts_as};
+ghost use Rattle.warc_rewrite.specs.declared.forms.Form.TheVariants.{Converted};
 ghost use Rattle.example_library.specs.Migration.{IsNotMoved, IsMigrationOf};
 
 use crate::opened::opened;

@@ -1,6 +1,6 @@
 //! Archives in memory.
 ghost use Rattle.std.specs.Prelude.{◌≡◌, IfErr, IfOk};
-ghost use Rattle.warc.specs.Indexed.{IsIndexed};
+ghost use Rattle.warc_lookup.specs.Indexed.{IsIndexed};
 ghost use Rattle.example_library.specs.Opened.{IsRefused};
 
 use std::alloc::Global;

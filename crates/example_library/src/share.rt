@@ -3,8 +3,8 @@ ghost use Rattle.std.specs.Prelude.{◌≡◌, length, IfErr, IfOk};
 ghost use Rattle.warc_frame.specs.Effects.{IsOfDevice};
 ghost use Rattle.warc_frame.specs.Seen.{IfHeld};
 ghost use Rattle.warc_reading.specs.Archive.{IsArchiveOf};
-ghost use Rattle.warc.specs.Indexed.{IsIndexed};
-ghost use Rattle.warc.specs.Selecting.{ArePositions, selected_text};
+ghost use Rattle.warc_lookup.specs.Indexed.{IsIndexed};
+ghost use Rattle.warc_rewrite.specs.Selecting.{ArePositions, selected_text};
 ghost use Rattle.example_library.specs.Share.{IsNotShared, IsShareOf};
 
 use crate::opened::opened;

@@ -8,7 +8,7 @@ use Rattle.warc_answer.specs.Replays.{IsReplay, given}
 use Rattle.warc_answer.specs.declared.answer.Answer.{Answer}
 use Rattle.warc_reading.proofs.StreamLemmas.{spells_all}
 use Rattle.warc_reading.specs.Archive.{contents}
-use Rattle.warc.specs.Indexed.{Archived, IsIndexed}
+use Rattle.warc_lookup.specs.Indexed.{Archived, IsIndexed}
 use Rattle.example_page.specs.Page.{IsPageOf}
 
 pub known_bytes : (one other : List ℕ) → Some one ≡ Some other → one ≡ other

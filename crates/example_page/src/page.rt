@@ -1,7 +1,7 @@
 //! The page that an archive in memory holds: a caller that proves what it promises.
 ghost use Rattle.std.specs.Option.{IfSome};
 ghost use Rattle.std.specs.Prelude.{◌≡◌, IfOk, List, false, ℕ};
-ghost use Rattle.warc.specs.Indexed.{IsIndexed};
+ghost use Rattle.warc_lookup.specs.Indexed.{IsIndexed};
 ghost use Rattle.example_page.specs.Page.{IsPageOf};
 
 use std::alloc::Global;

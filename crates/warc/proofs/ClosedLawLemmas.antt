@@ -23,17 +23,17 @@ use Rattle.warc_answer.specs.declared.answer.Reason.TheVariants.{NotFound}
 use Rattle.warc_answer.specs.declared.answer.ReplayFault.TheVariants.{Reason, Out}
 use Rattle.warc_reading.specs.Archive.{contents}
 use Rattle.warc_reading.specs.Row.{Placed, Row, row_of}
-use Rattle.warc.specs.Bodies.{IsBodyAt, IsCaptureAt, IsOtherAt}
-use Rattle.warc.specs.Captures.{line_by}
+use Rattle.warc_replay.specs.Bodies.{IsBodyAt, IsCaptureAt, IsOtherAt}
+use Rattle.warc_replay.specs.Captures.{line_by}
 use Rattle.warc.specs.ClosedLaws.{AnswersAreKept, AreSameRecord, AreClosed, BodiesAreKept, IsAnswerAt, IsSameRecord, IsOutcomeOf, IsSameGiven, IsSameOutcome, IsSameResult, IsSameStored, LinesAreKept, OutcomesAreKept, StoredBodiesAreKept}
-use Rattle.warc.specs.Laws.{SelectionIsOfTheSelected}
-use Rattle.warc.specs.Outcomes.{CaptureSeen, IsFrontAt, IsStoredOut, StoredAnswer, origin_on, stored_text}
-use Rattle.warc.specs.Selecting.{ArePositions, at_positions}
-use Rattle.warc.specs.declared.fault.BodyFault.{BodyFault}
-use Rattle.warc.specs.declared.fault.BodyFault.TheVariants.{NoRecord, NoCapture, Replay}
+use Rattle.warc_rewrite.specs.SelectionLaws.{SelectionIsOfTheSelected}
+use Rattle.warc_replay.specs.Outcomes.{CaptureSeen, IsFrontAt, IsStoredOut, StoredAnswer, origin_on, stored_text}
+use Rattle.warc_rewrite.specs.Selecting.{ArePositions, at_positions}
+use Rattle.warc_replay.specs.declared.fault.BodyFault.{BodyFault}
+use Rattle.warc_replay.specs.declared.fault.BodyFault.TheVariants.{NoRecord, NoCapture, Replay}
 use Rattle.warc.proofs.ClosedLemmas.{same_joined, same_origin}
 use Rattle.warc.proofs.PartLemmas.{is_there}
-use Rattle.warc.proofs.SelectionLaws.{at_map}
+use Rattle.warc_rewrite.proofs.SelectionLaws.{at_map}
 use Rattle.warc.proofs.WayLemmas.{AreSame}
 
 -- ---- paths

@@ -15,13 +15,13 @@ use Rattle.warc_segment.specs.Joined.{ReadRecord, joined_records, piece_read, wi
 use Rattle.warc_segment.specs.Gaps.{gap_of, joined, unless_gap}
 use Rattle.warc_segment.specs.Series.{Member, Piece, member_of, numbered, series_of}
 use Rattle.warc_answer.specs.Answers.{index_of}
-use Rattle.warc.specs.Closing.{NeedsNoOther}
+use Rattle.warc_rewrite.specs.Closing.{NeedsNoOther}
 use Rattle.warc.specs.ClosedLaws.{IsSameRecord}
-use Rattle.warc.specs.Selecting.{ArePositions, at_positions}
+use Rattle.warc_rewrite.specs.Selecting.{ArePositions, at_positions}
 use Rattle.warc.proofs.JoinedPartLemmas.{joined_moved, moved, with_moved}
 use Rattle.warc.proofs.NeedLemmas.{member_is}
 use Rattle.warc.proofs.PartLemmas.{contained, is_given, is_there, same_from, is_slot_at}
-use Rattle.warc.proofs.SelectionLaws.{AscendFrom, ascends, at_map}
+use Rattle.warc_rewrite.proofs.SelectionLaws.{AscendFrom, ascends, at_map}
 use Rattle.warc.proofs.WayLemmas.{AreSame, origin_goes}
 
 -- ---- a member at another position

@@ -8,7 +8,7 @@ use Rattle.std.specs.Prelude.{IsSome, is_some, option_and_then}
 use Rattle.warc_value.specs.Dates.{date_of, fits_place, instant_if_valid, instant_of}
 use Rattle.warc_value.proofs.Alphabet.{both-left, both-right}
 use Rattle.warc_value.proofs.DateLemmas.{by_place, date_of-fits, date_of-is, fits_from, fits_from-zip, has_length, long-fits, places, places-fit, reads}
-use Rattle.warc.specs.Captures.{date_front, full_date}
+use Rattle.warc_replay.specs.Captures.{date_front, full_date}
 
 -- what is added for what is left out
 abbrev first : List ℕ

@@ -27,7 +27,7 @@ use Rattle.warc_index.specs.Orders.{capture_entry, entries_from, id_entry, id_en
 use Rattle.warc_segment.specs.Joined.{PlacedRecord}
 use Rattle.warc_segment.specs.Kept.{Kept as Parts, KeptMember, kept_by, kept_of}
 use Rattle.warc_reading.specs.Archive.{SpellsFrom}
-use Rattle.warc.specs.Indexed.{Archived, IsIndexed, indexed_record, placed_record}
+use Rattle.warc_lookup.specs.Indexed.{Archived, IsIndexed, indexed_record, placed_record}
 use Rattle.warc.specs.Keeping.{kept_bytes}
 use Rattle.warc_reading.specs.Row.{Placed, row_of, texts_len}
 use Rattle.warc.specs.Bounds.{IsKeptCount, head_length}

@@ -12,10 +12,10 @@ use Rattle.warc_answer.specs.declared.answer.Reason.{Reason as Why}
 use Rattle.warc_answer.specs.declared.answer.ReplayFault.{ReplayFault}
 use Rattle.warc_answer.specs.declared.answer.ReplayFault.TheVariants.{Reason, Out}
 use Rattle.warc_reading.specs.Archive.{AreGood, contents}
-use Rattle.warc.specs.Forms.{record_as, texts_as}
+use Rattle.warc_rewrite.specs.Forms.{record_as, texts_as}
 use Rattle.warc.specs.Laws.{ConversionKeepsAnswers, MigrationKeepsAnswers, MigrationKeepsReplays, WrittenOpensAsSame, WrittenSpells}
-use Rattle.warc.specs.declared.rewrite.forms.Form.{Form}
-use Rattle.warc.specs.declared.rewrite.forms.Form.TheVariants.{Canonical, Converted}
+use Rattle.warc_rewrite.specs.declared.forms.Form.{Form}
+use Rattle.warc_rewrite.specs.declared.forms.Form.TheVariants.{Canonical, Converted}
 use Rattle.warc_reading.proofs.StreamLemmas.{spells_all}
 
 -- what is written in a form is what is rendered of the records in that form

@@ -24,8 +24,8 @@ use Rattle.warc_segment.specs.Series.{Member, Piece, member_of, numbered}
 use Rattle.warc_answer.specs.Answers.{index_of}
 use Rattle.warc_answer.specs.Payloads.{read_record}
 use Rattle.warc.specs.ClosedLaws.{AreClosed, NeededAreClosed, OthersAreClosed}
-use Rattle.warc.specs.Selecting.{ArePositions}
-use Rattle.warc.specs.Closing.{AreWithNeeded, AreWithout, ComesTo, IsSegmentOf, Needs, NeedsNoOther}
+use Rattle.warc_rewrite.specs.Selecting.{ArePositions}
+use Rattle.warc_rewrite.specs.Closing.{AreWithNeeded, AreWithout, ComesTo, IsSegmentOf, Needs, NeedsNoOther}
 use Rattle.warc.proofs.PartLemmas.{given_at}
 
 -- ---- members of a series

@@ -15,7 +15,7 @@ use Rattle.warc_record.specs.Readings.{unless_empty}
 use Rattle.warc_write.specs.Conversion.{ConvertedStaysGood, converted}
 use Rattle.warc_reading.specs.Archive.{AreGood, SpellsFrom, contents}
 use Rattle.warc.specs.Laws.{OutputsAreCounted}
-use Rattle.warc.specs.Listing.{line_of, listing, shown}
+use Rattle.warc_judged.specs.Listing.{line_of, listing, shown}
 use Rattle.warc_reading.specs.Row.{Placed, row_of}
 use Rattle.warc_reading.proofs.StreamLemmas.{spells_all}
 use Rattle.warc_checking.proofs.SizeLemmas.{area_short, check_short, digits, head_len, line_len, record_len, records_len}

@@ -8,8 +8,8 @@ use Rattle.std.proofs.lemmas.List.Elements.{All-head, All-tail}
 use Rattle.std.proofs.lemmas.List.Kept.{AllPairs-from_increasing}
 use Rattle.std.proofs.lemmas.Option.{get_or_from_slice_get, option_and_then_some, slice_get_within, slice_get-get_or}
 use Rattle.warc.specs.ClosedLaws.{IsSameRecord}
-use Rattle.warc.specs.Selecting.{at_positions}
-use Rattle.warc.proofs.SelectionLaws.{AscendFrom}
+use Rattle.warc_rewrite.specs.Selecting.{at_positions}
+use Rattle.warc_rewrite.proofs.SelectionLaws.{AscendFrom}
 
 -- ---- places
 

@@ -4,13 +4,13 @@ use Rattle.std.proofs.lemmas.List.{take_all}
 use Rattle.std.specs.List.{concat, enumerate_from, flat_map, join_with_byte}
 use Rattle.warc_record.specs.Ids.{bare_text}
 use Rattle.warc_reading.specs.Row.{Row}
-use Rattle.warc.specs.Fixity.{counts_line, verdict_text}
-use Rattle.warc.specs.Listing.{shown}
-use Rattle.warc.specs.PayloadText.{payload_counts, payload_line, payload_line_at, payload_lines, payloads_text, plain_verdict, reason_of}
-use Rattle.warc.specs.PayloadVerdicts.{PayloadJudgements}
-use Rattle.warc.specs.declared.opened.fixity.Counts.{Counts}
-use Rattle.warc.specs.declared.record.payload.PayloadVerdict.{PayloadVerdict}
-use Rattle.warc.proofs.LineLemmas.{lines_front}
+use Rattle.warc_judged.specs.Fixity.{counts_line, verdict_text}
+use Rattle.warc_judged.specs.Listing.{shown}
+use Rattle.warc_replay.specs.PayloadText.{payload_counts, payload_line, payload_line_at, payload_lines, payloads_text, plain_verdict, reason_of}
+use Rattle.warc_replay.specs.PayloadVerdicts.{PayloadJudgements}
+use Rattle.warc_judged.specs.declared.digests.Counts.{Counts}
+use Rattle.warc_replay.specs.declared.record.payload.PayloadVerdict.{PayloadVerdict}
+use Rattle.warc_judged.proofs.LineLemmas.{lines_front}
 
 five : (a b c d e : List ℕ) → concat ((a ++ 9 ∷ []) ∷ (b ++ 9 ∷ []) ∷ (c ++ 9 ∷ []) ∷ (d ++ 9 ∷ []) ∷ (e ++ 10 ∷ []) ∷ []) ≡ join_with_byte 9 (a ∷ b ∷ c ∷ d ∷ e ∷ []) ++ 10 ∷ []
 five a b c d e = simp append_assoc

@@ -10,8 +10,8 @@ use Rattle.std.proofs.lemmas.List.Elements.{All-get_or, Contains-append_right}
 use Rattle.std.proofs.lemmas.List.Sorted.{IsPermutation-cons, IsPermutation-middle, IsPermutation-refl, IsPermutation-trans}
 use Rattle.std.proofs.lemmas.Map.Made.{Contains-tail}
 use Rattle.warc.specs.Laws.{OthersAreTheRest}
-use Rattle.warc.specs.Selecting.{at_positions}
-use Rattle.warc.proofs.SelectionLaws.{AscendFrom, ascends, one_left}
+use Rattle.warc_rewrite.specs.Selecting.{at_positions}
+use Rattle.warc_rewrite.proofs.SelectionLaws.{AscendFrom, ascends, one_left}
 
 -- positions from n on, and all others from n on below a count
 record IsRest (count n : ℕ) (ps os : List ℕ) : Type 0 where

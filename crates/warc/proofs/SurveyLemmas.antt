@@ -1,7 +1,6 @@
 -- The parts of a survey, and the verdicts by the digests that are wanted.
-use Rattle.std.proofs.Common.{◌≡◌, ◌≢◌, ◌==◌, ℕ, zero, suc, ◌+◌, ◌<◌, ◌≤◌, min, Bool, true, false, true≢false, List, [], ◌∷◌, ◌++◌, length, map, take, codes, add-one, append_assoc, Option, Some, None, option_and_then, Result, Ok, Err, IfErr, OnOk, is_err, if◌then◌else◌, get_or, refl, sym, ap, ap₂, subst, ◌∙◌, arith}
-use Rattle.std.proofs.Math.ListN.{set}
-use Rattle.std.proofs.lemmas.List.{length-map, map-append, take_all}
+use Rattle.std.proofs.Common.{◌≡◌, ◌≢◌, ◌==◌, ℕ, suc, ◌+◌, ◌<◌, ◌≤◌, Bool, true, false, true≢false, List, [], ◌∷◌, ◌++◌, length, map, take, codes, append_assoc, Option, Some, None, option_and_then, Result, Ok, Err, IfErr, if◌then◌else◌, refl, sym, ap, ap₂, subst, ◌∙◌, arith}
+use Rattle.std.proofs.lemmas.List.{length-map, take_all}
 use Rattle.std.proofs.lemmas.List.Elements.{All-append, All-cons, All-contains, All-nil}
 use Rattle.std.proofs.lemmas.Result.{IfErr-weaker, on_ok_weaker}
 use Rattle.std.specs.Io.KnownBytes.{append_known}
@@ -16,7 +15,6 @@ use Rattle.warc_value.specs.declared.hash.Verdict.TheVariants.{Good, Bad, Unchec
 use Rattle.warc_value.specs.declared.hash.Wanted.{Wanted}
 use Rattle.warc_value.specs.declared.hash.Wanted.TheVariants.{Sha1, Unchecked as NoDigest}
 use Rattle.warc_fixity.specs.Judged.{stated_verdict}
-use Rattle.warc_frame.specs.Count.{raised}
 use Rattle.warc_frame.specs.Device.{Staged}
 use Rattle.warc_frame.specs.Effects.{Puts}
 use Rattle.warc_frame.specs.Failing.{HasFailedBy, MayHaveFailedBy, failed_by, is_read}
@@ -40,35 +38,16 @@ use Rattle.warc_reading.proofs.PlaceLemmas.{HeadsAreRead, checkable_archive}
 use Rattle.warc_checking.specs.Checking.{check_text}
 use Rattle.warc_checking.specs.Lines.{PutsLines}
 use Rattle.warc_checking.specs.OwnFindings.{AreJudged}
-use Rattle.warc.specs.Captures.{capture_positions, captures_text, position_if}
-use Rattle.warc.specs.Capturing.{AreFirstOutcomes, AreKnownBlocks, AreOutcomes, PutsCaptures}
-use Rattle.warc.specs.Fixity.{Judgements, fixity_text, stated_on}
-use Rattle.warc.specs.Listing.{listing}
-use Rattle.warc.specs.Outcomes.{CaptureSeen}
-use Rattle.warc.specs.Summary.{IsSummaryOf, flags_with, is_numbered, summary_text}
-use Rattle.warc.specs.Survey.{IsSurveyFront, IsSurveyKept, IsSurveyOf, IsSurveyOut, PutsPart, Survey, SurveyKept, SurveyMarks, WritesSurvey, claimed, claimed_on, known_text, part_name, settled_claim, settled_claims, survey_text}
-use Rattle.warc.specs.declared.opened.summary.Summary.{Summary}
-use Rattle.warc.proofs.KnownLemmas.{known_as}
-
--- a text after another one
-pub puts_then : {X Y : Type 0} {old mid new : Seen} {waits staged waiting : Staged} {x : X} {answer : Result Y SendFault} {a b : List ℕ}
-    → Puts old mid waits staged (Ok x) a → Puts mid new staged waiting answer b → Puts old new waits waiting answer (a ++ b)
-puts_then {X} {Y} {old} {mid} {new} {waits} {staged} {waiting} {x} {answer} {a} {b} first second = record {
-  out = λ start output is. on_ok_weaker answer (same_staged (append_assoc output a b)) (second.out start (output ++ a) (first.out start output is));
-  cut = λ start output is. IfErr-weaker answer _ _ (λ e went. same_out (append_assoc output a b) went) (second.cut start (output ++ a) (first.out start output is));
-  cause = second.cause ∙ ap (λ n. if is_err answer then raised n else n) first.cause;
-  left = second.left;
-}
-
--- a text whose write failed, and another one that would follow
-pub puts_cut : {X Y : Type 0} {old new : Seen} {waits waiting : Staged} {e : SendFault} {a : List ℕ} (b : List ℕ)
-    → Puts {X = X} old new waits waiting (Err e) a → Puts {X = Y} old new waits waiting (Err e) (a ++ b)
-puts_cut {X} {Y} {old} {new} {waits} {waiting} {e} {a} b puts = record {
-  out = λ start output is. tt;
-  cut = λ start output is. same_out (append_assoc output a b) (longer b (puts.cut start output is));
-  cause = puts.cause;
-  left = puts.left;
-}
+use Rattle.warc_replay.specs.Captures.{capture_positions, captures_text, position_if}
+use Rattle.warc_replay.specs.Capturing.{AreFirstOutcomes, AreKnownBlocks, AreOutcomes, PutsCaptures}
+use Rattle.warc_judged.specs.Fixity.{Judgements, fixity_text, stated_on}
+use Rattle.warc_judged.specs.Listing.{listing}
+use Rattle.warc_replay.specs.Outcomes.{CaptureSeen}
+use Rattle.warc_judged.specs.Summary.{IsSummaryOf, flags_with, summary_text}
+use Rattle.warc.specs.Survey.{IsSurveyFront, IsSurveyKept, IsSurveyOf, IsSurveyOut, PutsPart, SurveyKept, WritesSurvey, known_text, part_name, survey_text}
+use Rattle.warc_judged.specs.Claims.{claimed, claimed_on, settled_claim, settled_claims}
+use Rattle.warc_judged.specs.declared.summary.Summary.{Summary}
+use Rattle.warc_replay.proofs.KnownLemmas.{known_as}
 
 -- an answer without its number
 abbrev pub without_number : Result ℕ OutFault → Result (Unit {0}) OutFault
@@ -183,47 +162,10 @@ module _ (law : (value block : List ℕ) → verdict_of (wanted_digest value) bl
   claims_settled (p ∷ ps) =
       ap₂ (λ (v : Verdict) (l : List Verdict). v ∷ l) (claim_of (first_value warc_block_digest p.content.fields) p.content.block) (claims_settled ps)
 
-settled_step : (cs vs : List Verdict) (i : ℕ) (c v : Verdict) → i < length cs → i < length vs
-    → set (settled_claims cs (take i vs)) i (settled_claim (get_or (settled_claims cs (take i vs)) i c) (get_or vs i v)) ≡ settled_claims cs (take (suc i) vs)
-settled_step [] vs i c v low less = absurd (omega (arith, low))
-settled_step (d ∷ cs) [] i c v low less = absurd (omega (arith, less))
-settled_step (d ∷ []) (w ∷ ws) zero c v low less = refl
-settled_step (d ∷ e ∷ cs) (w ∷ ws) zero c v low less = refl
-settled_step (d ∷ cs) (w ∷ ws) (suc i) c v low less = ap (λ l. settled_claim d w ∷ l) (settled_step cs ws i c v (omega (arith, low)) (omega (arith, less)))
-
--- the next claim is settled
-pub settled_next : (cs vs : List Verdict) (i : ℕ) (c v : Verdict) → i < length cs → i < length vs
-    → set (settled_claims cs (take i vs)) i (settled_claim (get_or (settled_claims cs (take i vs)) i c) (get_or vs i v)) ≡ settled_claims cs (take (i + 1) vs)
-settled_next cs vs i c v low less = settled_step cs vs i c v low less ∙ ap (λ n. settled_claims cs (take n vs)) (sym (add-one i))
-
--- nothing is settled yet
-pub settled_none : (cs : List Verdict) → settled_claims cs [] ≡ cs
-settled_none [] = refl
-settled_none (c ∷ cs) = refl
-
--- all that can be settled are
-pub settled_rest : (cs vs : List Verdict) (n : ℕ) → min (length cs) (length vs) ≤ n → settled_claims cs (take n vs) ≡ settled_claims cs vs
-settled_rest [] vs n le = refl
-settled_rest (c ∷ cs) [] zero le = refl
-settled_rest (c ∷ cs) [] (suc n) le = refl
-settled_rest (c ∷ cs) (v ∷ vs) zero le = absurd (omega (arith, le))
-settled_rest (c ∷ cs) (v ∷ vs) (suc n) le = ap (λ l. settled_claim c v ∷ l) (settled_rest cs vs n (omega (arith, le)))
-
 pub settled_len : (cs vs : List Verdict) → length (settled_claims cs vs) ≡ length cs
 settled_len [] vs = refl
 settled_len (c ∷ cs) [] = refl
 settled_len (c ∷ cs) (v ∷ vs) = ap (λ n. suc n) (settled_len cs vs)
-
--- one more record's marks
-pub marks_more : {E : Type 0} (answer : Result (Unit {0}) E) (old new : SurveyMarks) (records : List Placed) (p : Placed) (segmented : Bool) (claim : Verdict)
-    → (old.segmented ≡ map is_numbered records) × (old.claims ≡ map claimed_on records) → segmented ≡ is_numbered p → claim ≡ claimed_on p
-    → OnOk answer ((new.segmented ≡ old.segmented ++ segmented ∷ []) × (new.claims ≡ old.claims ++ claim ∷ []))
-    → OnOk answer ((new.segmented ≡ map is_numbered (records ++ p ∷ [])) × (new.claims ≡ map claimed_on (records ++ p ∷ [])))
-marks_more (Ok u) old new records p segmented claim is numbered claims added = (
-  added.0 ∙ ap₂ (λ (l : List Bool) (x : Bool). l ++ x ∷ []) is.0 numbered ∙ sym (map-append is_numbered records (p ∷ [])),
-  added.1 ∙ ap₂ (λ (l : List Verdict) (x : Verdict). l ++ x ∷ []) is.1 claims ∙ sym (map-append claimed_on records (p ∷ [])),
-)
-marks_more (Err e) old new records p segmented claim is numbered claims added = tt
 
 -- ---- the captures are those of records
 

@@ -17,7 +17,7 @@ use Rattle.warc_index.specs.Walks.{ComesBack, walk}
 use Rattle.warc_index.specs.declared.unfound.Unfound.{Unfound}
 use Rattle.warc_index.specs.declared.unfound.Unfound.TheVariants.{NoCapture, NotYet, UnknownProfile, NoReference, Unresolved, Loop}
 use Rattle.warc.specs.ClosedLaws.{IsSameRecord}
-use Rattle.warc.specs.Selecting.{ArePositions, at_positions}
+use Rattle.warc_rewrite.specs.Selecting.{ArePositions, at_positions}
 use Rattle.warc.proofs.PartLemmas.{at_below, came_from, contained, got, is_there, place_of, rises, rises_back, same_at, same_place}
 
 -- ---- the first that passes

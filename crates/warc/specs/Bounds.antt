@@ -1,7 +1,7 @@
 -- How much may be kept of an archive: the texts of a head may be kept for two ends, and none more than twice.
 use Rattle.std.specs.Prelude.{◌≡◌, ℕ, ◌*◌, ◌-◌, ◌≤◌}
 use Rattle.std.specs.List.{sum_by}
-use Rattle.warc.specs.Indexed.{Archived}
+use Rattle.warc_lookup.specs.Indexed.{Archived}
 use Rattle.warc.specs.Keeping.{kept_bytes}
 use Rattle.warc_reading.specs.Row.{Row, texts_len}
 

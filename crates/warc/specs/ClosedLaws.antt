@@ -9,12 +9,12 @@ use Rattle.warc_answer.specs.declared.answer.Answer.{Answer}
 use Rattle.warc_answer.specs.declared.answer.Reason.{Reason}
 use Rattle.warc_reading.specs.Archive.{IsArchiveOf}
 use Rattle.warc_reading.specs.Row.{Row}
-use Rattle.warc.specs.Bodies.{IsBodyAt}
-use Rattle.warc.specs.Captures.{capture_line, line_by}
-use Rattle.warc.specs.Closing.{AreWithNeeded, AreWithout, NeedsNoOther}
-use Rattle.warc.specs.Outcomes.{CaptureSeen, IsOutcome, IsStoredOut, StoredAnswer}
-use Rattle.warc.specs.Selecting.{ArePositions, at_positions, selected_text}
-use Rattle.warc.specs.declared.fault.BodyFault.{BodyFault}
+use Rattle.warc_replay.specs.Bodies.{IsBodyAt}
+use Rattle.warc_replay.specs.Captures.{capture_line, line_by}
+use Rattle.warc_rewrite.specs.Closing.{AreWithNeeded, AreWithout, NeedsNoOther}
+use Rattle.warc_replay.specs.Outcomes.{CaptureSeen, IsOutcome, IsStoredOut, StoredAnswer}
+use Rattle.warc_rewrite.specs.Selecting.{ArePositions, at_positions, selected_text}
+use Rattle.warc_replay.specs.declared.fault.BodyFault.{BodyFault}
 
 -- positions of some of these records, which need no other
 pub record AreClosed (records : List Record) (positions : List ℕ) : Type 0 where

@@ -3,7 +3,7 @@ use Rattle.std.specs.Prelude.{ℕ, ◌+◌, length}
 use Rattle.std.specs.List.{sum_by}
 use Rattle.warc_index.specs.Orders.{text_bytes}
 use Rattle.warc_reading.specs.Row.{texts_len}
-use Rattle.warc.specs.Indexed.{Archived}
+use Rattle.warc_lookup.specs.Indexed.{Archived}
 
 -- the texts of the rows, those by which records are found, and the keys of the records that segments are of
 abbrev pub kept_bytes : {S : Type 0} → Archived S → ℕ

@@ -1,6 +1,5 @@
 -- The laws of archives.
 use Rattle.std.specs.Prelude.{◌≡◌, ◌≢◌, ◌⊎◌, ◌↔◌, ℕ, ◌^◌, ◌<◌, ◌≤◌, List, ◌++◌, length, map, Option, Some, Result, IsSome}
-use Rattle.std.specs.List.{range_with_len}
 use Rattle.std.specs.List.Sorted.{IsPermutation}
 use Rattle.warc_value.specs.Dates.{Instant, instant_of}
 use Rattle.warc_frame.specs.Record.{Record, max_archive}
@@ -18,13 +17,13 @@ use Rattle.warc_reading.specs.Opening.{IsRefusalOf, faults_after}
 use Rattle.warc_checking.specs.Checking.{check_text}
 use Rattle.warc_write.specs.Conversion.{converted}
 use Rattle.warc_write.specs.Rendering.{AllGood}
-use Rattle.warc.specs.Captures.{full_date}
-use Rattle.warc.specs.Forms.{record_as, texts_as}
-use Rattle.warc.specs.Listing.{listing}
-use Rattle.warc.specs.Selecting.{AreOthers, ArePositions, at_positions, selected_text}
+use Rattle.warc_replay.specs.Captures.{full_date}
+use Rattle.warc_rewrite.specs.Forms.{record_as, texts_as}
+use Rattle.warc_judged.specs.Listing.{listing}
+use Rattle.warc_rewrite.specs.Selecting.{AreOthers, ArePositions, at_positions}
 use Rattle.warc_reading.specs.Row.{Placed, Row, row_of}
-use Rattle.warc.specs.declared.rewrite.forms.Form.{Form}
-use Rattle.warc.specs.declared.rewrite.forms.Form.TheVariants.{Canonical, Converted}
+use Rattle.warc_rewrite.specs.declared.forms.Form.{Form}
+use Rattle.warc_rewrite.specs.declared.forms.Form.TheVariants.{Canonical, Converted}
 
 -- these good records are spelled by the bytes
 pub record AreSpelledBy (bytes : List ℕ) (records : List Record) : Type 0 where
@@ -109,23 +108,6 @@ abbrev pub MigrationKeepsReplays : Type 0
 MigrationKeepsReplays = (records : List Record) → AreGood records → (rows : List Row) (is : IsMigrated records rows)
     → (uri : List ℕ) (moment : Instant) (answer : Result Answer ReplayFault) (old new : Option (List ℕ))
     → IsReplay (contents is.are.records) uri moment answer old new ↔ IsReplay records uri moment answer old new
-
--- what is written of the records at positions of an archive is an archive
-abbrev pub SelectionIsAnArchive : Type 0
-SelectionIsAnArchive = (bytes : List ℕ) (rows : List Row) (positions : List ℕ) → IsArchiveOf bytes rows
-    → ArePositions (length rows) positions
-    → (others : List Row) × IsArchiveOf (selected_text rows positions bytes) others
-
--- and its records are those at the positions, in their order
-abbrev pub SelectionIsOfTheSelected : Type 0
-SelectionIsOfTheSelected = (bytes : List ℕ) (rows : List Row) (is : IsArchiveOf bytes rows) (positions : List ℕ)
-    (others : List Row) (other : IsArchiveOf (selected_text rows positions bytes) others)
-    → contents other.are.records ≡ at_positions (contents is.are.records) positions
-
--- what is written of all records is the archive, byte for byte
-abbrev pub AllGiveTheArchive : Type 0
-AllGiveTheArchive = (bytes : List ℕ) (rows : List Row) → IsArchiveOf bytes rows
-    → selected_text rows (range_with_len 0 (length rows)) bytes ≡ bytes
 
 -- the records at positions and those at all others are all records, each once
 abbrev pub OthersAreTheRest : Type 0

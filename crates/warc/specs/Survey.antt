@@ -1,6 +1,6 @@
 -- What `survey` writes of an archive: what `list`, `fixity`, `check`, `summary` and `captures` write, each after a line
 -- with its name. This project's own notion.
-use Rattle.std.specs.Prelude.{◌≡◌, ℕ, Bool, List, [], ◌∷◌, ◌++◌, map, take, codes, Option, Result, IfErr, OnOk}
+use Rattle.std.specs.Prelude.{◌≡◌, ℕ, Bool, List, ◌++◌, map, take, codes, Option, Result, IfErr, OnOk}
 use Rattle.std.specs.Io.KnownBytes.{append_known}
 use Rattle.warc_frame.specs.Device.{Staged}
 use Rattle.warc_frame.specs.Effects.{FailsBy, Preserves}
@@ -10,28 +10,25 @@ use Rattle.warc_frame.specs.Seen.{IfHeld, Seen, SeenSource}
 use Rattle.warc_frame.specs.Send.{IsStaged, WentOut, sent_of}
 use Rattle.warc_frame.specs.declared.fault.OutFault.{OutFault}
 use Rattle.warc_record.specs.Findings.{SeenFinding}
-use Rattle.warc_record.specs.Readings.{digest_wanted}
 use Rattle.warc_value.specs.declared.hash.Verdict.{Verdict}
-use Rattle.warc_value.specs.declared.hash.Verdict.TheVariants.{Good, Bad, Unchecked}
-use Rattle.warc_value.specs.declared.hash.Wanted.{Wanted}
-use Rattle.warc_value.specs.declared.hash.Wanted.TheVariants.{Sha1, Unchecked as NoDigest}
 use Rattle.warc_index.specs.Orders.{Indexes}
 use Rattle.warc_segment.specs.Kept.{Kept as Parts}
 use Rattle.warc_reading.specs.Archive.{Contents, IsArchiveOf, contents}
-use Rattle.warc.specs.Indexed.{AreOf}
+use Rattle.warc_lookup.specs.Indexed.{AreOf, IsIndexedBy}
 use Rattle.warc_reading.specs.Judging.{verdict_on}
 use Rattle.warc_reading.specs.Row.{Placed, Row}
 use Rattle.warc_checking.specs.Checking.{check_text}
 use Rattle.warc_checking.specs.Judged.{own_findings}
 use Rattle.warc_checking.specs.OwnFindings.{Found, unjudged}
-use Rattle.warc.specs.Captures.{capture_positions, captures_text}
-use Rattle.warc.specs.Capturing.{AreOutcomes}
-use Rattle.warc.specs.Fixity.{AreDigested, Judgements, digest_kept, fixity_text, stated_on}
-use Rattle.warc.specs.Listing.{listing}
-use Rattle.warc.specs.Outcomes.{CaptureSeen}
-use Rattle.warc.specs.Replaying.{AsksInside, IsIndexedBy}
-use Rattle.warc.specs.Summary.{AreFlagged, Flags, IsSummaryOf, is_numbered, summary_text}
-use Rattle.warc.specs.declared.opened.summary.Summary.{Summary}
+use Rattle.warc_replay.specs.Captures.{capture_positions, captures_text}
+use Rattle.warc_replay.specs.Capturing.{AreOutcomes}
+use Rattle.warc_judged.specs.Fixity.{AreDigested, Judgements, digest_kept, fixity_text, stated_on}
+use Rattle.warc_judged.specs.Listing.{listing}
+use Rattle.warc_replay.specs.Outcomes.{CaptureSeen}
+use Rattle.warc_replay.specs.Replaying.{AsksInside}
+use Rattle.warc_judged.specs.Summary.{AreFlagged, Flags, IsSummaryOf, is_numbered, summary_text}
+use Rattle.warc_judged.specs.declared.summary.Summary.{Summary}
+use Rattle.warc_judged.specs.Claims.{SurveyMarks, claimed, claimed_on}
 
 -- what the five commands write of: rows, verdicts, records, numbers, and the outcomes of captures
 pub record Survey : Type 0 where
@@ -128,31 +125,6 @@ pub record WritesSurvey (rows : List Row) (kept : SurveyKept) (old new : SeenSou
   pub cause : after.faults ≡ failed_by answer before.faults
 
 -- ---- on the way: verdicts that are claimed, and parts of the text
-
--- the verdict on a block that has the digest that is wanted of it
-abbrev pub claimed : Wanted → Verdict
-claimed (Sha1 digest) = Good
-claimed NoDigest = Unchecked
-
-abbrev pub claimed_on : Placed → Verdict
-claimed_on p = claimed (digest_wanted p.content.fields)
-
--- the verdict by the digest that is wanted, by the claim and by the verdict that is stated
-abbrev pub settled_claim : Verdict → Verdict → Verdict
-settled_claim Good stated = stated
-settled_claim Bad stated = Bad
-settled_claim Unchecked stated = Unchecked
-
--- the same of each of the first records, as many as have a stated verdict
-abbrev pub settled_claims : List Verdict → List Verdict → List Verdict
-settled_claims [] stated = []
-settled_claims (c ∷ cs) [] = c ∷ cs
-settled_claims (c ∷ cs) (v ∷ vs) = settled_claim c v ∷ settled_claims cs vs
-
--- what is kept of heads for a survey: which records are segments, and the verdicts that are claimed
-pub record SurveyMarks : Type 0 where
-  pub segmented : List Bool
-  pub claims : List Verdict
 
 -- what was gathered of these records while their archive was read
 pub record AreGathered (records : List Placed) (judged : Judgements) (marks : SurveyMarks) (found : List Found)

@@ -4,8 +4,8 @@ ghost use Rattle.warc.specs.ClosedLaws.{OthersAreClosed, OutcomesAreKept, Stored
 ghost use Rattle.warc.specs.Laws.{ArchivesSpell, FaultsAreStable, FullDatesAreInstants, NoFaultWhereSpelled, OneFault};
 ghost use Rattle.warc.specs.Laws.{ConversionKeepsAnswers, MigrationKeepsAnswers, MigrationKeepsReplays, OutputsAreCounted, SomeFaultElse};
 ghost use Rattle.warc.specs.Laws.{RecordsAreSpelled, RecordsAreTheSame, RefusedForFault};
-ghost use Rattle.warc.specs.Laws.{AllGiveTheArchive, OthersAreTheRest};
-ghost use Rattle.warc.specs.Laws.{SelectionIsAnArchive, SelectionIsOfTheSelected};
+ghost use Rattle.warc_rewrite.specs.SelectionLaws.{AllGiveTheArchive, SelectionIsAnArchive, SelectionIsOfTheSelected};
+ghost use Rattle.warc.specs.Laws.{OthersAreTheRest};
 ghost use Rattle.warc.specs.Laws.{WrittenOpensAsSame, WrittenSpells};
 
 pub use warc_checking::laws::findings_are_counted;

@@ -16,29 +16,17 @@
 //! - `record`: what one record gives.
 #![tactic(auto)]
 
-mod fault;
 pub mod laws;
-mod lookup;
 mod opened;
-mod record;
-mod replay;
-mod rewrite;
-mod row;
 
-pub use fault::{BodyFault, ExtractFault, TakeFault};
 pub use opened::archive::Archive;
 pub use opened::captures::Captures;
 pub use opened::checked::Checked;
-pub use opened::fixity::{Counts, Fixity};
+pub use opened::fixity::Fixity;
 pub use opened::listing::{Listing, open_front};
 pub use opened::payloads::Payloads;
-pub use opened::summary::{Summarized, Summary};
+pub use opened::summarized::Summarized;
 pub use opened::surveyed::Surveyed;
-pub use record::part::Part;
-pub use record::payload::{PayloadVerdict, Unjudged};
-pub use record::stated::block_verdict;
-pub use replay::outcome::{Outcome, StoredAt};
-pub use rewrite::forms::Form;
 
 // What the calls above take and give, so that a caller needs this crate alone.
 pub use warc_answer::{Answer, Located, Path, Reason, ReplayFault, Span, Stored};
@@ -47,6 +35,11 @@ pub use warc_frame::{
     OutSink, ReadFault, Sink, SliceSource, Source, Version, WriteFault,
 };
 pub use warc_index::Unfound;
+pub use warc_judged::{Counts, Summary, block_verdict};
 pub use warc_reading::{Row, RowIter};
+pub use warc_replay::{
+    BodyFault, ExtractFault, Outcome, Part, PayloadVerdict, StoredAt, TakeFault, Unjudged,
+};
+pub use warc_rewrite::Form;
 pub use warc_segment::Gap;
 pub use warc_value::{Moment, Verdict, read_date};

@@ -1,7 +1,7 @@
 //! Archives that stay open between calls, over bytes that C keeps where they are.
 ghost use Rattle.std.specs.Prelude.{◌≡◌, false, box_value, IfErr, IfOk};
 ghost use Rattle.std.specs.Bool.{OnFalse, OnTrue};
-ghost use Rattle.warc.specs.Indexed.{IsIndexed};
+ghost use Rattle.warc_lookup.specs.Indexed.{IsIndexed};
 ghost use Rattle.warc_lent.specs.Growing.{IsNoGrowth};
 ghost use Rattle.warc_lent.specs.Texts.{IsRefusedFor};
 ghost use Rattle.warc_c.specs.Answered.{AnswersBy, AnswersFront, IsArchive, IsFlagged, IsRefusedBy};

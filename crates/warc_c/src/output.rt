@@ -1,6 +1,6 @@
 //! Archives and records written into buffers of C's: each call fills one with the next part of the output.
 ghost use Rattle.std.specs.Prelude.{◌≡◌, ◌≤◌, IfOk, None, length};
-ghost use Rattle.warc.specs.Forms.{split_text, text_as};
+ghost use Rattle.warc_rewrite.specs.Forms.{split_text, text_as};
 ghost use Rattle.warc_lent.specs.Writing.{MakesLent, SelectsAs, WritesLent};
 ghost use Rattle.warc_c.specs.Answered.{AnswersWritten, IsFlagged};
 

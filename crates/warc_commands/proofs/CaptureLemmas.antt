@@ -17,11 +17,11 @@ use Rattle.std.specs.List.{Contains}
 use Rattle.warc_index.specs.Orders.{Indexes}
 use Rattle.warc_segment.specs.Kept.{Kept as Parts}
 use Rattle.warc_reading.specs.Archive.{IsArchiveOf, contents}
-use Rattle.warc.specs.Indexed.{AreOf, indexed_record}
+use Rattle.warc_lookup.specs.Indexed.{AreOf, indexed_record}
 use Rattle.warc_reading.specs.Row.{Placed, Row, row_of}
-use Rattle.warc.specs.Captures.{captures_text}
-use Rattle.warc.specs.Capturing.{AreFirstOutcomes, AreIndexedAt, AreOutcomes, SendsCaptures}
-use Rattle.warc.specs.Outcomes.{CaptureSeen}
+use Rattle.warc_replay.specs.Captures.{captures_text}
+use Rattle.warc_replay.specs.Capturing.{AreFirstOutcomes, AreIndexedAt, AreOutcomes, SendsCaptures}
+use Rattle.warc_replay.specs.Outcomes.{CaptureSeen}
 use Rattle.warc_arguments.specs.Digits.{uri_named}
 use Rattle.warc_commands.specs.Captures.{AnswerEnds, AreFrontIn, AreListed, CapturesEnds, CountEnds, WritesListed}
 use Rattle.warc_commands.specs.Devices.{Devices, devices}

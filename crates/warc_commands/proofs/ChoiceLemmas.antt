@@ -12,7 +12,7 @@ use Rattle.warc_frame.specs.Effects.{FailsBy}
 use Rattle.warc_frame.specs.Seen.{Seen, SeenSource}
 use Rattle.warc_frame.specs.declared.fault.OutFault.{OutFault}
 use Rattle.warc_frame.proofs.EffectLemmas.{fails_as, fails_more}
-use Rattle.warc.specs.Selecting.{AreOthers, ArePositions, IsSelection, selected_text}
+use Rattle.warc_rewrite.specs.Selecting.{AreOthers, ArePositions, IsSelection, selected_text}
 use Rattle.warc_commands.specs.Devices.{Devices, devices}
 use Rattle.warc_commands.specs.Selected.{AreTheNamed, AreWanted, ChosenEnds, SelectEnds, SendEnds, selected_line}
 use Rattle.warc_commands.specs.Program.{reported_line}

@@ -7,11 +7,11 @@ use Rattle.warc_frame.specs.declared.fault.OutFault.{OutFault}
 use Rattle.warc_frame.proofs.EffectLemmas.{fails_as, fails_more}
 use Rattle.warc_index.specs.Orders.{Indexes}
 use Rattle.warc_segment.specs.Kept.{Kept as Parts}
-use Rattle.warc.specs.Indexed.{Archived, IsIndexed}
+use Rattle.warc_lookup.specs.Indexed.{Archived, IsIndexed}
 use Rattle.warc_reading.specs.Opening.{Opens}
 use Rattle.warc_reading.specs.Row.{Row}
-use Rattle.warc.specs.Closure.{GivesNeeded, GivesOthers}
-use Rattle.warc.specs.Selecting.{ReadsRecords, at_positions}
+use Rattle.warc_rewrite.specs.Closure.{GivesNeeded, GivesOthers}
+use Rattle.warc_rewrite.specs.Selecting.{ReadsRecords, at_positions}
 use Rattle.warc_commands.specs.Closed.{ClosedEnds, ClosureEnds, GivesClosed, NamedEnds, ReadsClosed, beside, beside_text}
 use Rattle.warc_commands.specs.Devices.{Devices, devices}
 use Rattle.warc_commands.specs.Program.{Reports, reported_line}

@@ -3,10 +3,10 @@ use Rattle.std.proofs.Common.{◌≡◌, inl, inr, ℕ, List, Result, Ok, Err, s
 use Rattle.warc_frame.proofs.EffectLemmas.{fails_as}
 use Rattle.warc_frame.specs.Seen.{Seen, SeenSource}
 use Rattle.warc_frame.specs.declared.fault.OutFault.{OutFault}
-use Rattle.warc.specs.Indexed.{Archived, IsIndexed}
+use Rattle.warc_lookup.specs.Indexed.{Archived, IsIndexed}
 use Rattle.warc_reading.specs.Opening.{Opens}
 use Rattle.warc_reading.specs.Row.{Row}
-use Rattle.warc.specs.PayloadVerdicts.{JudgesPayloads, PayloadJudgements}
+use Rattle.warc_replay.specs.PayloadVerdicts.{JudgesPayloads, PayloadJudgements}
 use Rattle.warc_commands.specs.Devices.{devices}
 use Rattle.warc_commands.specs.Payloads.{PayloadLinesEnd, PayloadsEnd, PayloadsListed}
 use Rattle.warc_commands.proofs.ProgramLemmas.{has_failed, may_have_failed}

@@ -3,7 +3,7 @@ use Rattle.std.proofs.Common.{◌≡◌, ℕ, List, [], ◌∷◌, length, min, 
 use Rattle.std.specs.List.{flat_map}
 use Rattle.warc_frame.specs.FaultText.{out_fault_text}
 use Rattle.warc_frame.specs.Record.{Record}
-use Rattle.warc.specs.Forms.{WritesEach}
+use Rattle.warc_rewrite.specs.Forms.{WritesEach}
 use Rattle.std.specs.Prelude.{Result}
 use Rattle.warc_frame.specs.declared.fault.Fault.{Fault}
 use Rattle.warc_frame.specs.declared.fault.OutFault.{OutFault}

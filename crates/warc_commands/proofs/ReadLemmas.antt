@@ -12,27 +12,27 @@ use Rattle.warc_frame.specs.declared.fault.OutFault.{OutFault}
 use Rattle.warc_index.specs.declared.unfound.Unfound.{Unfound}
 use Rattle.warc_answer.specs.declared.answer.Path.{Path}
 use Rattle.warc_reading.specs.Archive.{IsArchiveOf, SpellsFrom, contents}
-use Rattle.warc.specs.Indexed.{Archived, IsIndexed}
+use Rattle.warc_lookup.specs.Indexed.{Archived, IsIndexed}
 use Rattle.warc_reading.specs.Opening.{Opens}
 use Rattle.warc_reading.specs.Row.{Placed, Row, row_of}
 use Rattle.warc_reading.proofs.FitLemmas.{front_size}
 use Rattle.warc_reading.proofs.SourceLemmas.{raised_by_one}
 use Rattle.warc_reading.proofs.PlacedLemmas.{placed}
 use Rattle.warc_frame.specs.Effects.{ReadsOnly}
-use Rattle.warc.specs.Forms.{read_len, split_len}
+use Rattle.warc_rewrite.specs.Forms.{read_len, split_len}
 use Rattle.warc_reading.specs.Placing.{IsInAnyRow}
 use Rattle.warc.specs.Front.{CopiesFront, OpensFront}
-use Rattle.warc.specs.Parts.{IsInPart, ReadsPart, found_len}
-use Rattle.warc.specs.Replaying.{AsksInside, ReadsPath}
-use Rattle.warc.specs.Selected.{HasBytesOf}
-use Rattle.warc.specs.Selecting.{IsInAnyRecord, at_positions}
-use Rattle.warc.proofs.SelectLemmas.{all_at, has_bytes}
-use Rattle.warc.proofs.SelectionLaws.{selection_short}
-use Rattle.warc.specs.declared.rewrite.forms.Form.{Form}
-use Rattle.warc.specs.declared.record.part.Part.{Part}
-use Rattle.warc.specs.declared.record.part.Part.TheVariants.{Head, Block}
+use Rattle.warc_replay.specs.Parts.{IsInPart, ReadsPart, found_len}
+use Rattle.warc_replay.specs.Replaying.{AsksInside, ReadsPath}
+use Rattle.warc_rewrite.specs.Selected.{HasBytesOf}
+use Rattle.warc_rewrite.specs.Selecting.{IsInAnyRecord, at_positions}
+use Rattle.warc_rewrite.proofs.SelectLemmas.{all_at, has_bytes}
+use Rattle.warc_rewrite.proofs.SelectionLaws.{selection_short}
+use Rattle.warc_rewrite.specs.declared.forms.Form.{Form}
+use Rattle.warc_replay.specs.declared.record.part.Part.{Part}
+use Rattle.warc_replay.specs.declared.record.part.Part.TheVariants.{Head, Block}
 use Rattle.warc.proofs.FrontLemmas.{front_begins}
-use Rattle.warc.proofs.JoinedLemmas.{path_short}
+use Rattle.warc_replay.proofs.JoinedLemmas.{path_short}
 use Rattle.warc_reading.proofs.RemainLemmas.{written}
 use Rattle.warc_reading.specs.Rereading.{IsInHead, heads_len}
 use Rattle.warc_commands.specs.Closed.{ReadsClosed}

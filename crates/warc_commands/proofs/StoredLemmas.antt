@@ -6,12 +6,12 @@ use Rattle.warc_frame.specs.Seen.{IfHeld, Seen, SeenSource}
 use Rattle.warc_index.specs.Captures.{chosen_of}
 use Rattle.warc_index.specs.declared.unfound.Unfound.{Unfound}
 use Rattle.warc_reading.specs.Archive.{contents}
-use Rattle.warc.specs.Indexed.{AreOf, Archived, IsIndexed, indexed_record}
+use Rattle.warc_lookup.specs.Indexed.{AreOf, Archived, IsIndexed, indexed_record}
 use Rattle.warc_reading.specs.Opening.{Opens}
 use Rattle.warc_reading.specs.Row.{Placed}
-use Rattle.warc.specs.Outcomes.{GivesStoredAt, StoredAnswer, fault_result}
-use Rattle.warc.specs.declared.fault.BodyFault.{BodyFault}
-use Rattle.warc.proofs.ReplayLemmas.{same_index}
+use Rattle.warc_replay.specs.Outcomes.{GivesStoredAt, StoredAnswer, fault_result}
+use Rattle.warc_replay.specs.declared.fault.BodyFault.{BodyFault}
+use Rattle.warc_replay.proofs.ReplayLemmas.{same_index}
 use Rattle.warc_commands.specs.Devices.{devices}
 use Rattle.warc_commands.specs.Program.{Reports}
 use Rattle.warc_commands.specs.Stored.{IsChosenOf, IsStoredGiven, stored_line, stored_status}

@@ -4,9 +4,9 @@ use Rattle.warc_frame.specs.Failing.{HasFailedBy, MayHaveFailedBy, failed_by}
 use Rattle.warc_frame.specs.Record.{Record}
 use Rattle.warc_frame.specs.Seen.{IfHeld}
 use Rattle.warc_answer.specs.declared.answer.Answer.{Answer}
-use Rattle.warc.specs.Bodies.{IsBodyAt, IsSilentAt, body_fault_text, body_result}
-use Rattle.warc.specs.declared.fault.BodyFault.{BodyFault}
-use Rattle.warc.specs.declared.fault.BodyFault.TheVariants.{NoRecord, NoCapture, Replay}
+use Rattle.warc_replay.specs.Bodies.{IsBodyAt, IsSilentAt, body_fault_text, body_result}
+use Rattle.warc_replay.specs.declared.fault.BodyFault.{BodyFault}
+use Rattle.warc_replay.specs.declared.fault.BodyFault.TheVariants.{NoRecord, NoCapture, Replay}
 use Rattle.warc_commands.specs.Devices.{Devices}
 use Rattle.warc_commands.specs.Program.{AreGoodRecordsOf, IsBadWord, IsNotOpened, Reports, answer_text, replay_status, reported_line}
 

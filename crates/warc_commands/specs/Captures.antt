@@ -9,11 +9,11 @@ use Rattle.warc_frame.specs.Send.{WentOut, sent_of}
 use Rattle.warc_frame.specs.declared.fault.OutFault.{OutFault}
 use Rattle.warc_index.specs.Captures.{AreCapturesOf}
 use Rattle.warc_reading.specs.Archive.{IsArchiveOf, contents}
-use Rattle.warc.specs.Indexed.{indexed_record}
+use Rattle.warc_lookup.specs.Indexed.{indexed_record}
 use Rattle.warc_reading.specs.Row.{Placed, Row, row_of}
-use Rattle.warc.specs.Captures.{capture_positions, captures_text}
-use Rattle.warc.specs.Capturing.{AreFirstOutcomes, AreOutcomes}
-use Rattle.warc.specs.Outcomes.{CaptureSeen}
+use Rattle.warc_replay.specs.Captures.{capture_positions, captures_text}
+use Rattle.warc_replay.specs.Capturing.{AreFirstOutcomes, AreOutcomes}
+use Rattle.warc_replay.specs.Outcomes.{CaptureSeen}
 use Rattle.warc_commands.specs.Devices.{Devices}
 use Rattle.warc_commands.specs.Program.{IsNotOpened, Reports, reported_line}
 

@@ -13,9 +13,9 @@ use Rattle.warc_answer.specs.declared.answer.ReplayFault.TheVariants.{Out}
 use Rattle.warc_reading.specs.Archive.{IsArchiveOf}
 use Rattle.warc_reading.specs.Rereading.{ReadsHeads}
 use Rattle.warc_reading.specs.Row.{Row}
-use Rattle.warc.specs.Closing.{AreWithNeeded, AreWithout}
-use Rattle.warc.specs.Closure.{GivesPositions, records_read}
-use Rattle.warc.specs.Selecting.{ArePositions}
+use Rattle.warc_rewrite.specs.Closing.{AreWithNeeded, AreWithout}
+use Rattle.warc_rewrite.specs.Closure.{GivesPositions, records_read}
+use Rattle.warc_rewrite.specs.Selecting.{ArePositions}
 use Rattle.warc_commands.specs.Devices.{Devices}
 use Rattle.warc_commands.specs.Program.{IsBadWord, IsNotOpened, Reports, reported_line}
 use Rattle.warc_commands.specs.Selected.{AreTheNamed, IsAbsent, ReadsSome, SendEnds}

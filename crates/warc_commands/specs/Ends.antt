@@ -1,8 +1,8 @@
 -- How each command ends, and its exit statuses.
 use Rattle.std.specs.Prelude.{◌≡◌, ℕ, ◌⊎◌, Bool, true, false, List, option_map}
-use Rattle.warc.specs.Forms.{texts_as}
-use Rattle.warc.specs.declared.rewrite.forms.Form.TheVariants.{Canonical, Converted}
-use Rattle.warc.specs.declared.record.part.Part.TheVariants.{Head, Block}
+use Rattle.warc_rewrite.specs.Forms.{texts_as}
+use Rattle.warc_rewrite.specs.declared.forms.Form.TheVariants.{Canonical, Converted}
+use Rattle.warc_replay.specs.declared.record.part.Part.TheVariants.{Head, Block}
 use Rattle.warc_arguments.specs.Digits.{uri_named}
 use Rattle.warc_arguments.specs.Explanations.{explained}
 use Rattle.warc_commands.specs.Bodies.{BodyEnds}

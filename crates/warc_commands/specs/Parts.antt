@@ -6,10 +6,10 @@ use Rattle.warc_frame.specs.Record.{max_archive}
 use Rattle.warc_frame.specs.Seen.{IfHeld}
 use Rattle.warc_reading.specs.Archive.{IsArchiveOf}
 use Rattle.warc_reading.specs.Row.{Row}
-use Rattle.warc.specs.Parts.{IsGiven, extract_result, part_text}
-use Rattle.warc.specs.declared.fault.ExtractFault.{ExtractFault}
-use Rattle.warc.specs.declared.fault.ExtractFault.TheVariants.{NoRecord}
-use Rattle.warc.specs.declared.record.part.Part.{Part}
+use Rattle.warc_replay.specs.Parts.{IsGiven, extract_result, part_text}
+use Rattle.warc_replay.specs.declared.fault.ExtractFault.{ExtractFault}
+use Rattle.warc_replay.specs.declared.fault.ExtractFault.TheVariants.{NoRecord}
+use Rattle.warc_replay.specs.declared.record.part.Part.{Part}
 use Rattle.warc_commands.specs.Devices.{Devices}
 use Rattle.warc_commands.specs.Program.{IsBadWord, IsNotOpened, ReportsIf, extract_line, extract_status}
 

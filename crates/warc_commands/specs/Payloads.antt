@@ -12,8 +12,8 @@ use Rattle.warc_answer.specs.Seen.{IsEarly}
 use Rattle.warc_answer.specs.declared.answer.ReplayFault.TheVariants.{Out}
 use Rattle.warc_reading.specs.Archive.{IsArchiveOf, contents}
 use Rattle.warc_reading.specs.Row.{Row}
-use Rattle.warc.specs.PayloadText.{are_verified, payload_counts, payloads_text}
-use Rattle.warc.specs.PayloadVerdicts.{AreJudgedPayloads, PayloadJudgements}
+use Rattle.warc_replay.specs.PayloadText.{are_verified, payload_counts, payloads_text}
+use Rattle.warc_replay.specs.PayloadVerdicts.{AreJudgedPayloads, PayloadJudgements}
 use Rattle.warc_commands.specs.Devices.{Devices}
 use Rattle.warc_commands.specs.Program.{IsNotOpened, Reports, reported_line}
 

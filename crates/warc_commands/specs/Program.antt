@@ -18,15 +18,15 @@ use Rattle.warc_frame.specs.declared.fault.FaultKind.TheVariants.{Read, Memory}
 use Rattle.warc_frame.specs.declared.fault.OutFault.{OutFault}
 use Rattle.warc_frame.specs.declared.fault.OutFault.TheVariants.{Read as NoRead, Write, Memory as NoMemory}
 use Rattle.warc_value.specs.Dates.{Instant}
-use Rattle.warc.specs.Extracting.{IsExtract, extracted}
-use Rattle.warc.specs.Parts.{extract_result}
+use Rattle.warc_replay.specs.Extracting.{IsExtract, extracted}
+use Rattle.warc_replay.specs.Parts.{extract_result}
 use Rattle.warc_record.specs.Kinds.{kind_named}
 use Rattle.warc_write.specs.Making.{Makes, Plan, made, make_fault_text}
 use Rattle.warc_write.specs.declared.made.MakeFault.{MakeFault}
-use Rattle.warc.specs.Forms.{split_texts}
-use Rattle.warc.specs.TakeText.{extract_fault_text}
-use Rattle.warc.specs.declared.fault.ExtractFault.{ExtractFault}
-use Rattle.warc.specs.declared.fault.ExtractFault.TheVariants.{NoRecord, Out as ExtractOut}
+use Rattle.warc_rewrite.specs.Forms.{split_texts}
+use Rattle.warc_replay.specs.TakeText.{extract_fault_text}
+use Rattle.warc_replay.specs.declared.fault.ExtractFault.{ExtractFault}
+use Rattle.warc_replay.specs.declared.fault.ExtractFault.TheVariants.{NoRecord, Out as ExtractOut}
 use Rattle.warc_arguments.specs.declared.command.Draft.{Draft}
 use Rattle.warc_arguments.specs.declared.parser.CommandFault.{CommandFault}
 use Rattle.warc_arguments.specs.declared.parser.CommandFault.TheVariants.{Usage, Memory as OutOfMemory}
@@ -34,7 +34,7 @@ use Rattle.warc_reading.specs.Opening.{IsRefusalOf, faults_after}
 use Rattle.warc_reading.specs.Archive.{AreGood, IsArchiveOf}
 use Rattle.warc_checking.specs.Checking.{Line, check_text, findings_of_archive}
 use Rattle.warc_frame.specs.Failing.{HasFailedBy, MayHaveFailedBy, failed_by, failed_with, is_read}
-use Rattle.warc.specs.Listing.{listing}
+use Rattle.warc_judged.specs.Listing.{listing}
 use Rattle.warc_reading.specs.Row.{Row}
 use Rattle.warc_commands.specs.Devices.{Devices}
 use Rattle.warc_frame.specs.Seen.{IfHeld, Seen}

@@ -11,7 +11,7 @@ use Rattle.warc_frame.specs.declared.fault.OutFault.{OutFault}
 use Rattle.warc_frame.specs.declared.fault.OutFault.TheVariants.{Memory}
 use Rattle.warc_reading.specs.Archive.{IsArchiveOf}
 use Rattle.warc_reading.specs.Row.{Row}
-use Rattle.warc.specs.Selecting.{AreOthers, ArePositions, ReadsRecords, at_positions, selected_text}
+use Rattle.warc_rewrite.specs.Selecting.{AreOthers, ArePositions, ReadsRecords, at_positions, selected_text}
 use Rattle.warc_commands.specs.Devices.{Devices}
 use Rattle.warc_commands.specs.Program.{IsBadWord, IsNotOpened, Reports, reported_line}
 use Rattle.warc_commands.specs.Uris.{IsStarved}

@@ -12,10 +12,10 @@ use Rattle.warc_answer.specs.ReasonText.{reason_text}
 use Rattle.warc_answer.specs.Stored.{answer_with}
 use Rattle.warc_answer.specs.declared.answer.Reason.TheVariants.{NotFound}
 use Rattle.warc_answer.specs.declared.answer.ReplayFault.TheVariants.{Reason, Out as ReplayOut}
-use Rattle.warc.specs.Bodies.{IsSilentAt, body_fault_text}
-use Rattle.warc.specs.Outcomes.{IsStoredOut, StoredAnswer, fault_result}
-use Rattle.warc.specs.declared.fault.BodyFault.{BodyFault}
-use Rattle.warc.specs.declared.fault.BodyFault.TheVariants.{NoRecord, NoCapture, Replay}
+use Rattle.warc_replay.specs.Bodies.{IsSilentAt, body_fault_text}
+use Rattle.warc_replay.specs.Outcomes.{IsStoredOut, StoredAnswer, fault_result}
+use Rattle.warc_replay.specs.declared.fault.BodyFault.{BodyFault}
+use Rattle.warc_replay.specs.declared.fault.BodyFault.TheVariants.{NoRecord, NoCapture, Replay}
 use Rattle.warc_commands.specs.Devices.{Devices}
 use Rattle.warc_commands.specs.Program.{AreGoodRecordsOf, IsBadWord, IsNotOpened, ReplayEnds, Reports, answer_text, reported_line}
 

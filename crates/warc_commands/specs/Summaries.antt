@@ -7,8 +7,8 @@ use Rattle.warc_frame.specs.Seen.{IfHeld}
 use Rattle.warc_frame.specs.Send.{WentOut}
 use Rattle.warc_frame.specs.declared.fault.OutFault.TheVariants.{Write}
 use Rattle.warc_reading.specs.Row.{Row}
-use Rattle.warc.specs.Summary.{AreFlagged, Flags, IsSummaryOf, summary_text}
-use Rattle.warc.specs.declared.opened.summary.Summary.{Summary}
+use Rattle.warc_judged.specs.Summary.{AreFlagged, Flags, IsSummaryOf, summary_text}
+use Rattle.warc_judged.specs.declared.summary.Summary.{Summary}
 use Rattle.warc_commands.specs.Devices.{Devices}
 use Rattle.warc_commands.specs.Program.{IsNotOpened, Reports, reported_line}
 

@@ -1,11 +1,11 @@
 //! The command that lists captures.
 ghost use Rattle.std.specs.Prelude.{◌≡◌, Some, None, option_map, true};
-ghost use Rattle.warc.specs.Captured.{IsCaptured};
+ghost use Rattle.warc_replay.specs.Captured.{IsCaptured};
 ghost use Rattle.warc_commands.specs.Captures.{AnswerEnds, CapturesEnds, WritesListed};
 ghost use Rattle.warc_commands.specs.Devices.{devices};
 ghost use Rattle.warc_commands.specs.Reads.{AsksNear};
 ghost use Rattle.warc_commands.specs.Uris.{UriEnds, uri_listed};
-ghost use Rattle.warc.specs.Indexed.{IsIndexed};
+ghost use Rattle.warc_lookup.specs.Indexed.{IsIndexed};
 
 use crate::program::{DONE, FOUND, report, report_cut, report_refusal};
 use crate::uris::report_fault;

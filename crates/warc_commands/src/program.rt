@@ -6,7 +6,7 @@ ghost use Rattle.warc_commands.specs.Ends.{Ends, IsStatusOf, writes_front};
 ghost use Rattle.warc_commands.specs.Program.{FaultEnds, IsShown, ListEnds, Reports, WriteEnds, fault_line, status_of_kind, reported_line};
 ghost use Rattle.warc_commands.specs.Devices.{devices};
 ghost use Rattle.warc_commands.specs.Reads.{CommandReads, ReadsInOrder, ReadsTimes};
-ghost use Rattle.warc.specs.Forms.{texts_as};
+ghost use Rattle.warc_rewrite.specs.Forms.{texts_as};
 
 use crate::bodies::body;
 use crate::captures::captures;

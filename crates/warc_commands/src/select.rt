@@ -1,6 +1,6 @@
 //! The command that writes some records byte for byte.
 ghost use Rattle.std.specs.Prelude.{◌≡◌, ◌<◌, ◌≤◌, ◌++◌, All, IfOk, [], decimal, length};
-ghost use Rattle.warc.specs.Selecting.{ArePositions, ReadsRecords, at_positions};
+ghost use Rattle.warc_rewrite.specs.Selecting.{ArePositions, ReadsRecords, at_positions};
 ghost use Rattle.warc_commands.specs.Devices.{devices};
 ghost use Rattle.warc_commands.specs.Named.{bad_line, positions_in};
 ghost use Rattle.warc_commands.specs.Program.{Reports, reported_line};

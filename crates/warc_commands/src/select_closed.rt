@@ -1,8 +1,8 @@
 //! The command that writes some records byte for byte, and with them what they need.
 ghost use Rattle.std.specs.Prelude.{◌≡◌, ◌≤◌, ◌++◌, codes, decimal, length};
 ghost use Rattle.warc_frame.specs.Seen.{IfHeld};
-ghost use Rattle.warc.specs.Indexed.{IsIndexed};
-ghost use Rattle.warc.specs.Selecting.{ArePositions, ReadsRecords, at_positions};
+ghost use Rattle.warc_lookup.specs.Indexed.{IsIndexed};
+ghost use Rattle.warc_rewrite.specs.Selecting.{ArePositions, ReadsRecords, at_positions};
 ghost use Rattle.warc_commands.specs.Closed.{ClosedEnds, ClosureEnds, GivesClosed, NamedEnds, ReadsClosed, beside, beside_text};
 ghost use Rattle.warc_commands.specs.Devices.{devices};
 ghost use Rattle.warc_commands.specs.Named.{bad_line, positions_in};

@@ -3,7 +3,7 @@ ghost use Rattle.std.specs.Prelude.{◌≡◌, ◌++◌, ℕ, List, Some, codes,
 ghost use Rattle.std.specs.List.{concat};
 ghost use Rattle.warc_answer.specs.Seen.{stored_seen};
 ghost use Rattle.warc_answer.specs.Stored.{answer_with};
-ghost use Rattle.warc.specs.Outcomes.{answer_seen};
+ghost use Rattle.warc_replay.specs.Outcomes.{answer_seen};
 ghost use Rattle.warc_commands.specs.Devices.{devices};
 ghost use Rattle.warc_commands.specs.Parts.{position_of};
 ghost use Rattle.warc_commands.specs.Program.{Reports, answer_text};

@@ -9,16 +9,16 @@ use Rattle.warc_answer.specs.Located.{Location}
 use Rattle.warc_answer.specs.Replays.{out_result}
 use Rattle.warc_answer.specs.declared.answer.ReplayFault.{ReplayFault}
 use Rattle.warc_answer.specs.declared.answer.ReplayFault.TheVariants as replays
-use Rattle.warc.specs.Locating.{location_result}
-use Rattle.warc.specs.declared.fault.BodyFault.{BodyFault}
-use Rattle.warc.specs.declared.fault.BodyFault.TheVariants as bodies
+use Rattle.warc_replay.specs.Locating.{location_result}
+use Rattle.warc_replay.specs.declared.fault.BodyFault.{BodyFault}
+use Rattle.warc_replay.specs.declared.fault.BodyFault.TheVariants as bodies
 use Rattle.warc_lent.specs.Problems.{problem_of_body, problem_of_replay, problem_result}
 use Rattle.warc_answer.specs.Answers.{index_of, path_at, path_for, path_from, path_of}
 use Rattle.warc_answer.specs.Payloads.{read_record}
 use Rattle.warc_reading.specs.Archive.{contents}
 use Rattle.warc_index.specs.Orders.{IsIndexOf, Indexes}
 use Rattle.warc_segment.specs.Kept.{Kept as Parts}
-use Rattle.warc.specs.Indexed.{AreOf, indexed_record}
+use Rattle.warc_lookup.specs.Indexed.{AreOf, indexed_record}
 use Rattle.warc_reading.specs.Row.{Placed}
 
 same_index : (ps : List Placed) → map indexed_record ps ≡ index_of (map read_record (contents ps))

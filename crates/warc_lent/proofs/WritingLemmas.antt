@@ -15,10 +15,10 @@ use Rattle.warc_frame.specs.declared.fault.OutFault.TheVariants as outs
 use Rattle.warc_segment.specs.Joined.{ReadRecord}
 use Rattle.warc_reading.specs.Archive.{IsArchiveOf, contents}
 use Rattle.warc_reading.specs.Row.{Row}
-use Rattle.warc.specs.Closing.{AreWithNeeded, AreWithout, IsNeeded, NeedsOneOf}
-use Rattle.warc.specs.Closure.{records_read}
-use Rattle.warc.specs.Forms.{IsOutputOf, WritesEach}
-use Rattle.warc.specs.Selecting.{AreOthers, Selects, selected_text}
+use Rattle.warc_rewrite.specs.Closing.{AreWithNeeded, AreWithout, IsNeeded, NeedsOneOf}
+use Rattle.warc_rewrite.specs.Closure.{records_read}
+use Rattle.warc_rewrite.specs.Forms.{IsOutputOf, WritesEach}
+use Rattle.warc_rewrite.specs.Selecting.{AreOthers, Selects, selected_text}
 use Rattle.warc_lent.specs.Writing.{AreChosen, AreClosedChoice, AreNamedPositions, Choice, ClosedChoice, IsCutOffFor, SelectsClosed, SelectsLent, WritesLent, problem_of_sent}
 use Rattle.warc_lent.specs.declared.problem.Problem.{Problem}
 

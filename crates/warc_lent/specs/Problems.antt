@@ -20,10 +20,10 @@ use Rattle.warc_answer.specs.declared.answer.ReplayFault.TheVariants as replays
 use Rattle.warc_write.specs.Making.{make_fault_text}
 use Rattle.warc_write.specs.declared.made.MakeFault.{MakeFault}
 use Rattle.warc_write.specs.declared.made.MakeFault.TheVariants as makes
-use Rattle.warc.specs.declared.fault.BodyFault.{BodyFault}
-use Rattle.warc.specs.declared.fault.BodyFault.TheVariants as bodies
-use Rattle.warc.specs.declared.fault.TakeFault.{TakeFault}
-use Rattle.warc.specs.declared.fault.TakeFault.TheVariants as takes
+use Rattle.warc_replay.specs.declared.fault.BodyFault.{BodyFault}
+use Rattle.warc_replay.specs.declared.fault.BodyFault.TheVariants as bodies
+use Rattle.warc_replay.specs.declared.fault.TakeFault.{TakeFault}
+use Rattle.warc_replay.specs.declared.fault.TakeFault.TheVariants as takes
 use Rattle.warc_lent.specs.declared.problem.Numbers.{Numbers}
 use Rattle.warc_lent.specs.declared.problem.Problem.{Problem}
 use Rattle.warc_lent.specs.declared.problem.Problem.TheVariants as problems

@@ -4,7 +4,7 @@ use Rattle.warc_value.specs.declared.hash.Verdict.{Verdict}
 use Rattle.warc_value.specs.declared.hash.Verdict.TheVariants.{Good, Bad, Unchecked}
 use Rattle.warc_frame.specs.Count.{capped}
 use Rattle.warc_reading.specs.Row.{Row}
-use Rattle.warc.specs.declared.fault.TakeFault.{TakeFault}
+use Rattle.warc_replay.specs.declared.fault.TakeFault.{TakeFault}
 use Rattle.warc_lent.specs.Buffers.{HoldsFront, KeepsAfter}
 use Rattle.warc_lent.specs.Problems.{problem_of_take}
 use Rattle.warc_lent.specs.declared.problem.Problem.{Problem}

@@ -5,7 +5,7 @@ use Rattle.warc_frame.specs.declared.fault.FaultKind.TheVariants.{Memory as NoMe
 use Rattle.warc_reading.specs.Archive.{IsArchiveOf, IsFaultOf, contents}
 use Rattle.warc_reading.specs.Row.{Row}
 use Rattle.warc_checking.specs.Checking.{check_text}
-use Rattle.warc.specs.Fixity.{AreDigested, Judgements, fixity_text}
+use Rattle.warc_judged.specs.Fixity.{AreDigested, Judgements, fixity_text}
 use Rattle.warc_lent.specs.Buffers.{HoldsFront}
 use Rattle.warc_lent.specs.Problems.{problem_numbers, problem_text}
 use Rattle.warc_lent.specs.declared.problem.Numbers.{Numbers}

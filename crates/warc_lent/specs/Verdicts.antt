@@ -1,10 +1,10 @@
 -- Verdicts on the digests that heads state, as numbers for callers in other languages. This project's own notion.
 use Rattle.std.specs.Prelude.{ℕ, Option, Some, None, Result, Ok, Err}
-use Rattle.warc.specs.declared.fault.TakeFault.{TakeFault}
-use Rattle.warc.specs.declared.record.payload.PayloadVerdict.{PayloadVerdict}
-use Rattle.warc.specs.declared.record.payload.PayloadVerdict.TheVariants.{Good, Bad, Unchecked}
-use Rattle.warc.specs.declared.record.payload.Unjudged.{Unjudged}
-use Rattle.warc.specs.declared.record.payload.Unjudged.TheVariants.{Revisit, Request, Segment, Algorithm, Head, Coded}
+use Rattle.warc_replay.specs.declared.fault.TakeFault.{TakeFault}
+use Rattle.warc_replay.specs.declared.record.payload.PayloadVerdict.{PayloadVerdict}
+use Rattle.warc_replay.specs.declared.record.payload.PayloadVerdict.TheVariants.{Good, Bad, Unchecked}
+use Rattle.warc_replay.specs.declared.record.payload.Unjudged.{Unjudged}
+use Rattle.warc_replay.specs.declared.record.payload.Unjudged.TheVariants.{Revisit, Request, Segment, Algorithm, Head, Coded}
 use Rattle.warc_lent.specs.Problems.{problem_of_take}
 use Rattle.warc_lent.specs.declared.problem.Problem.{Problem}
 

@@ -16,9 +16,9 @@ use Rattle.warc_segment.specs.Joined.{ReadRecord}
 use Rattle.warc_write.specs.Making.{Plan, made, planned}
 use Rattle.warc_write.specs.declared.made.MakeFault.{MakeFault}
 use Rattle.warc_write.specs.declared.made.MakeFault.TheVariants.{Memory as NoMemory}
-use Rattle.warc.specs.Closing.{AreWithNeeded, AreWithout}
-use Rattle.warc.specs.Closure.{records_read}
-use Rattle.warc.specs.Selecting.{AreOthers, ArePositions, selected_text}
+use Rattle.warc_rewrite.specs.Closing.{AreWithNeeded, AreWithout}
+use Rattle.warc_rewrite.specs.Closure.{records_read}
+use Rattle.warc_rewrite.specs.Selecting.{AreOthers, ArePositions, selected_text}
 use Rattle.warc_lent.specs.Texts.{IsRefusedFor}
 use Rattle.warc_lent.specs.declared.problem.Problem.{Problem}
 use Rattle.warc_lent.specs.declared.problem.Problem.TheVariants as problems

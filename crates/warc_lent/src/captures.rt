@@ -1,6 +1,6 @@
 //! The captures of a URI, as positions.
 ghost use Rattle.std.specs.Prelude.{◌≡◌, ℕ, List, length, map, IfErr, IfOk, OnErr};
-ghost use Rattle.warc.specs.Indexed.{IsIndexed, indexed_record};
+ghost use Rattle.warc_lookup.specs.Indexed.{IsIndexed, indexed_record};
 ghost use Rattle.warc_lent.specs.Buffers.{KeepsAfter};
 ghost use Rattle.warc_lent.specs.Captures.{AreCapturesPut};
 ghost use Rattle.warc_lent.specs.Problems.{IsMemory};

@@ -1,6 +1,6 @@
 //! Archives over bytes that have become more.
 ghost use Rattle.std.specs.Prelude.{◌≡◌, ◌⊎◌, ◌++◌, ℕ, List, true, false, IfErr, OnErr, OnOk, Err};
-ghost use Rattle.warc.specs.Indexed.{IsIndexed};
+ghost use Rattle.warc_lookup.specs.Indexed.{IsIndexed};
 ghost use Rattle.warc_lent.specs.Growing.{IsUngrown, begins_alike, last_head, part};
 ghost use Rattle.warc_lent.specs.Texts.{IsRefusedFor};
 

@@ -1,11 +1,11 @@
 //! What is written to a sink: the records of lent bytes anew, and a record that is made.
 ghost use Rattle.std.specs.Prelude.{◌≡◌, ◌⊎◌, ◌↔◌, ◌<◌, ℕ, All, Contains, IfErr, IfOk, IsTrue, length};
 ghost use Rattle.std.specs.List.Sorted.{IsStrictlyIncreasing};
-ghost use Rattle.warc.specs.Forms.{split_text, text_as};
-ghost use Rattle.warc.specs.Closure.{records_read};
-ghost use Rattle.warc.specs.Selecting.{ArePositions};
+ghost use Rattle.warc_rewrite.specs.Forms.{split_text, text_as};
+ghost use Rattle.warc_rewrite.specs.Closure.{records_read};
+ghost use Rattle.warc_rewrite.specs.Selecting.{ArePositions};
 ghost use Rattle.warc_reading.specs.Archive.{IsArchiveOf};
-ghost use Rattle.warc.specs.Indexed.{IsIndexed};
+ghost use Rattle.warc_lookup.specs.Indexed.{IsIndexed};
 ghost use Rattle.warc_lent.specs.Problems.{IsMemory};
 ghost use Rattle.warc_lent.specs.Texts.{IsRefusedFor};
 ghost use Rattle.warc_frame.specs.Send.{sent_of};

@@ -1,11 +1,11 @@
 //! What is kept of a record, as numbers and texts.
 ghost use Rattle.std.specs.Prelude.{◌≡◌, ◌++◌, ℕ, List, [], Result, length, slice_get, IfErr, IfOk, OnErr, Some, None};
 ghost use Rattle.warc_frame.specs.Count.{capped};
-ghost use Rattle.warc.specs.Indexed.{IsUnchanged};
+ghost use Rattle.warc_lookup.specs.Indexed.{IsUnchanged};
 ghost use Rattle.warc_reading.specs.Row.{Row as Seen};
 ghost use Rattle.warc_lent.specs.Buffers.{HoldsFront, KeepsAfter};
-ghost use Rattle.warc.specs.Judged.{GivesVerdict};
-ghost use Rattle.warc.specs.declared.fault.TakeFault.{TakeFault as GhostFault};
+ghost use Rattle.warc_replay.specs.Judged.{GivesVerdict};
+ghost use Rattle.warc_replay.specs.declared.fault.TakeFault.{TakeFault as GhostFault};
 ghost use Rattle.warc_value.specs.declared.hash.Verdict.{Verdict as Found};
 ghost use Rattle.warc_lent.specs.Problems.{IsNoRecord, IsNotGiven};
 ghost use Rattle.warc_lent.specs.Rows.{IsRowPut, flag_of, row_numbers, row_texts, short_length, verdict_answer, verdict_number};

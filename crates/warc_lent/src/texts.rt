@@ -1,9 +1,9 @@
 //! Texts that callers ask for whole.
 ghost use Rattle.std.specs.Prelude.{◌≡◌, length, IfErr, IfOk, OnErr};
-ghost use Rattle.warc.specs.Listing.{listing};
+ghost use Rattle.warc_judged.specs.Listing.{listing};
 ghost use Rattle.warc_checking.specs.Checking.{check_text};
 ghost use Rattle.warc_reading.specs.Archive.{IsArchiveOf, contents};
-ghost use Rattle.warc.specs.Indexed.{IsUnchanged};
+ghost use Rattle.warc_lookup.specs.Indexed.{IsUnchanged};
 ghost use Rattle.warc_lent.specs.Buffers.{KeepsAfter};
 ghost use Rattle.warc_lent.specs.Problems.{IsMemory, problem_result, problem_text};
 ghost use Rattle.warc_frame.specs.Effects.{FailsBy, Preserves};

@@ -1,10 +1,10 @@
 //! The verdicts on a block and on a payload by the digests that a record's head states, as numbers.
 ghost use Rattle.std.specs.Prelude.{◌≡◌, Option, Result, IfErr};
-ghost use Rattle.warc.specs.Judged.{GivesStated};
-ghost use Rattle.warc.specs.PayloadVerdicts.{GivesPayload};
-ghost use Rattle.warc.specs.declared.fault.TakeFault.{TakeFault as GhostFault};
-ghost use Rattle.warc.specs.declared.record.payload.PayloadVerdict.{PayloadVerdict as Judged};
-ghost use Rattle.warc.specs.Indexed.{IsUnchanged};
+ghost use Rattle.warc_replay.specs.Judged.{GivesStated};
+ghost use Rattle.warc_replay.specs.PayloadVerdicts.{GivesPayload};
+ghost use Rattle.warc_replay.specs.declared.fault.TakeFault.{TakeFault as GhostFault};
+ghost use Rattle.warc_replay.specs.declared.record.payload.PayloadVerdict.{PayloadVerdict as Judged};
+ghost use Rattle.warc_lookup.specs.Indexed.{IsUnchanged};
 ghost use Rattle.warc_value.specs.declared.hash.Verdict.{Verdict as Found};
 ghost use Rattle.warc_lent.specs.Problems.{IsNotGiven};
 ghost use Rattle.warc_lent.specs.Rows.{verdict_answer};

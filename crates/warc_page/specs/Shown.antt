@@ -13,7 +13,7 @@ use Rattle.warc_index.specs.Captures.{Indexed, chosen_of}
 use Rattle.warc_index.specs.declared.unfound.Unfound.{Unfound}
 use Rattle.warc_reading.specs.Archive.{IsArchiveOf}
 use Rattle.warc_reading.specs.Row.{Row}
-use Rattle.warc.specs.Fixity.{digest_value}
+use Rattle.warc_judged.specs.Fixity.{digest_value}
 use Rattle.warc.specs.Front.{AreRowsOfFront}
 use Rattle.warc_lent.specs.Buffers.{HoldsFront}
 use Rattle.warc_lent.specs.Pieces.{PutsPieceNumbers}

@@ -3,7 +3,7 @@ ghost use Rattle.std.specs.Prelude.{◌≡◌, List, None, true, map};
 ghost use Rattle.warc_value.specs.Dates.{instant_of};
 ghost use Rattle.warc_frame.specs.Seen.{IfHeld};
 ghost use Rattle.warc_reading.specs.Archive.{contents};
-ghost use Rattle.warc.specs.Indexed.{AreOf, IsIndexed, indexed_record};
+ghost use Rattle.warc_lookup.specs.Indexed.{AreOf, IsIndexed, indexed_record};
 ghost use Rattle.warc_reading.specs.Row.{Placed};
 ghost use Rattle.warc_lent.specs.Bodies.{IsNoBody, IsNoReplay, PutsAt, PutsReplay};
 ghost use Rattle.warc_page.specs.Shown.{EndsBy, IsReply, PutsChosen, Replies};

@@ -1,6 +1,6 @@
 //! Archives that stay open between questions, over bytes that the page keeps where they are.
 ghost use Rattle.std.specs.Prelude.{◌≡◌, ◌≢◌, true, IfErr, IfOk};
-ghost use Rattle.warc.specs.Indexed.{IsIndexed};
+ghost use Rattle.warc_lookup.specs.Indexed.{IsIndexed};
 ghost use Rattle.warc_lent.specs.Texts.{IsRefusedFor};
 ghost use Rattle.warc_page.specs.Shown.{EndsOpened};
 

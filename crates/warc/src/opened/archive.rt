@@ -1,58 +1,51 @@
 //! An archive: a listing, with what finds its records and joins their segments.
 ghost use Rattle.std.specs.Prelude.{◌≡◌, ℕ, List, length, IfOk, OnErr, map, min, slice_get, ⊤};
 ghost use Rattle.warc_frame.specs.Effects.{SendsText};
-ghost use Rattle.warc.specs.Bodies.{GivesBodyAt};
+ghost use Rattle.warc_replay.specs.Bodies.{GivesBodyAt};
 ghost use Rattle.warc.specs.Bounds.{IsKeptCount};
 ghost use Rattle.warc_checking.specs.Checks.{Checks};
-ghost use Rattle.warc.specs.Extracting.{Extracts, position_with};
+ghost use Rattle.warc_replay.specs.Extracting.{Extracts, position_with};
 ghost use Rattle.warc.specs.Keeping.{kept_bytes};
 ghost use Rattle.warc_index.specs.Captures.{AreCapturesOf, chosen_of};
 ghost use Rattle.warc_reading.specs.Archive.{IsArchiveOf};
-ghost use Rattle.warc.specs.Indexed.{AreOf, IsIndexed, IsUnchanged, indexed_record};
-ghost use Rattle.warc.specs.Capturing.{JudgesAll, SendsCaptures};
-ghost use Rattle.warc.specs.Captures.{capture_positions, captures_text};
-ghost use Rattle.warc.specs.Closure.{GivesNeeded, GivesOthers};
-ghost use Rattle.warc.specs.Listing.{listing};
-ghost use Rattle.warc.specs.Outcomes.{GivesStoredAt, JudgesAt, answer_seen, outcome_seen};
+ghost use Rattle.warc_lookup.specs.Indexed.{AreOf, IsIndexed, IsUnchanged, indexed_record};
+ghost use Rattle.warc_replay.specs.Capturing.{JudgesAll, SendsCaptures};
+ghost use Rattle.warc_replay.specs.Captures.{capture_positions, captures_text};
+ghost use Rattle.warc_rewrite.specs.Closure.{GivesNeeded, GivesOthers};
+ghost use Rattle.warc_judged.specs.Listing.{listing};
+ghost use Rattle.warc_replay.specs.Outcomes.{GivesStoredAt, JudgesAt, answer_seen, outcome_seen};
 ghost use Rattle.warc_answer.specs.Answers.{path_from, path_of};
-ghost use Rattle.warc.specs.Locating.{LocatesAt, LocatesFor};
+ghost use Rattle.warc_replay.specs.Locating.{LocatesAt, LocatesFor};
 ghost use Rattle.warc_reading.specs.Growing.{Grows};
 ghost use Rattle.warc_reading.specs.Opening.{Opens, source_left, without_source};
-ghost use Rattle.warc.specs.PayloadText.{payloads_text};
-ghost use Rattle.warc.specs.PayloadVerdicts.{GivesPayload, JudgesPayloads};
-ghost use Rattle.warc.specs.Replaying.{Replays};
+ghost use Rattle.warc_replay.specs.PayloadText.{payloads_text};
+ghost use Rattle.warc_replay.specs.PayloadVerdicts.{GivesPayload, JudgesPayloads};
+ghost use Rattle.warc_replay.specs.Replaying.{Replays};
 ghost use Rattle.warc_reading.specs.Row.{Placed};
-ghost use Rattle.warc.specs.Judged.{GivesStated, GivesVerdict};
-ghost use Rattle.warc.specs.Selecting.{AreOthers, ArePositions, Selects, selected_text};
-ghost use Rattle.warc.specs.Taking.{GivesRecord};
+ghost use Rattle.warc_replay.specs.Judged.{GivesStated, GivesVerdict};
+ghost use Rattle.warc_rewrite.specs.Selecting.{AreOthers, ArePositions, Selects, selected_text};
+ghost use Rattle.warc_replay.specs.Taking.{GivesRecord};
 
-use crate::fault::{BodyFault, ExtractFault, TakeFault};
-use crate::lookup::{Lookup, UnorderedLookup};
 use crate::opened::payloads::{Payloads, judge_payloads, list_payloads};
-use crate::record::comparison::take_payload;
-use crate::record::part::Part;
-use crate::record::payload::PayloadVerdict;
-use crate::record::range::send_part;
-use crate::record::verdict::{take_stated_at, take_verdict_at};
-use crate::record::whole::take_record_at;
-use crate::replay::answer::{path_from, path_in, replay_rows};
-use crate::replay::body::give_body;
-use crate::replay::capture_line::list_outcomes;
-use crate::replay::capture_lines::write_unjudged;
-use crate::replay::captures::{capture_positions, judge_all};
-use crate::replay::location::{locate_at, locate_for};
-use crate::replay::outcome::{Outcome, StoredAt, capture_outcome, send_at};
-use crate::rewrite::closure::{closed_positions, remaining_positions};
-use crate::rewrite::selection::{other_positions, select_rows, selected_len};
-use crate::row::list_rows;
 use std::alloc::{AllocError, Allocator, Global};
 use std::marker::Model;
 use warc_answer::{Answer, Located, Path, ReplayFault};
 use warc_checking::check_rows;
 use warc_frame::{Fault, Framed, OutFault, Sink, Source};
 use warc_index::Unfound;
+use warc_judged::list_rows;
+use warc_lookup::{Lookup, UnorderedLookup};
 use warc_reading::{Opened, Row, RowIter};
 use warc_record::id_key;
+use warc_replay::{
+    BodyFault, ExtractFault, Outcome, Part, PayloadVerdict, StoredAt, TakeFault, capture_outcome,
+    capture_positions, give_body, judge_all, list_outcomes, locate_at, locate_for, path_from,
+    path_in, replay_rows, send_at, send_part, take_payload, take_record_at, take_stated_at,
+    take_verdict_at, write_unjudged,
+};
+use warc_rewrite::{
+    closed_positions, other_positions, remaining_positions, select_rows, selected_len,
+};
 use warc_value::{Moment, Verdict};
 
 /// An archive, whose records are listed, found by target, moment and id, and joined. Contracts see its listing, and
@@ -63,7 +56,7 @@ pub struct Archive<S: Source, A: Allocator = Global> {
 }
 
 impl<S: Source, A: Allocator> Model for Archive<S, A> {
-    ghost use Rattle.warc.specs.Indexed.{Archived};
+    ghost use Rattle.warc_lookup.specs.Indexed.{Archived};
 
     ghost Value = { Archived S };
 

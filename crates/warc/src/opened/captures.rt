@@ -1,70 +1,19 @@
 //! An archive whose blocks were judged as they were read, so that the lines of its captures are written without hashing
 //! a block again.
-ghost use Rattle.std.specs.Prelude.{◌≡◌, true, map, IfOk};
-ghost use Rattle.warc.specs.Indexed.{IsUnchanged};
-ghost use Rattle.warc_reading.specs.Judging.{verdict_on};
+ghost use Rattle.std.specs.Prelude.{◌≡◌, IfOk};
+ghost use Rattle.warc_lookup.specs.Indexed.{IsUnchanged};
 ghost use Rattle.warc_reading.specs.Opening.{Opens, source_left, without_source};
-ghost use Rattle.warc.specs.Captured.{AreVerdictsOf, IsCaptured};
-ghost use Rattle.warc.specs.Captures.{capture_positions};
-ghost use Rattle.warc.specs.Capturing.{SendsCaptures};
+ghost use Rattle.warc_replay.specs.Captured.{AreVerdictsOf, IsCaptured};
+ghost use Rattle.warc_replay.specs.Captures.{capture_positions};
+ghost use Rattle.warc_replay.specs.Capturing.{SendsCaptures};
 
-use crate::lookup::{Lookup, UnorderedLookup};
-use crate::opened::block_verdicts::BlockVerdicts;
-use crate::opened::counts::Verdicts;
-use crate::replay::capture_lines::write_judged;
-use crate::replay::captures::capture_positions;
 use std::alloc::{AllocError, Allocator, Global};
 use std::marker::Model;
-use warc_checking::{BlockCheck, PIECE_LEN};
 use warc_frame::{Fault, OutFault, Sink, Source};
-use warc_quick::{QuickHead, QuickRecord};
-use warc_reading::{BlockDigest, Keep, KeptPair, Opened};
-use warc_record::GoodHead;
-
-impl<A: Allocator + Copy> Keep<A> for BlockVerdicts<A> {
-    ghost use Rattle.std.specs.Prelude.{map};
-    ghost use Rattle.warc_reading.specs.Judging.{verdict_on};
-
-    ghost keeps = { λ verdicts records. verdicts ≡ map verdict_on records };
-
-    type Block = BlockDigest;
-
-    ghost takes = { λ _. true };
-
-    fn takes(_head: &QuickHead<'_>) -> bool {
-        true
-    }
-
-    fn keep(
-        &mut self,
-        _alloc: A,
-        _position: usize,
-        _head: &GoodHead<A>,
-        _block_start: u64,
-        _block_len: u64,
-        block: BlockDigest,
-    ) -> Result<(), AllocError> {
-        self.add(BlockCheck::Known(block.verdict()), b"")
-    }
-
-    fn keep_plain(
-        &mut self,
-        _alloc: A,
-        _position: usize,
-        found: &QuickRecord<'_>,
-        _block_start: u64,
-    ) -> Result<(), AllocError> {
-        self.add(BlockCheck::of(&found.head.wanted()), found.block)
-    }
-
-    fn truncate(&mut self, count: usize) {
-        BlockVerdicts::truncate(self, count);
-    }
-
-    fn piece_len() -> usize {
-        PIECE_LEN
-    }
-}
+use warc_judged::{BlockVerdicts, Verdicts};
+use warc_lookup::{Lookup, UnorderedLookup};
+use warc_reading::{KeptPair, Opened};
+use warc_replay::{capture_positions, write_judged};
 
 /// The verdicts on blocks, and what finds and joins their records.
 #[derive(Drop)]
@@ -81,7 +30,7 @@ pub struct Captures<S: Source, A: Allocator = Global> {
 }
 
 impl<S: Source, A: Allocator> Model for Captures<S, A> {
-    ghost use Rattle.warc.specs.Captured.{Captured};
+    ghost use Rattle.warc_replay.specs.Captured.{Captured};
 
     ghost Value = { Captured S };
 

@@ -4,32 +4,28 @@ ghost use Rattle.warc_frame.specs.Effects.{SendsText};
 ghost use Rattle.warc_frame.specs.Record.{max_archive};
 ghost use Rattle.warc_reading.specs.Archive.{IsArchiveOf};
 ghost use Rattle.warc_checking.specs.Checks.{Checks};
-ghost use Rattle.warc.specs.Forms.{Writes, WritesSplit};
+ghost use Rattle.warc_rewrite.specs.Forms.{Writes, WritesSplit};
 ghost use Rattle.warc.specs.Front.{CopiesFront, OpensFront};
-ghost use Rattle.warc.specs.Listing.{listing};
-ghost use Rattle.warc.specs.Parts.{GivesPart};
+ghost use Rattle.warc_judged.specs.Listing.{listing};
+ghost use Rattle.warc_replay.specs.Parts.{GivesPart};
 ghost use Rattle.warc_reading.specs.Growing.{Grows};
 ghost use Rattle.warc_reading.specs.Opening.{Opens, source_left, without_source};
-ghost use Rattle.warc.specs.Heading.{GivesHead};
-ghost use Rattle.warc.specs.Judged.{GivesStated, GivesVerdict};
-ghost use Rattle.warc.specs.Selecting.{AreOthers, ArePositions, Selects, selected_text};
-ghost use Rattle.warc.specs.Taking.{GivesRecord};
+ghost use Rattle.warc_replay.specs.Heading.{GivesHead};
+ghost use Rattle.warc_replay.specs.Judged.{GivesStated, GivesVerdict};
+ghost use Rattle.warc_rewrite.specs.Selecting.{AreOthers, ArePositions, Selects, selected_text};
+ghost use Rattle.warc_replay.specs.Taking.{GivesRecord};
 
-use crate::fault::{ExtractFault, TakeFault};
-use crate::record::head::take_head_at;
-use crate::record::part::Part;
-use crate::record::range::{send_part, send_range};
-use crate::record::verdict::{take_stated_at, take_verdict_at};
-use crate::record::whole::take_record_at;
-use crate::rewrite::forms::Form;
-use crate::rewrite::output::{Replacement, write_each};
-use crate::rewrite::selection::{other_positions, select_rows, selected_len};
-use crate::row::list_rows;
 use std::alloc::{AllocError, Allocator, Global};
 use std::marker::Model;
 use warc_checking::check_rows;
 use warc_frame::{Fault, Framed, Head, OutFault, Sink, Source};
+use warc_judged::list_rows;
 use warc_reading::{Opened, Row, RowIter, RowsAlone, read_front};
+use warc_replay::{
+    ExtractFault, Part, TakeFault, send_part, send_range, take_head_at, take_record_at,
+    take_stated_at, take_verdict_at,
+};
+use warc_rewrite::{Form, Replacement, other_positions, select_rows, selected_len, write_each};
 use warc_value::Verdict;
 
 /// What is listed of an archive, and the source of its bytes. Contracts see the source, and a row for each record.

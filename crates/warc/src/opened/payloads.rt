@@ -2,24 +2,22 @@
 ghost use Rattle.std.specs.Prelude.{◌≡◌, [], ◌∷◌, ◌++◌, is_some, IfErr, OnErr, OnOk};
 ghost use Rattle.std.specs.List.{list_all, list_any};
 ghost use Rattle.warc_frame.specs.Effects.{Puts, SendsText};
-ghost use Rattle.warc.specs.Fixity.{digest_at};
-ghost use Rattle.warc.specs.PayloadStates.{JudgesMorePayloads};
-ghost use Rattle.warc.specs.PayloadText.{are_verified, is_payload_verdict, is_verified, payload_counts, payload_line, payload_line_if, payload_tally, payloads_text};
-ghost use Rattle.warc.specs.PayloadVerdicts.{JudgesPayloads, payload_verdict_at, value_shown};
+ghost use Rattle.warc_judged.specs.Fixity.{digest_at};
+ghost use Rattle.warc_replay.specs.PayloadStates.{JudgesMorePayloads};
+ghost use Rattle.warc_replay.specs.PayloadText.{are_verified, is_payload_verdict, is_verified, payload_counts, payload_line, payload_line_if, payload_tally, payloads_text};
+ghost use Rattle.warc_replay.specs.PayloadVerdicts.{JudgesPayloads, payload_verdict_at, value_shown};
 
-use crate::lookup::Lookup;
-use crate::opened::counts::{is_verdict, one_if};
-use crate::opened::fixity::{Counts, put_counts, verdict_text};
-use crate::record::comparison::compare_at;
-use crate::record::digests::KnownDigests;
-use crate::record::payload::{PayloadVerdict, Unjudged, payload_value, plain_verdict, reason_of};
-use crate::row::shown_as;
 use itoa::Buffer;
 use std::alloc::{AllocError, Allocator, Global};
 use std::marker::Model;
 use warc_frame::{OutBuffer, OutFault, SendFault, Sink, Source, put_columns};
+use warc_judged::{Counts, is_verdict, one_if, put_counts, shown_as, verdict_text};
+use warc_lookup::Lookup;
 use warc_reading::{Row, Rows};
 use warc_record::bare;
+use warc_replay::{
+    KnownDigests, PayloadVerdict, Unjudged, compare_at, payload_value, plain_verdict, reason_of,
+};
 use warc_value::Verdict;
 
 /// How the payload of each record compares with the digest that its head states, if it states one, and the value of
@@ -32,7 +30,7 @@ pub struct Payloads<A: Allocator = Global> {
 
 impl<A: Allocator> Model for Payloads<A> {
     ghost use Rattle.std.specs.Prelude.{map};
-    ghost use Rattle.warc.specs.PayloadVerdicts.{PayloadJudgements};
+    ghost use Rattle.warc_replay.specs.PayloadVerdicts.{PayloadJudgements};
 
     ghost Value = { PayloadJudgements };
 

@@ -3,33 +3,30 @@ ghost use Rattle.std.specs.Prelude.{◌≡◌, ℕ, List, [], ◌++◌, false, I
 ghost use Rattle.warc_frame.specs.Effects.{Puts};
 ghost use Rattle.warc_frame.specs.Failing.{failed_by, is_read};
 ghost use Rattle.warc_reading.specs.Archive.{contents};
-ghost use Rattle.warc.specs.Indexed.{AreOf};
+ghost use Rattle.warc_lookup.specs.Indexed.{AreOf};
 ghost use Rattle.warc_reading.specs.Opening.{Opens, source_left, without_source};
 ghost use Rattle.warc_reading.specs.Row.{Placed};
 ghost use Rattle.warc_checking.specs.Checking.{check_text};
 ghost use Rattle.warc_checking.specs.OwnFindings.{AreJudged, all_of};
-ghost use Rattle.warc.specs.Captures.{capture_positions};
-ghost use Rattle.warc.specs.Capturing.{AreKnownBlocks, PutsCaptures};
-ghost use Rattle.warc.specs.Fixity.{fixity_text};
-ghost use Rattle.warc.specs.Listing.{listing};
-ghost use Rattle.warc.specs.Summary.{summary_text};
+ghost use Rattle.warc_replay.specs.Captures.{capture_positions};
+ghost use Rattle.warc_replay.specs.Capturing.{AreKnownBlocks, PutsCaptures};
+ghost use Rattle.warc_judged.specs.Fixity.{fixity_text};
+ghost use Rattle.warc_judged.specs.Listing.{listing};
+ghost use Rattle.warc_judged.specs.Summary.{summary_text};
 ghost use Rattle.warc.specs.Survey.{AreGathered, IsSurveyKept, IsSurveyed, PutsPart, WritesSurvey, known_text, part_name};
 
-use crate::lookup::{Lookup, UnorderedLookup};
-use crate::opened::counts::Verdicts;
-use crate::opened::fixity::{Digests, WaitingDigests, put_fixity};
-use crate::opened::marks::HeadMarks;
-use crate::opened::summary::{Summary, summary_of};
-use crate::replay::capture_lines::put_captures;
-use crate::replay::captures::capture_positions;
-use crate::row::put_rows;
 use std::alloc::{Allocator, Global};
 use std::marker::Model;
 use warc_checking::{OwnFindings, mark_each, put_findings};
 use warc_fixity::laws::wanted_verdict_is_kept;
 use warc_frame::laws::head_of_spelled;
 use warc_frame::{Fault, OutBuffer, OutFault, SendFault, Sink, Source, put_all};
+use warc_judged::{
+    Digests, HeadMarks, Summary, Verdicts, WaitingDigests, put_fixity, put_rows, summary_of,
+};
+use warc_lookup::{Lookup, UnorderedLookup};
 use warc_reading::{KeptPair, Opened, Rows};
+use warc_replay::{capture_positions, put_captures};
 
 /// What is kept of records for a survey while the source is read: how their blocks compare with the digests that are
 /// stated, marks of their heads, what each alone shows but for N4, and what finds and joins them.

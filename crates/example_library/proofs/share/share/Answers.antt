@@ -1,7 +1,7 @@
 use Rattle.std.proofs.Common.{◌≡◌, ℕ, List, subst, sym, ◌∙◌}
 use Rattle.warc_reading.specs.Archive.{IsArchiveOf}
 use Rattle.warc_reading.specs.Row.{Row}
-use Rattle.warc.specs.Selecting.{selected_text}
+use Rattle.warc_rewrite.specs.Selecting.{selected_text}
 use Rattle.example_library.proofs.ShareLemmas.{is_shared, share_unopened}
 use Rattle.example_library.proofs.share.share.Goals as goal
 

@@ -1,7 +1,7 @@
 use Rattle.std.proofs.Common.{ℕ, List, IfOk, ap, subst, sym}
 use Rattle.warc_frame.specs.Device.{Stored}
 use Rattle.warc_reading.specs.Archive.{Contents}
-use Rattle.warc.specs.Indexed.{IsIndexed}
+use Rattle.warc_lookup.specs.Indexed.{IsIndexed}
 use Rattle.example_page.specs.Page.{IsPageOf}
 use Rattle.example_page.proofs.page.page_if_refused.Goals as goal
 

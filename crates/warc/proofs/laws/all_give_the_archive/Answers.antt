@@ -1,4 +1,4 @@
-use Rattle.warc.proofs.SelectionLaws.{all_give_the_archive}
+use Rattle.warc_rewrite.proofs.SelectionLaws.{all_give_the_archive}
 use Rattle.warc.proofs.laws.all_give_the_archive.Goals as goal
 
 pub returns : goal.returns

@@ -1,4 +1,4 @@
-use Rattle.warc.proofs.SelectionLaws.{selection_is_an_archive, selection_is_of_the_selected}
+use Rattle.warc_rewrite.proofs.SelectionLaws.{selection_is_an_archive, selection_is_of_the_selected}
 use Rattle.warc.proofs.laws.selection_is_an_archive.Goals as goal
 
 pub returns-clause-archive : goal.returns-clause-archive

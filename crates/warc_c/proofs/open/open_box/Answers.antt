@@ -1,6 +1,6 @@
 use Rattle.std.proofs.Common.{ap, inr, refl, subst, sym, Some}
 use Rattle.warc_lent.proofs.TextLemmas.{refused_for}
-use Rattle.warc.specs.Indexed.{IsIndexed}
+use Rattle.warc_lookup.specs.Indexed.{IsIndexed}
 use Rattle.warc_c.proofs.open.open_box.Goals as goal
 
 pub returns-in-Err-clause-refused : goal.returns-in-Err-clause-refused

@@ -1,6 +1,6 @@
 use Rattle.std.proofs.Common.{inl, inr, refl, sym, ap, ◌∙◌}
 use Rattle.warc_answer.specs.Answers.{path_at}
-use Rattle.warc.specs.Bodies.{body_result}
+use Rattle.warc_replay.specs.Bodies.{body_result}
 use Rattle.warc_reading.specs.Archive.{contents}
 use Rattle.warc_commands.proofs.ProgramLemmas.{failed_as, good_records_of, may_have_failed_as, not_opened}
 use Rattle.warc_commands.proofs.ReadLemmas.{opened, replay_read, thrice_at_most}

@@ -1,6 +1,6 @@
 use Rattle.std.proofs.Common.{length, ap, ◌∙◌}
 use Rattle.std.proofs.lemmas.Result.{err_from_is_err_and}
-use Rattle.warc.specs.Captures.{capture_positions}
+use Rattle.warc_replay.specs.Captures.{capture_positions}
 use Rattle.warc_commands.proofs.CaptureLemmas.{writes_all, writes_front, writes_none}
 use Rattle.warc_commands.proofs.captures.write_all.Goals as goal
 

@@ -1,7 +1,7 @@
 use Rattle.std.proofs.Common.{inl, inr, refl, sym, ap, ◌∙◌}
-use Rattle.warc.specs.Parts.{extract_result}
+use Rattle.warc_replay.specs.Parts.{extract_result}
 use Rattle.warc_commands.proofs.ProgramLemmas.{failed_as, may_have_failed_as, not_opened}
-use Rattle.warc.specs.declared.record.part.Part.TheVariants.{Block}
+use Rattle.warc_replay.specs.declared.record.part.Part.TheVariants.{Block}
 use Rattle.warc_commands.proofs.ReadLemmas.{opened, part_read, twice_at_most}
 use Rattle.warc_commands.proofs.extract.extract.Goals as goal
 

@@ -1,6 +1,6 @@
 use Rattle.std.proofs.Common.{◌≡◌, ℕ, List, Option, Some, inl, inr, refl, sym, ap, subst, ◌∙◌}
-use Rattle.warc.specs.Parts.{extract_result}
-use Rattle.warc.specs.declared.record.part.Part.{Part}
+use Rattle.warc_replay.specs.Parts.{extract_result}
+use Rattle.warc_replay.specs.declared.record.part.Part.{Part}
 use Rattle.warc_commands.specs.Devices.{Devices}
 use Rattle.warc_commands.specs.Parts.{PartEnds, position_of}
 use Rattle.warc_commands.proofs.ProgramLemmas.{failed_as, may_have_failed_as, not_opened}

@@ -1,5 +1,5 @@
 use Rattle.std.proofs.Common.{List, ℕ, length, sym, subst}
-use Rattle.warc.specs.Selecting.{ArePositions}
+use Rattle.warc_rewrite.specs.Selecting.{ArePositions}
 use Rattle.warc_commands.proofs.ChoiceLemmas.{in_order, wants_others, wants_the_named}
 use Rattle.warc_commands.proofs.select.choose.Goals as goal
 

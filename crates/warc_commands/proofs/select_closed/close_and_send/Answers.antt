@@ -1,6 +1,6 @@
 use Rattle.std.proofs.Common.{ℕ, List, length, sym, subst, refl, arith}
 use Rattle.warc_reading.specs.Row.{Row}
-use Rattle.warc.specs.Selecting.{ArePositions}
+use Rattle.warc_rewrite.specs.Selecting.{ArePositions}
 use Rattle.warc_commands.proofs.ClosedLemmas.{closure_sent, heads_then, reads_no_record, unclosed}
 use Rattle.warc_commands.proofs.select_closed.close_and_send.Goals as goal
 

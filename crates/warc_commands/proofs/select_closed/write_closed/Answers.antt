@@ -1,5 +1,5 @@
 use Rattle.std.proofs.Common.{ℕ, List, length, inl, sym, subst}
-use Rattle.warc.specs.Selecting.{ArePositions}
+use Rattle.warc_rewrite.specs.Selecting.{ArePositions}
 use Rattle.warc_commands.specs.Selected.{AreTheNamed}
 use Rattle.warc_commands.proofs.ChoiceLemmas.{in_order, the_named, there_by}
 use Rattle.warc_commands.proofs.ClosedLemmas.{reads_nothing}

@@ -1,5 +1,5 @@
 use Rattle.std.proofs.Common.{◌≡◌, ℕ, List, Option, Some, inl, inr, refl, ap, subst, ◌∙◌}
-use Rattle.warc.specs.Forms.{split_texts}
+use Rattle.warc_rewrite.specs.Forms.{split_texts}
 use Rattle.warc_commands.specs.Devices.{Devices}
 use Rattle.warc_commands.specs.Program.{SplitEnds, WriteEnds, size_of}
 use Rattle.warc_commands.proofs.ProgramLemmas.{all_written, part_written}

@@ -1,6 +1,6 @@
 use Rattle.std.proofs.Common.{Ok, Err, inl, inr, refl, sym, ap, ◌∙◌}
 use Rattle.warc_answer.specs.Answers.{path_at}
-use Rattle.warc.specs.Outcomes.{answer_seen}
+use Rattle.warc_replay.specs.Outcomes.{answer_seen}
 use Rattle.warc_commands.proofs.ProgramLemmas.{not_opened}
 use Rattle.warc_commands.proofs.ReadLemmas.{opened, replay_read, thrice_at_most}
 use Rattle.warc_commands.proofs.StoredLemmas.{chosen_of_bytes, stored_given}

@@ -1,7 +1,7 @@
 use Rattle.std.proofs.Common.{ℕ, inl, inr, refl, ap, sym, ◌∙◌}
 use Rattle.warc_frame.proofs.EffectLemmas.{fails_as}
 use Rattle.warc_reading.proofs.IndexedLemmas.{opens_with}
-use Rattle.warc.specs.Indexed.{Archived, IsIndexed}
+use Rattle.warc_lookup.specs.Indexed.{Archived, IsIndexed}
 use Rattle.warc_commands.proofs.ProgramLemmas.{has_failed, may_have_failed, not_opened}
 use Rattle.warc_commands.proofs.ReadLemmas.{opened, replay_near}
 use Rattle.warc_commands.proofs.survey.survey.Goals as goal

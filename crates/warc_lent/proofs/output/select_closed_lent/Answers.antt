@@ -1,5 +1,5 @@
 use Rattle.std.proofs.Common.{subst, sym}
-use Rattle.warc.specs.Indexed.{IsIndexed}
+use Rattle.warc_lookup.specs.Indexed.{IsIndexed}
 use Rattle.warc_lent.specs.Writing.{SelectsClosed}
 use Rattle.warc_lent.proofs.output.select_closed_lent.Goals as goal
 

@@ -2,9 +2,9 @@ use Rattle.std.proofs.Common.{ap, ◌∙◌}
 use Rattle.std.proofs.lemmas.Result.{err_from_is_err_and}
 use Rattle.warc_frame.proofs.EffectLemmas.{fails_as}
 use Rattle.warc_reading.specs.Archive.{contents}
-use Rattle.warc.specs.PayloadVerdicts.{payload_value}
-use Rattle.warc.proofs.CaptureLemmas.{memory_early}
-use Rattle.warc.proofs.ComparedLemmas.{judged_next, next_memory}
+use Rattle.warc_replay.specs.PayloadVerdicts.{payload_value}
+use Rattle.warc_replay.proofs.CaptureLemmas.{memory_early}
+use Rattle.warc_replay.proofs.ComparedLemmas.{judged_next, next_memory}
 use Rattle.warc.proofs.opened.payloads.judge_next.Goals as goal
 
 pub returns-in_err-next : goal.returns-in_err-next

@@ -2,10 +2,10 @@ use Rattle.std.proofs.Common.{◌≡◌, ◌<◌, length, refl, subst, ◌∙◌
 use Rattle.std.proofs.lemmas.Result.{err_from_is_err_and}
 use Rattle.warc_frame.proofs.EffectLemmas.{fails_after, fails_as, fails_more, fails_never}
 use Rattle.warc_reading.specs.Archive.{contents}
-use Rattle.warc.specs.PayloadVerdicts.{AreJudgedPayloads}
-use Rattle.warc.proofs.ComparedLemmas.{none_judged, row_below}
-use Rattle.warc.proofs.OriginLemmas.{preserves_both}
-use Rattle.warc.proofs.ReplayLemmas.{asks_both}
+use Rattle.warc_replay.specs.PayloadVerdicts.{AreJudgedPayloads}
+use Rattle.warc_replay.proofs.ComparedLemmas.{none_judged, row_below}
+use Rattle.warc_replay.proofs.OriginLemmas.{preserves_both}
+use Rattle.warc_replay.proofs.ReplayLemmas.{asks_both}
 use Rattle.warc.proofs.opened.payloads.judge_payloads.Goals as goal
 
 pub judging-init : goal.judging-init

@@ -2,10 +2,10 @@ use Rattle.std.proofs.Common.{◌≡◌, ◌≤◌, length}
 use Rattle.warc_frame.specs.Effects.{Preserves}
 use Rattle.warc_frame.specs.Seen.{IfHeld}
 use Rattle.warc_reading.specs.Archive.{IsArchiveOf, contents}
-use Rattle.warc.specs.Indexed.{AreOf}
-use Rattle.warc.specs.PayloadStates.{AreKnown}
-use Rattle.warc.specs.PayloadVerdicts.{AreJudgedPayloads}
-use Rattle.warc.specs.Replaying.{AsksInside}
+use Rattle.warc_lookup.specs.Indexed.{AreOf}
+use Rattle.warc_replay.specs.PayloadStates.{AreKnown}
+use Rattle.warc_replay.specs.PayloadVerdicts.{AreJudgedPayloads}
+use Rattle.warc_replay.specs.Replaying.{AsksInside}
 use Rattle.warc.proofs.opened.payloads.judge_payloads.Given as goal
 
 -- the verdicts so far, and the digests that are known

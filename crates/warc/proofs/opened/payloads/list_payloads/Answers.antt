@@ -1,9 +1,9 @@
 use Rattle.std.proofs.Common.{rules, ◌≡◌, ◌+◌, ◌++◌, take, Some, arith, refl, sym, ap, ap₂, ◌∙◌}
 use Rattle.std.specs.List.{slice_get}
-use Rattle.warc.specs.Fixity.{counts_line}
-use Rattle.warc.specs.PayloadText.{payload_counts, payload_line_at, payload_line_if, payload_lines}
+use Rattle.warc_judged.specs.Fixity.{counts_line}
+use Rattle.warc_replay.specs.PayloadText.{payload_counts, payload_line_at, payload_line_if, payload_lines}
 use Rattle.warc_frame.proofs.LawLemmas.{longer, same_out, same_staged}
-use Rattle.warc.proofs.LineLemmas.{lines_next}
+use Rattle.warc_judged.proofs.LineLemmas.{lines_next}
 use Rattle.warc.proofs.PayloadTextLemmas.{all_payload_lines, whole_payloads}
 use Rattle.warc.proofs.opened.payloads.list_payloads.Goals as goal
 

@@ -1,6 +1,6 @@
 use Rattle.std.proofs.Common.{◌≡◌, take}
 use Rattle.warc_frame.specs.Send.{IsStaged}
-use Rattle.warc.specs.PayloadText.{payload_lines}
+use Rattle.warc_replay.specs.PayloadText.{payload_lines}
 use Rattle.warc.proofs.opened.payloads.list_payloads.Given as goal
 
 -- the lines of the rows so far are staged, and no write has failed

@@ -1,5 +1,5 @@
 use Rattle.std.proofs.Common.{◌≡◌, ◌≤◌, take}
-use Rattle.warc.specs.PayloadText.{payload_tally}
+use Rattle.warc_replay.specs.PayloadText.{payload_tally}
 use Rattle.warc.proofs.opened.payloads.payload_tally.Given as goal
 
 -- the verdicts so far were counted

@@ -1,7 +1,7 @@
 use Rattle.std.proofs.Common.{ap, ◌∙◌}
 use Rattle.warc_record.specs.Ids.{bare_text}
 use Rattle.warc_reading.specs.Row.{Row}
-use Rattle.warc.specs.Fixity.{verdict_text}
+use Rattle.warc_judged.specs.Fixity.{verdict_text}
 use Rattle.warc_checking.proofs.CheckLemmas.{puts_same}
 use Rattle.warc.proofs.PayloadTextLemmas.{payload_from}
 use Rattle.warc.proofs.opened.payloads.put_payload.Goals as goal

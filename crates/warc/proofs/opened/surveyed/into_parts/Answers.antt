@@ -1,7 +1,7 @@
 use Rattle.std.proofs.Common.{ap, ap₂, ◌∙◌}
-use Rattle.warc.proofs.LookupLemmas.{are_of_same}
-use Rattle.warc.specs.Fixity.{Judgements}
-use Rattle.warc.specs.Survey.{SurveyMarks, settled_claims}
+use Rattle.warc_lookup.proofs.LookupLemmas.{are_of_same}
+use Rattle.warc_judged.specs.Fixity.{Judgements}
+use Rattle.warc_judged.specs.Claims.{SurveyMarks, settled_claims}
 use Rattle.warc.proofs.SurveyLemmas.{claims_settled}
 use Rattle.warc.proofs.opened.surveyed.into_parts.Goals as goal
 

@@ -2,7 +2,7 @@ use Rattle.std.proofs.Common.{◌++◌, codes}
 use Rattle.std.proofs.lemmas.Result.{err_from_is_err_and}
 use Rattle.warc_checking.specs.Checking.{check_text}
 use Rattle.warc_reading.specs.Archive.{contents}
-use Rattle.warc.specs.Summary.{summary_text}
+use Rattle.warc_judged.specs.Summary.{summary_text}
 use Rattle.warc.specs.Survey.{part_name}
 use Rattle.warc.proofs.SurveyLemmas.{part_cut, part_of, parts_cut, parts_then}
 use Rattle.warc.proofs.opened.surveyed.put_known.Goals as goal

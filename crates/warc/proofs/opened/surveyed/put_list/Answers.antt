@@ -1,6 +1,6 @@
 use Rattle.std.proofs.lemmas.Result.{err_from_is_err_and}
-use Rattle.warc.specs.Listing.{listing}
-use Rattle.warc.proofs.SurveyLemmas.{puts_cut, puts_then}
+use Rattle.warc_judged.specs.Listing.{listing}
+use Rattle.warc_judged.proofs.ClaimLemmas.{puts_cut, puts_then}
 use Rattle.warc.proofs.opened.surveyed.put_list.Goals as goal
 
 pub returns-in_err-put_name : goal.returns-in_err-put_name

@@ -1,8 +1,8 @@
 use Rattle.std.proofs.Common.{codes}
 use Rattle.std.proofs.lemmas.Result.{err_from_is_err_and}
-use Rattle.warc.specs.Summary.{summary_text}
+use Rattle.warc_judged.specs.Summary.{summary_text}
 use Rattle.warc.specs.Survey.{part_name}
-use Rattle.warc.proofs.SurveyLemmas.{puts_cut, puts_then}
+use Rattle.warc_judged.proofs.ClaimLemmas.{puts_cut, puts_then}
 use Rattle.warc.proofs.opened.surveyed.put_summary.Goals as goal
 
 pub returns-in_err-put_name : goal.returns-in_err-put_name

@@ -1,6 +1,6 @@
 use Rattle.std.proofs.Common.{sym, ap}
-use Rattle.warc.specs.Indexed.{Archived}
-use Rattle.warc.proofs.ExtractLemmas.{extracts_at}
+use Rattle.warc_lookup.specs.Indexed.{Archived}
+use Rattle.warc_replay.proofs.ExtractLemmas.{extracts_at}
 use Rattle.warc.proofs.opened.archive.Archive.extract.Goals as goal
 
 pub returns-clause-extracts : goal.returns-clause-extracts

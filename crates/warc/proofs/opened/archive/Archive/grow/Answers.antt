@@ -1,6 +1,6 @@
 use Rattle.std.proofs.Common.{ap, ap₂, ◌∙◌}
 use Rattle.warc_reading.proofs.GrowLemmas.{grows_made, kept_by_rows, on_err_by}
-use Rattle.warc.proofs.LookupLemmas.{are_of_same}
+use Rattle.warc_lookup.proofs.LookupLemmas.{are_of_same}
 use Rattle.warc.proofs.opened.archive.Archive.grow.Goals as goal
 
 pub returns-clause-grows : goal.returns-clause-grows

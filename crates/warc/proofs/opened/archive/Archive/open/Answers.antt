@@ -1,5 +1,5 @@
 use Rattle.warc_reading.proofs.IndexedLemmas.{opens_with, refuses_with}
-use Rattle.warc.proofs.LookupLemmas.{are_of_same}
+use Rattle.warc_lookup.proofs.LookupLemmas.{are_of_same}
 use Rattle.warc.proofs.opened.archive.Archive.open.Goals as goal
 
 pub returns-in-Ok : goal.returns-in-Ok

@@ -1,6 +1,6 @@
 use Rattle.std.proofs.Common.{◌∙◌}
 use Rattle.warc_reading.proofs.IndexedLemmas.{opens_with, refuses_with}
-use Rattle.warc.proofs.LookupLemmas.{are_of_same}
+use Rattle.warc_lookup.proofs.LookupLemmas.{are_of_same}
 use Rattle.warc.proofs.opened.captures.Captures.open.Goals as goal
 
 pub returns-in-Ok : goal.returns-in-Ok

@@ -1,6 +1,6 @@
 use Rattle.std.proofs.Common.{ap, ◌∙◌}
 use Rattle.warc_reading.proofs.IndexedLemmas.{opens_with, refuses_with}
-use Rattle.warc.specs.Fixity.{Judgements}
+use Rattle.warc_judged.specs.Fixity.{Judgements}
 use Rattle.warc.proofs.opened.fixity.Fixity.open.Goals as goal
 
 pub returns-in-Ok : goal.returns-in-Ok

@@ -1,7 +1,0 @@
-use Rattle.std.proofs.Common.{◌≡◌, take}
-use Rattle.warc.specs.Survey.{settled_claims}
-use Rattle.warc.proofs.opened.counts.settle_claims.Given as goal
-
--- the claims so far are settled
-abbrev pub invariant-settling : goal.invariant-settling
-invariant-settling l = l.claims ≡ settled_claims l.fn.claims (take l.i l.stated)

@@ -1,6 +1,0 @@
-use Rattle.warc.specs.Tallies.{IsTalliedTo}
-use Rattle.warc.proofs.opened.summary.tally_rows.Given as goal
-
--- the rows so far were counted
-abbrev pub invariant-counting : goal.invariant-counting
-invariant-counting g l = IsTalliedTo l.rows l.position l.tally

@@ -1,6 +1,0 @@
-use Rattle.warc.proofs.CaptureLineLemmas.{sends_given}
-use Rattle.warc.proofs.KnownLemmas.{known_as}
-use Rattle.warc.proofs.replay.capture_lines.write_judged.Goals as goal
-
-pub returns : goal.returns
-returns g c = sends_given (λ records same. known_as _ records same) c.write_captures.ensures

@@ -1,7 +1,0 @@
-use Rattle.std.proofs.Common.{take}
-use Rattle.warc.specs.Marks.{MarksSegments}
-use Rattle.warc.proofs.rewrite.needs.mark_segments.Given as goal
-
--- the segments so far are marked
-abbrev pub invariant-marking : goal.invariant-marking
-invariant-marking l = MarksSegments (take l.segment-index l.segments) l.fn.marks l.marks

@@ -1,6 +1,0 @@
-use Rattle.warc.specs.Marks.{AreWhere, marks_needed, mark_in}
-use Rattle.warc.proofs.rewrite.needs.marked_positions.Given as goal
-
--- the marked positions so far
-abbrev pub invariant-listing : goal.invariant-listing
-invariant-listing g l = AreWhere (λ p. marks_needed (mark_in l.marks p)) l.position l.positions.items

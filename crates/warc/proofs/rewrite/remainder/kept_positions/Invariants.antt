@@ -1,7 +1,0 @@
-use Rattle.warc.specs.Marks.{AreWhere}
-use Rattle.warc.specs.Statuses.{needs_none, status_at}
-use Rattle.warc.proofs.rewrite.remainder.kept_positions.Given as goal
-
--- the kept positions so far
-abbrev pub invariant-listing : goal.invariant-listing
-invariant-listing g l = AreWhere (λ p. needs_none (status_at l.statuses p)) l.position l.positions.items

@@ -1,7 +1,0 @@
-use Rattle.std.proofs.Common.{take}
-use Rattle.warc.specs.Statuses.{NamesAll}
-use Rattle.warc.proofs.rewrite.remainder.name_all.Given as goal
-
--- the positions so far are named
-abbrev pub invariant-naming : goal.invariant-naming
-invariant-naming l = NamesAll (take l.position-index l.positions) l.fn.statuses l.statuses

@@ -1,0 +1,16 @@
+pub mod BodyLemmas
+pub mod CaptureLemmas
+pub mod CaptureLineLemmas
+pub mod ComparedLemmas
+pub mod DigestLemmas
+pub mod ExtractLemmas
+pub mod HeadingLemmas
+pub mod JoinedLemmas
+pub mod JudgedLemmas
+pub mod KnownLemmas
+pub mod LocatingLemmas
+pub mod LookLemmas
+pub mod OriginLemmas
+pub mod PayloadLemmas
+pub mod ReplayLemmas
+pub mod TakeLemmas

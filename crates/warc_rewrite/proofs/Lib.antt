@@ -1,0 +1,14 @@
+pub mod EmitLemmas
+pub mod LeftLemmas
+pub mod MarkLemmas
+pub mod MarkedWayLemmas
+pub mod NeededLemmas
+pub mod OtherLemmas
+pub mod SelectLemmas
+pub mod SelectionLaws
+pub mod SettledLemmas
+pub mod SplitLemmas
+pub mod StatusLemmas
+pub mod TakenLemmas
+pub mod WhereLemmas
+pub mod WholeLemmas

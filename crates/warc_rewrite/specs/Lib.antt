@@ -1,0 +1,10 @@
+pub mod Closing
+pub mod Closure
+pub mod Copied
+pub mod Forms
+pub mod Marks
+pub mod Segments
+pub mod Selected
+pub mod Selecting
+pub mod SelectionLaws
+pub mod Statuses
