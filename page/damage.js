@@ -30,19 +30,17 @@ const PACKED_WORDS = {
   torn: (_, offset) => ['is torn', `The gzip member at byte ${offset} isn’t whole: the file ends before it does.`],
   damaged:
       ({why}, offset) => ['is damaged', `The gzip member at byte ${offset} can’t be decompressed: ${plainly(why)}.`],
-  other:
-      (_, offset) => ['is damaged', `At byte ${offset}, after a gzip member, there are bytes that gzip didn’t write.`],
+  other: (_, offset) => ['is damaged', `At byte ${offset}, after a gzip member, come bytes that gzip didn’t write.`],
   long: (_, offset) =>
       ['is too long to be decompressed here',
        `This page decompresses up to ${size(LIMIT)}. The gzip member at byte ${offset} leads beyond that.`,
 ],
   zstd: () => ['is compressed by zstd', 'This page decompresses gzip alone.'],
-  zip: ({why}, offset) => ['is refused', `It isn’t read as a package, for its ZIP at byte ${offset}. ${plainly(why)}.`],
-  entry: (
-      {why}, offset) => ['isn’t what was packed', `Its bytes, from byte ${offset} of the package on: ${plainly(why)}.`],
+  zip: ({why}, offset) => ['is refused', `Its ZIP isn’t read, at byte ${offset}. ${plainly(why)}.`],
+  entry: ({why}, offset) => ['isn’t what was packed', `Its bytes at byte ${offset} of the package: ${plainly(why)}.`],
   members: ({why}, offset) =>
       ['isn’t what was packed',
-       `Its bytes, from byte ${offset} of the package on: ${plainly(why)}. Its gzip members are good by their own ` +
+       `Its bytes at byte ${offset} of the package: ${plainly(why)}. Its gzip members are good by their own ` +
            'checksums, and are shown.',
 ],
   crossing: (_, offset) =>
@@ -58,11 +56,12 @@ function packedAdvice({kind, name}) {
     return ['Of a ZIP that contradicts itself one program would show what another didn’t check. Fetch it again.'];
   if (isOfPackage(kind)) return ['Fetch the package again.'];
   if (kind === 'crossing') return ['What that record gives was never captured so. All else is as in the files.'];
-  const packed = inShell(name, kind === 'zstd' ? 'a.warc.zst' : 'a.warc.gz'), to = packed.replace(/(\.gz|\.zst)?$/, '');
+  const packed = inShell(name, kind === 'zstd' ? 'a.warc.zst' : 'a.warc.gz');
+  const to = packed.replace(/(\.gz|\.zst)?$/, '');
   if (kind === 'zstd') return ['Decompress it first, as by ', code(`zstd -d ${packed}`), ', and open what that gives.'];
   if (kind === 'long') return ['Decompress it first, as by ', code(`gunzip ${packed}`), ', and open what that gives.'];
-  if (kind === 'other') return ['Whether they belong to it can’t be told. ', code('zwarc'), ' refuses the file.'];
-  const part = ' writes what can be decompressed up to the damage, also of this member, whose checksum isn’t tried. ' +
+  if (kind === 'other') return ['Whether they belong to it isn’t known. ', code('zwarc'), ' refuses the file.'];
+  const part = ' writes what can be decompressed up to the damage, also of this member; its checksum isn’t tried. ' +
       'Open what that gives.';
   return [code(`gzip -dc ${packed} > ${to === packed ? 'a.warc' : to}`), part];
 }

@@ -152,7 +152,8 @@ class Damages {
     const [place, length, kind, faultAt] = this.numbers.subarray(number * DAMAGE_NUMBERS), gap = this.gaps[-kind - 1];
     if (gap) {
       const {kind, name, offset} = gap;
-      const fault = isOfPackage(kind) ? `${name} isn’t what was packed` : `no good member at byte ${offset} of ${name}`;
+      const isPacked = isOfPackage(kind);
+      const fault = isPacked ? `${name} isn’t what was packed` : `no good member at byte ${offset} of ${name}`;
       return {place, length, fault, gap};
     }
     return {place, length, fault: this.faults.get(kind).replace(/ at \d+$/, ` at ${faultAt}`)};

@@ -71,7 +71,7 @@ class Package {
   add(root, entries) {
     for (const entry of entries) {
       const name = root + entry.name;
-      if (this.entries.has(name)) refuseZip('Twice', `there is a folder named as the package “${root}”`, entry.head);
+      if (this.entries.has(name)) refuseZip('Twice', `a folder has the name of the package “${root}”`, entry.head);
       this.entries.set(name, {...entry, name});
     }
   }
@@ -79,7 +79,8 @@ class Package {
   // Adds the entries of a package that is in this one.
   /** @type {(entry: ZipEntry) => Promise<void>} */
   async addPackage(entry) {
-    if (entry.method !== STORED_METHOD) refuseZip('Coded', `the package “${entry.name}” is compressed`, entry.offset);
+    const {name, method, offset} = entry;
+    if (method !== STORED_METHOD) refuseZip('Coded', `the package “${name}” is compressed`, offset);
     const inner = this.file.slice(entry.begin, entry.begin + entry.packed), root = `${entry.name}/`;
     const entries = await entriesOf(inner, Math.max(MOST_ENTRIES - this.entries.size, 0)).catch((error) => {
       if (!(error instanceof BadZip)) throw error;

@@ -8,8 +8,9 @@ It reports, a line each, and exits with 1 where there is any:
 - a word of specs/ that two specs files define;
 - a specs file that says "no public clause cites them" where the contract of a public function cites one of its words;
 - a line of over 120 characters: in src/ or specs/, but for imports (`ghost use`, `use`) and tactics, which rt fmt keeps
-  in one line; in a page, but for rows of tables and what a command writes (tools/wrap_pages.py breaks paragraphs); in
-  tools/, bench/, packaging/ and shell/, and in Python, shell, C and Rust of tests/, collection/, python/, rust/ and c/;
+  in one line; in a page, but for rows of tables and what a command writes (tools/wrap_pages.py breaks paragraphs); and
+  of over 120 bytes in tools/, bench/, packaging/ and shell/, and in Python, shell, C and Rust of tests/, collection/,
+  python/, rust/ and c/;
 - a planted bug, of must-fail/ or of tests/plants/, that doesn't apply (a text that isn't in its file exactly once), or
   that has no line `why:`; two of one crate with one name; more than the gate has time for;
 - a number of a paper or of a request in place of a plain name;
@@ -151,14 +152,16 @@ def shown_lines(lines: list[str]) -> set[int]:
 
 def wide_lines(top: str, paths: list[str]) -> Iterator[str]:
     for path in paths:
+        unit = "characters" if path.startswith("crates/") or path.endswith(".md") else "bytes"
         for files, wide in NARROW:
             if not files.fullmatch(path):
                 continue
             lines = lines_of(top, path)
             shown = shown_lines(lines)
             for number, line in enumerate(lines, 1):
-                if len(line) > WIDTH and number not in shown and not (wide and wide.match(line)):
-                    yield f"{path}:{number}: {len(line)} characters"
+                width = len(line if unit == "characters" else line.encode())
+                if width > WIDTH and number not in shown and not (wide and wide.match(line)):
+                    yield f"{path}:{number}: {width} {unit}"
 
 
 def edit_faults(top: str, path: str) -> Iterator[str]:

@@ -3,7 +3,7 @@
 
 Usage: lint_page.py
 
-It reports, a line each, and exits with 1 where there is any: a line of over 120 columns, a tab, and a function of 40
+It reports, a line each, and exits with 1 where there is any: a line of over 120 bytes, a tab, and a function of 40
 lines or more. A function begins at a line that ends with a brace, and ends at the brace in the same column, as
 clang-format lays it out.
 """
@@ -16,7 +16,7 @@ from collections.abc import Iterator
 
 from shared import TOP
 
-COLUMNS = 120
+WIDTH = 120
 LINES = 40
 BEGINS = re.compile(r"^ *(?!class )\S.*(?:\)|=>) \{$")
 NO_FUNCTION = re.compile(r"^ *(?:if|for|while|switch|} else|else|try|} catch|catch|class)\b")
@@ -25,8 +25,9 @@ NO_FUNCTION = re.compile(r"^ *(?:if|for|while|switch|} else|else|try|} catch|cat
 def wide_lines(lines: list[str]) -> Iterator[tuple[int, str]]:
     """Lines that are too long, and tabs."""
     for number, line in enumerate(lines, 1):
-        if len(line) > COLUMNS:
-            yield number, f"{len(line)} columns"
+        width = len(line.encode())
+        if width > WIDTH:
+            yield number, f"{width} bytes"
         if "\t" in line:
             yield number, "a tab"
 

@@ -185,9 +185,8 @@ def test_statuses(crawls: Collection, status: int, words: Tuple[str, ...]) -> No
 
 def test_no_query_is_an_error_of_the_index(crawls: Collection) -> None:
     """Whatever is typed, the index is asked for words alone."""
-    parts = '" \' * - ( ) : ^ + { } \\ ; \0 \udc80 AND OR NOT NEAR mill mill* "a b" -x é 東京 \u202e a\u0301 % _ '.split(
-        " "
-    )
+    text = '" \' * - ( ) : ^ + { } \\ ; \0 \udc80 AND OR NOT NEAR mill mill* "a b" -x é 東京 \u202e a\u0301 % _ '
+    parts = text.split(" ")
     numbers = random.Random(5)
     with searching(crawls.path("catalogue")) as catalogue:
         for _ in range(2000):

@@ -91,7 +91,7 @@ class Package:
         except BadZip as bad:
             raise BadZip(bad.fault, f"in {shown(entry.name)}: {bad}", entry.begin + bad.offset) from None
         if any(root + it.name in self.entries for it in entries):
-            raise BadZip("Twice", f"there is a folder named as the package {shown(entry.name)}", entry.offset)
+            raise BadZip("Twice", f"a folder has the name of the package {shown(entry.name)}", entry.offset)
         self.roots.append(root)
         self._add(root, entry.begin, entries)
 
