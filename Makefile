@@ -17,7 +17,7 @@
 # make lint-code    checks the code that isn't proved: types, layout, warnings; leaves out what isn't installed
 # make lint-docs    compares README's code with the example crates, and looks for what the pages may not hold
 # make numbers      makes docs/NUMBERS.md from the table of numbers
-# make program-page   makes the sections of docs/PROGRAM.md on commands from the help texts
+# make program-page   makes docs/PROGRAM.md of the help texts, the cases and tools/program_page.md
 # make man          makes the manual pages and the completions under out/
 # make collection   makes the one file out/warc-collection of the package in collection/
 # make install      copies what is built to PREFIX: the program, pages, completions, docs, examples, and the library,

@@ -33,7 +33,7 @@ WIDTH = 120
 NARROW = (
     (re.compile(r"crates/\w+/(src/.*\.rt|specs/.*\.antt)"), re.compile(r"\s*(ghost use |use |#\[tactic)")),
     (re.compile(r"(?!crates/).*\.md"), re.compile(r"\|")),
-    (re.compile(r"(tools/|bench/\w+\.py|packaging/|shell/|\.ci/|Makefile).*"), None),
+    (re.compile(r"(tools/(?!.*\.md)|bench/\w+\.py|packaging/|shell/|\.ci/|Makefile).*"), None),
     (re.compile(r"(tests|collection|python|rust|c)/.*\.(py|sh|c|h|rs)"), None),
 )
 WORD = re.compile(r"^(?:abbrev|unfoldable|opaque|record|data) pub ([^\s:({]+)|^pub (?:record|data) ([^\s:({]+)")

@@ -19,11 +19,12 @@ from shared import TOP, read
 
 PAGE = "CONTRIBUTING.md"
 ROW = re.compile(r"^\| ([^|]+) \| ((?:`[^`]+`(?:, )?)+) \| `((?:[^|`]|\\\|)+)` \| [^|]*\|$", re.MULTILINE)
-# What the gate shows by itself, and what only explains, measures or makes data for tests.
+# What the gate shows by itself, what is made, and what only explains, measures or makes data for tests.
 LEFT_OUT = re.compile(
     r"crates/\w+/(?:proofs|must-fail)/|crates/(?:suites_|example_|warc_vectors|warc_tool/std)|.*\.warc$"
     r"|(?:CHANGELOG|CONTRIBUTING|README)|.*/CALLING\.md|bench/|examples/|rust/examples/"
     r"|tests/(?:cases|compatibility|page|plants|stress)/"
+    r"|docs/(?:NUMBERS|PROGRAM)"
     r"|docs/(?:DECISIONS|SPEED|TRUST|PROMISES|ARCHITECTURE|GLOSSARY|COMPATIBILITY|FIRST-HOUR|FROM_WARCIO)|tools/lint"
 )
 

@@ -45,6 +45,7 @@ def scripts(folder: str) -> tuple[str, ...]:
 
 
 PACKAGES = "tests/reference/packages.py"  # makes what tests read
+SCRIPTS = "tests/cases/cases_script.py"  # reads the cases, of which tools/make_program.py makes examples
 PROVING = ("tools/proofs.py", "tools/shared.py")
 # Tests of scripts for the machine.
 MACHINE = ("tests/tools/test_install.py", "tests/tools/test_proofs.py", "tests/stress/zwarc.py", PACKAGES)
@@ -107,6 +108,7 @@ AROUND = (
 UNIT = (
     *("tests/standin/warc.py", "tests/reference/warc_reference.py", PACKAGES, "tests/stress/collection_trial.py"),
     *("tools/build_page.py", "tools/build.py", "tools/lint_heads.py", "tools/shared.py", *scripts("tests/unit")),
+    SCRIPTS,
 )
 NIGHTS = (
     *(*scripts("tests/collection"), *scripts("tests/collection/standin")),
@@ -117,7 +119,7 @@ SERVER = tuple(f"tests/stress/{name}.py" for name in ("serve", "serve_trial", "m
 # Debian's programs work with Debian's Python, so each is called by its own name, and finds Debian's modules.
 HYPOTHESIS = ("/usr/lib/python3/dist-packages/hypothesis",)
 CHECKS = [
-    Check("types of tools/", (*TYPES, *scripts("tools"))),
+    Check("types of tools/", (*TYPES, *scripts("tools"), SCRIPTS)),
     Check("layout of tools/", (*LAYOUT, "tools")),
     Check("names that tools/ and bench/ import and don't use", ("pyflakes3", "tools", "bench")),
     Check("types of bench/", ("mypy", "--strict", *scripts("bench"), *COLLECTION, *OF_BENCH)),

@@ -14,7 +14,7 @@
 - docs/TRUST.md names the number of cases that the suites and tests/cases have.
 - README says of speed what docs/SPEED.md says.
 - docs/NUMBERS.md is what tools/make_numbers.py makes, and docs/FORMAT.md has the same numbers and names.
-- The sections of commands in docs/PROGRAM.md are what tools/make_program.py makes of the help texts.
+- docs/PROGRAM.md is what tools/make_program.py makes.
 - Each crates/NAME/CALLING.md is what tools/make_calling.py makes, and has at most 150 lines.
 """
 from __future__ import annotations

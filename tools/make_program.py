@@ -1,24 +1,39 @@
 #!/usr/bin/env python3
-"""Makes the sections of commands in docs/PROGRAM.md from the help texts in crates/warc_arguments/src/help.rt: how a
-command is called, what it does, its arguments and its exit statuses; and the matrix of commands and statuses.
+"""Makes docs/PROGRAM.md: of each command how it is called, what it does, its arguments and its exit statuses from the
+help texts in crates/warc_arguments/src/help.rt, its examples from tests/cases/examples.script, and of zwarc the same
+from the help in shell/zwarc. tools/program_page.md has what all commands share, and below that notes by command.
 
 Usage: make_program.py
 
-`warc help COMMAND` prints those texts, and the manual pages are made from docs/PROGRAM.md, so each is written once.
-What follows in a section after its exit statuses is written by hand. `make lint-docs` fails where the page isn't what
-this makes, or where a help text isn't as it is read here.
+So `--help`, the manual pages, which are made from docs/PROGRAM.md, and the page are one text. `make lint-docs` fails
+where the page isn't what this makes, where a command has no example, and where program_page.md has too many words.
 """
 from __future__ import annotations
 
 import re
+import shlex
+import sys
 import textwrap
 from collections.abc import Iterator
 from dataclasses import dataclass
 
 from shared import TOP, matched, read
 
+sys.path.insert(0, f"{TOP}/tests/cases")
+from cases_script import CASES, Case
+
 WORDS = "crates/warc_arguments/src/help.rt"
 PAGE = "docs/PROGRAM.md"
+TEMPLATE = "tools/program_page.md"
+EXAMPLES = "examples"  # the script of cases
+OF_ZWARC = "shell/zwarc"
+MOST_WORDS = 1_200  # of the template
+WIDTH = 120
+ANSWER = re.compile(r"(.*?)(?:! (.*\n))?= (\d)\n", re.DOTALL)
+ZWARC_HELP = re.compile(
+    r"cat << 'END'\n(.*?)\n\nUsage: (.*?)\n\n(.*?)\n\nOptions:\n(.*?)\n\nExit status: (.*?)\n\n", re.DOTALL
+)
+OPTION = re.compile(r"^  (--[\w-]+)  ((?:.*\n?)(?:^ {3,}.*\n?)*)", re.MULTILINE)
 CONSTANT = re.compile(r'^(?:pub\(crate\) )?const (\w+): &str =\s+"(.*?)";$', re.MULTILINE | re.DOTALL)
 WORD = re.compile(r'Word \{\n\s+name: "([\w-]+)",\n\s+help: "(.*?)",\s+\}')
 NAMED_WORD = re.compile(r"^(?:pub\(crate\) )?const (\w+): Word = (" + WORD.pattern + ")", re.MULTILINE)
@@ -54,7 +69,7 @@ class Command:
     about: str
     words: list[Word]
     flags: list[Word]
-    notes: list[str]
+    notes: str
     statuses: dict[int, str]
     rest: str
 
@@ -92,19 +107,21 @@ def command(name: str, about: str, words: list[Word], flags: list[Word], text: s
     statuses = {int(number): means for number, means in zip(parts[::2], parts[1::2])}
     if len(statuses) != len(parts) // 2 or HELP not in statuses.get(3, ""):
         raise ValueError(f"{WORDS}: the statuses of {name} aren't as this script reads them")
-    return Command(name, about, words, flags, notes.split("\n\n"), statuses, (dot + rest).strip())
+    return Command(name, about, words, flags, notes, statuses, (dot + rest).strip())
 
 
 def wrapped(item: str, indent: str = "") -> str:
     """A paragraph or an item of a list, in lines as wide as those of the pages. Code isn't broken."""
     whole = re.sub(r"`[^`]*`", lambda found: found[0].replace(" ", "\0"), item)
-    lines = textwrap.wrap(whole, 120, subsequent_indent=indent, break_long_words=False, break_on_hyphens=False)
+    lines = textwrap.wrap(whole, WIDTH, subsequent_indent=indent, break_long_words=False, break_on_hyphens=False)
     return "\n".join(lines).replace("\0", " ")
 
 
 def plain(text: str) -> str:
     """A text of help as the pages write it: commands, flags and what is quoted as code."""
-    return FLAG_USED.sub(r"`\1`", BRACKETED.sub(r"`\1`", QUOTED.sub(r"`\1`", text)))
+    parts = re.split("(`[^`]*`)", QUOTED.sub(r"`\1`", text))
+    parts[::2] = [FLAG_USED.sub(r"`\1`", BRACKETED.sub(r"`\1`", part)) for part in parts[::2]]
+    return "".join(parts)
 
 
 def cell(means: str) -> str:
@@ -130,41 +147,98 @@ def statuses(it: Command) -> str:
     return "\n".join(wrapped(row, "  ") for row in rows) + (f"\n\n{it.rest}" if it.rest else "")
 
 
-def section(it: Command) -> str:
-    """What is made of a command's section."""
+def paragraphs(text: str) -> str:
+    """The paragraphs of a help text, as the page has them."""
+    return "\n\n".join(wrapped(plain(" ".join(part.split()))) for part in text.split("\n\n"))
+
+
+def usage(words: str) -> str:
+    """How a program is called."""
+    return f"```\n{words}\n```\n\n"
+
+
+def section(it: Command, note: str) -> str:
+    """The section of a command, with a note of the template."""
     words = it.words + it.flags
-    usage = " ".join(["warc", it.name, *(word.shown for word in words)])
+    call = usage(" ".join(["warc", it.name, *(word.shown for word in words)]))
     rows = "".join(f"| `{word.shown.strip('[]')}` | {plain(word.help)} |\n" for word in words)
-    notes = "\n\n".join(wrapped(plain(" ".join(note.split()))) for note in it.notes)
-    front = f"## warc {it.name}\n\n```\n{usage}\n```\n\n{plain(it.about)}.\n\n{notes}\n\n"
     # What an archive is the page says of all commands.
     table = f"| Argument | Meaning |\n|---|---|\n{rows}\n" if len(words) > 1 else ""
-    return f"{front}{table}### Exit status\n\n{statuses(it)}\n\n"
+    text = f"## warc {it.name}\n\n{call}{plain(it.about)}.\n\n{paragraphs(it.notes)}\n\n{table}"
+    more = f"### More\n\n{note}\n\n" if note else ""
+    lines = "".join(map(example, examples(it.name)))
+    return f"{text}### Exit status\n\n{statuses(it)}\n\n{more}### Examples\n\n```console\n{lines}```"
 
 
-def parts() -> list[str]:
-    """The parts of the page that are made."""
-    return [matrix(), *map(section, commands())]
+def examples(name: str) -> list[Case]:
+    """The cases that are the examples of a command."""
+    found = [case for case in CASES if (case.script, case.name) == (EXAMPLES, name)]
+    if not found:
+        raise ValueError(f"tests/cases/{EXAMPLES}.script: no case of {name}")
+    return found
+
+
+def line_of(case: Case) -> str:
+    """The command line of a case, over the files in examples/."""
+    name, *words = [case.word(index).decode() for index in range(len(case.words))]
+    given = (case.given or b"").decode()
+    words = sorted(words, key=lambda word: word.startswith("--"))
+    front = ""
+    if name == "select":
+        front = f"echo {given} | " if "\n" not in given else "printf '%s' | " % given.replace("\n", "\\n")
+        words = [*case.files, "-", *words]
+    elif name == "write":
+        front = f"printf {case.archive.decode()} | "
+        words = [*words, "/dev/stdin"]
+    elif name != "explain":
+        front = f"cat {' '.join(case.files)} | " if len(case.files) > 1 else ""
+        words = [*(case.files if len(case.files) == 1 else ["-"]), *words]
+    return front + shlex.join(["warc", name, *words])
+
+
+def example(case: Case) -> str:
+    """A case as lines of a terminal: a command, what it writes, and its status if that isn't 0."""
+    is_length = case.verb == b"length"
+    out, message, status = matched(ANSWER.fullmatch((case.wanted or b"").decode())).groups("")
+    line = line_of(case.after(1) if is_length else case)
+    if is_length:
+        line, out, message = f"{line} | wc -c", message, out.replace(" bytes", "")
+    elif "\r" in out:
+        line, out = f"{line} | tr -d '\\r'", out.replace("\r", "")
+    elif out and not out.endswith("\n"):
+        line, out = f"{line}; echo", f"{out}\n"
+    asked = f"$ echo $?\n{status}\n" if status != "0" and not is_length else ""
+    broken = " \\\n".join(textwrap.wrap(line, WIDTH - len("$  \\"), subsequent_indent="    ", break_on_hyphens=False))
+    return f"$ {broken}\n{out}{message}{asked}"
+
+
+def zwarc() -> str:
+    """The section of zwarc."""
+    about, call, notes, options, ends = matched(ZWARC_HELP.search(read(OF_ZWARC))).groups()
+    rows = "".join(f"| `{name}` | {plain(' '.join(help.split()))} |\n" for name, help in OPTION.findall(options))
+    table = f"| Option | Meaning |\n|---|---|\n{rows}\n"
+    ends = paragraphs(ends[0].upper() + ends[1:])
+    return f"## zwarc\n\n{usage(call)}{about}.\n\n{paragraphs(notes)}\n\n{table}### Exit status\n\n{ends}"
 
 
 def page() -> str:
-    """The page, with what is made of it made anew."""
-    text = read(PAGE)
-    table = re.compile(r"(### Exit status\n\n)\| Command .*?(?=\n\n)", re.DOTALL)
-    text = table.sub(lambda found: found[1] + matrix(), text, count=1)
-    for it in commands():
-        own = re.compile(rf"^## warc {it.name}\n(?:(?!##).*\n)*### Exit status\n\n(?:(?!##).*\n)*", re.MULTILINE)
-        made = section(it)
-        text, count = own.subn(lambda _: made, text)
-        if count != 1:
-            raise ValueError(f"{PAGE}: no section of {it.name} as this script makes it")
-    return text
+    """The page."""
+    front, *parts = re.split("^## warc ", read(TEMPLATE), flags=re.MULTILINE)
+    notes = {name: note.strip() for name, _, note in (part.partition("\n") for part in parts)}
+    made = "\n\n".join(section(it, notes.pop(it.name, "")) for it in commands())
+    if notes:
+        raise ValueError(f"{TEMPLATE}: no command {min(notes)}")
+    text = front.replace("{{statuses}}", matrix()).replace("{{commands}}", made)
+    return f"{text.strip()}\n\n{zwarc()}\n"
 
 
 def wrong() -> Iterator[str]:
-    """What is wrong with the page."""
+    """What is wrong with the page or the template."""
     if page() != read(PAGE):
-        yield f"{PAGE}: its sections aren't made from {WORDS}: run make program-page"
+        yield f"{PAGE}: isn't made from the help texts, the cases and {TEMPLATE}: run make program-page"
+    count = len(read(TEMPLATE).split())
+    if count > MOST_WORDS:
+        yield f"{TEMPLATE}: {count:,} words, and {MOST_WORDS:,} are allowed"
 
 
 if __name__ == "__main__":

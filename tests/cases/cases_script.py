@@ -10,7 +10,7 @@ HERE = pathlib.Path(__file__).resolve().parent
 TOP = HERE.parent.parent
 ESCAPE = re.compile(rb"\\(?:x(..)|(.))", re.DOTALL)
 NAMED = {b"n": b"\n", b"r": b"\r", b"t": b"\t"}
-STEPS = (b"archive", b"again", b"replace", b"by", b"first", b"flood")
+STEPS = (b"archive", b"again", b"file", b"replace", b"by", b"first", b"flood")
 
 
 class ScriptError(Exception):
@@ -33,6 +33,7 @@ class Case:
     given: Optional[bytes] = None
     wanted: Optional[bytes] = None
     archive: bytes = b""
+    files: Tuple[str, ...] = ()  # those of the archive, if it is of files
 
     @property
     def verb(self) -> bytes:
@@ -113,17 +114,29 @@ def replaced(text: bytes, old: bytes, new: bytes) -> bytes:
     return text.replace(old, new, 1)
 
 
+def joined(files: Tuple[str, ...]) -> bytes:
+    """The bytes of files of the repository, one after another."""
+    for name in files:
+        if not (TOP / name).is_file():
+            raise ScriptError(f"no file {name}")
+    return b"".join((TOP / name).read_bytes() for name in files)
+
+
 class Archives:
-    """The archive of a script: given, or made of the one that was given."""
+    """The archive of a script: given, of files, or made of the last one."""
 
     def __init__(self, named: Dict[bytes, bytes]) -> None:
         self.named = named
         self.given = self.bytes = self.old = b""
+        self.files: Tuple[str, ...] = ()
 
     def take(self, step: Case) -> None:
         """Does a step."""
         given = step.given or b""
-        if step.verb in (b"archive", b"again"):
+        self.files = tuple(word.decode() for word in step.words[1:]) if step.verb == b"file" else ()
+        if step.verb == b"file":
+            self.given = self.bytes = joined(self.files)
+        elif step.verb in (b"archive", b"again"):
             self.given = self.bytes = self.named[step.words[1]] if step.verb == b"again" else given
         elif step.verb == b"replace":
             self.old = given
@@ -166,7 +179,7 @@ def read_all() -> Tuple[List[Case], List[bytes]]:
             elif case.wanted is None:
                 raise ScriptError(f"{case.id}: nothing is wanted")
             else:
-                case.archive = archives.bytes
+                case.archive, case.files = archives.bytes, archives.files
                 cases.append(case)
     return cases, list(given)
 

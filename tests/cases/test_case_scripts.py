@@ -47,6 +47,21 @@ def test_archives_are_made_of_the_last_one(tmp_path: pathlib.Path) -> None:
     assert seen == [b"abc", b"abc", b"axyc", b"ab", b"abc12", b"o"]
 
 
+def test_an_archive_is_of_files_until_the_next_one(tmp_path: pathlib.Path) -> None:
+    abc, both = "examples/abc.warc", b"file examples/abc.warc examples/damaged.warc\n"
+    archives, seen = Archives({}), []
+    for step in read(tmp_path / "a.script", b"file %s\n" % abc.encode() + both + b"archive\n+ abc\n"):
+        archives.take(step)
+        seen.append((len(archives.bytes), archives.files))
+    assert seen == [(278, (abc,)), (556, (abc, "examples/damaged.warc")), (3, ())]
+
+
+def test_a_file_that_is_named_has_to_be_there(tmp_path: pathlib.Path) -> None:
+    (step,) = read(tmp_path / "a.script", b"file examples/nothing.warc\n")
+    with pytest.raises(ScriptError):
+        Archives({}).take(step)
+
+
 def test_a_text_that_is_replaced_has_to_be_there(tmp_path: pathlib.Path) -> None:
     archives = Archives({})
     with pytest.raises(ScriptError):
