@@ -47,7 +47,7 @@ def record_rows(begin: int) -> Iterator[RecordRow]:
 
 
 def bytes_of(folder: str, begin: int, count: int) -> float:
-    """The bytes that a table of records with so many columns takes for each."""
+    """The bytes that a table of records with `count` columns takes for each."""
     path = os.path.join(folder, "records.sqlite")
     base = sqlite3.connect(path, isolation_level=None)
     base.execute("PRAGMA synchronous = OFF")

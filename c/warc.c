@@ -123,7 +123,7 @@ struct warc_archive {
     http_cache *http;
 };
 
-/* What stands in for empty bytes and for buffers without room, aligned for any of the structs. */
+/* What is in the place of empty bytes and for buffers without room, aligned for any of the structs. */
 static _Alignas(16) uint8_t nothing[16];
 
 /* Whether a pointer leads to as many elements as a length says, as far as can be seen. */

@@ -6,7 +6,7 @@
 /** @typedef {{kind: number, text: string}} Token a kind of css-tree, and the text as it was read */
 
 /**
- * What a style names is given to a host, which says what to write in its place. It is told where a style is cut.
+ * What a style names is given to a host, which says what to write in its place, and hears where a style is cut.
  * @typedef {{
  *   url: (reference: string) => string,
  *   sheet: (reference: string, media: string) => string,

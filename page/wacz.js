@@ -19,7 +19,7 @@ const MOST_PAGES = 100000;
 const MOST_URL = 65536;   // characters: no head of a record has a longer URI
 const MOST_TITLE = 1000;  // characters
 const MOST_HASHED = 1024 * MEGABYTE;
-const LEAST_TOLD = 16 * MEGABYTE;  // bytes after which progress is told again
+const LEAST_TOLD = 16 * MEGABYTE;  // bytes after which progress is reported again
 const VERDICT_WORDS = ['good', 'bad', 'unchecked'];
 // Of several statements on a file the worst counts.
 const WORST_FIRST = ['bad', 'unchecked', 'good'];

@@ -17,8 +17,9 @@ It reports, a line each, and exits with 1 where there is any:
 - a file of src/ that doesn't begin with `//!`, which says what is in it;
 - a crates.txt, a file of a crate's, or a symbolic link below the checkout and outside of crates/, also where git
   doesn't see it: the gate stops there, so no target may leave one;
-- a name in src/ or specs/ with one of the words that docs/GLOSSARY.md gives up for another, such as `tells`, and a
-  file of src/ that is called by a gerund.
+- a name in src/ or specs/ with one of the words that docs/GLOSSARY.md gives up for another, and a
+  file of src/ that is called by a gerund;
+- one of these words, and of a few phrases, in a comment, a docstring or a page (tools/lint_retired.py).
 """
 from __future__ import annotations
 
@@ -27,6 +28,8 @@ import re
 import subprocess
 import sys
 from collections.abc import Iterator
+
+import lint_retired
 
 WIDTH = 120
 # Files of which no line may be wider, with what begins a line that may. CALLING.md is made of texts of crates/.
@@ -226,7 +229,7 @@ def without_head(top: str, paths: list[str]) -> Iterator[str]:
 
 
 def strays(top: str, _: list[str]) -> Iterator[str]:
-    """What stops the gate wherever it lies: `crates/NAME/out` alone is set aside."""
+    """What stops the gate wherever it is: `crates/NAME/out` alone is set aside."""
     for at, folders, names in os.walk(top):
         inside = os.path.relpath(at, top).split("/")
         folders[:] = [] if inside[0] == "crates" and "out" in inside else sorted(set(folders) - {".git"})
@@ -265,6 +268,7 @@ def main(words: list[str]) -> int:
             ("no first line //!", without_head),
             ("stops the gate", strays),
             ("retired name", retired_names),
+            ("retired word", lint_retired.found),
         )
         for line in check(top, paths)
     ]

@@ -3,7 +3,7 @@
 
 The checks of the text and of the code that isn't proved; the suites, and the cases of commands, over programs that the
 toolchain compiles with checks and doesn't prove (`rt try`); unit tests of Python and JavaScript, and the collection
-over a program that stands in for `warc`. The last line is `N passed, M failed`: each of these counts as one.
+over a stand-in for `warc`. The last line is `N passed, M failed`: each of these counts as one.
 """
 from __future__ import annotations
 

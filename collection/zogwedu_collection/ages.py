@@ -61,7 +61,7 @@ def oldest(catalogue: Catalogue) -> Optional[Dict[str, Any]]:
 
 
 def is_late(catalogue: Catalogue, most: Optional[int]) -> bool:
-    """Whether the last run ended more than so many seconds ago, or none did."""
+    """Whether the last run ended longer ago than the time in `most`, or none did."""
     last = last_end(catalogue)
     return most is not None and (last is None or time.time() - seconds_at(last["ended"]) > most)
 
@@ -78,8 +78,8 @@ def age_lines(catalogue: Catalogue, most: Optional[int]) -> List[str]:
 
 
 def note_due(catalogue: Catalogue, run: Run, stamps: Dict[str, Optional[Stamp]], within: int) -> None:
-    """Notes which files are read again in a run: those that were read longest ago, so many bytes that each file is read
-    once within a time. A run that goes on has them already."""
+    """Notes which files are read again in a run: those that were read longest ago, as many bytes as it
+    takes that each file is read once within a time. A run that goes on has them already."""
     if catalogue.one("SELECT 1 FROM files WHERE due = ?", (run.number,)):
         return
     before = catalogue.one("SELECT began FROM runs WHERE run < ? ORDER BY run DESC LIMIT 1", (run.number,))

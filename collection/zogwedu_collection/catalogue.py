@@ -353,7 +353,7 @@ class Catalogue:
         self.base.execute("RELEASE part")
 
     def keep_temporary(self, folder: str) -> None:
-        """Has SQLite keep its temporary files in a folder, as far as it can be told: it takes names in UTF-8 alone."""
+        """Has SQLite keep its temporary files in a folder, if its name is UTF-8: it takes no other."""
         with contextlib.suppress(sqlite3.Error, UnicodeEncodeError):
             self.base.execute("PRAGMA temp_store_directory = '%s'" % folder.replace("'", "''"))
 

@@ -132,7 +132,7 @@ class Indexer:
 
     def is_seen(self, capture: Capture, target: Optional[Stored]) -> bool:
         """Whether a capture is in the index: not without a target, nor where a reader elsewhere may not see it, by its
-        own target or by that of the record that it leads to."""
+        own target or by the target of the record that it leads to."""
         if target is None:
             return False
         is_withheld = self.seen.withheld(target, capture.instant) is not None

@@ -22,7 +22,7 @@ SUFFIXES = (b".warc", b".warc.gz", b".warc.zst", b".wacz")
 # What a file takes at least, and how fast it is read: for how many files are a job.
 FILE_SECONDS = 0.1
 BYTES_A_SECOND = 100e6
-# A run asks before it takes more files of a folder for gone than this, and than one of so many of them.
+# A run asks before it takes more files of a folder for gone than this, and more than a tenth of them.
 MOST_GONE = 10
 MOST_PART = 10
 NO_FILE = (errno.ENOENT, errno.ENOTDIR)
@@ -327,7 +327,7 @@ def files_to_do(
 
 
 def batches(files: Sequence[Item], batch: Optional[int], seconds: float) -> List[List[Item]]:
-    """The files of each job: so many, or as many as take some seconds."""
+    """The files of each job: the number that was asked for, or as many as take some seconds."""
     jobs: List[List[Item]] = []
     left = 0.0
     for item in files:

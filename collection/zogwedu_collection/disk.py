@@ -15,8 +15,8 @@ from typing import IO, Iterator, Optional
 LOCAL_DISKS = ("bcachefs", "btrfs", "ext2", "ext3", "ext4", "f2fs", "jfs", "tmpfs", "xfs", "zfs")
 
 
-# A file that was modified so many nanoseconds before it was seen may be modified again in what its disk takes for the
-# same moment: FAT has two seconds.
+# A file that was modified less than this many nanoseconds before it was seen may be modified again in what its disk
+# takes for the same moment: FAT has two seconds.
 DOUBTFUL = 2 * 10**9
 
 

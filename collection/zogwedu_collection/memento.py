@@ -22,7 +22,7 @@ MONTHS = ("Jan", "Feb", "Mar", "Apr", "May", "Jun", "Jul", "Aug", "Sep", "Oct", 
 HTTP_DATE = re.compile(
     r"(%s), (\d\d) (%s) (\d{4}) (\d\d):(\d\d):(\d\d) GMT" % ("|".join(DAYS), "|".join(MONTHS)), re.ASCII
 )
-# After so many years each date has the same day of the week again. Python knows no year 0.
+# After this many years each date has the same day of the week again. Python knows no year 0.
 CYCLE = 400
 # The longest field with several links.
 MOST_LINKS = 16 << 10

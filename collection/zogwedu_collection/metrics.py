@@ -50,7 +50,7 @@ def values_of(catalogue: Catalogue) -> Values:
 
 
 def lines_of(catalogue: Catalogue) -> Iterator[str]:
-    """The lines of the file. The folder of the catalogue tells several collections of one machine apart."""
+    """The lines of the file. The folder of the catalogue distinguishes the collections of one machine."""
     values, folder = values_of(catalogue), quoted(shown(catalogue.folder))
     for name, about in ABOUT.items():
         yield "# HELP %s%s %s\n# TYPE %s%s gauge\n" % (PREFIX, name, about, PREFIX, name)

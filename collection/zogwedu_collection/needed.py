@@ -18,7 +18,7 @@ from .program import BadDate, instant_of
 from .states import READ
 from .texts import Stored, Trouble, escaped, path_bytes
 
-# The most records that are read in the place of whole files; of continuations there may be more, with so many bytes.
+# The most records that are read in the place of whole files; of continuations there may be more, up to `MOST_BYTES`.
 MOST_RECORDS = 256
 MOST_BYTES = 64 << 20
 # A longer record of a file that isn't compressed isn't copied: the file itself is opened.

@@ -1,4 +1,4 @@
-"""How fast files are read: all jobs of a run together read no more than so many bytes a second."""
+"""How fast files are read: all jobs of a run together read no more than a number of bytes a second."""
 from __future__ import annotations
 
 import contextlib
@@ -11,7 +11,7 @@ from typing import Optional, Tuple
 
 # How often it is looked how much a program has read, in seconds.
 LOOK_SECONDS = 0.1
-# A time that lies farther ahead was written by a clock that was set back since.
+# A time that is farther ahead was written by a clock that was set back since.
 MOST_AHEAD = 86_400.0
 
 
@@ -24,7 +24,7 @@ class Pace:
         self.rate = rate
 
     def wait_for(self, count: int) -> float:
-        """Puts the time off by what so many bytes take. Returns how many seconds there are to wait."""
+        """Puts the time off by what `count` bytes take. Returns how many seconds there are to wait."""
         if not self.rate or count <= 0:
             return 0.0
         with open(self.path, "a+", encoding="ascii") as file:
@@ -37,11 +37,11 @@ class Pace:
         return paid - now
 
     def take(self, count: int) -> None:
-        """Waits until so many bytes are paid for."""
+        """Waits until `count` bytes are paid for."""
         time.sleep(self.wait_for(count))
 
     def finish(self, child: subprocess.Popen[bytes], size: int) -> Tuple[bytes, bytes]:
-        """Waits for a program that reads so many bytes, and stops it meanwhile where it is ahead."""
+        """Waits for a program that reads `size` bytes, and stops it meanwhile where it is ahead."""
         seen = 0
         while self.rate:
             try:

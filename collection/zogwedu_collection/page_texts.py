@@ -76,8 +76,8 @@ def wanted_of(parts: Parts) -> Tuple[List[Wanted], Dict[str, int]]:
 
 def text_lines(source: IO[bytes], parts: Parts, package: str, seconds: Optional[float]) -> Iterator[bytes]:
     """The texts of a file and the captures that have them, a line of JSON each: `text`, its key, title and text; and
-    `seen`, a position, that of the record that gives it, the key and the media type. The last line counts them, so that
-    a part that was cut isn't whole."""
+    `seen`, a position, the position of the record that gives it, the key and the media type. The last line counts them,
+    so that a part that was cut isn't whole."""
     wanted, without = wanted_of(parts)
     extraction = Extraction(source, wanted, package, None if seconds is None else time.monotonic() + seconds)
     counts: Dict[str, int] = collections.Counter()

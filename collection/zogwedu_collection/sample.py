@@ -14,7 +14,7 @@ from .texts import escaped
 from .unpack import write_all
 
 MOST_COMPARED = 20
-# The captures that are compared have together at most a fiftieth of what the file holds, or so many bytes.
+# The captures that are compared have together at most a fiftieth of what the file holds, or `LEAST` bytes.
 PART, LEAST = 50, 1 << 20
 
 

@@ -232,8 +232,8 @@ def added(one: Optional[Sums], other: Sums) -> Sums:
 
 
 class Hosts:
-    """The hosts, as far as a reader may see them. They are on the first screen, so an answer serves all readers of one
-    kind for a minute."""
+    """The hosts, as far as a reader may see them. They are on the first screen, so an answer serves all readers of the
+    same kind for a minute."""
 
     def __init__(self) -> None:
         self.kept: Dict[bool, Tuple[float, Access, Dict[str, Any]]] = {}

@@ -39,7 +39,7 @@ MOST_HEAD = 256 << 10
 # No request here has a body.
 MOST_REQUEST_BODY = 64 << 10
 MOST_CONNECTIONS = 4096
-# Of one address, and as many again that are told so.
+# Of one address, and as many again that get an answer that says so.
 MOST_OF_ADDRESS = 64
 # Files that are open beside connections.
 OTHER_FILES = 1024
@@ -132,7 +132,7 @@ class Server(TcpWSGIServer):  # type: ignore[misc]
         self.turns = Turns(objects)
 
     def run(self) -> None:
-        """Serves until it is told to end."""
+        """Serves until it is asked to end."""
         try:
             while self._map:
                 self.turns.touch(self._fileno)  # it does what is due from time to time
@@ -265,7 +265,7 @@ def listener_of(listen: str) -> socket.socket:
 
 
 def serve(place: Place) -> int:
-    """Serves until it is told to end. A process that a signal ended is started again."""
+    """Serves until it is asked to end. A process that a signal ended is started again."""
     place.rules()  # a line that is none is said once
     listener = listener_of(place.listen)
     while True:

@@ -1,4 +1,4 @@
-"""Archives that a server keeps open: at most so many, and with at most so many bytes unpacked or joined. The Python
+"""Archives that a server keeps open: a limited number, with a limited number of bytes unpacked or joined. The Python
 package zogwedu opens them."""
 from __future__ import annotations
 

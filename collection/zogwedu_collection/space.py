@@ -1,4 +1,4 @@
-"""Room for what is unpacked. Small archives may hold much: the jobs of a machine unpack no more than so many bytes at
+"""Room for what is unpacked. Small archives may hold much: the jobs of a machine unpack a limited number of bytes at
 once, and leave some of the disk to others."""
 from __future__ import annotations
 
@@ -7,7 +7,7 @@ import os
 import socket
 from typing import IO, List, Optional, Sequence
 
-# What is left of a disk, at most: a part of it, or so many bytes.
+# What is left of a disk, at most: a part of it, or a number of bytes.
 LEFT_PART = 20
 LEFT_BYTES = 256 << 20
 

@@ -60,8 +60,8 @@ class Before:
         return stamp is not None and (stamp.size, stamp.modified) == (self.size, self.modified)
 
     def sha256_of(self, stamp: Stamp, is_same: bool) -> Optional[str]:
-        """What is known of the SHA-256 of bytes that were read without it: that of the same size and time, or that of
-        the same records, so that a later reading compares with what was known, and not with nothing."""
+        """What is known of the SHA-256 of bytes that were read without it: what was known of the same size and time, or
+        of the same records, so that a later reading compares with what was known, and not with nothing."""
         known = self.sha256 if self.has_same_time(stamp) else None
         return known or (self.read_sha256 if is_same else None)
 

@@ -43,7 +43,7 @@ from .wacz import pages_from
 from .watch import METRICS, Watch
 
 NAMES = ("Archive", "NoBody", "Undecodable", "WarcError")
-# A body of at most so many bytes is read as a whole before any of it is sent.
+# A body of at most this many bytes is read as a whole before any of it is sent.
 SMALL = 1 << 20
 MOST_BODY = 4 << 30
 # How many targets are found that begin with a text.

@@ -100,7 +100,7 @@ class TestRust:
 
 
 def test_the_library_is_of_this_version() -> None:
-    """The header beside the library is that of the sources."""
+    """The header beside the library is the one in c/."""
     with open(built("out/lib/warc.h"), "rb") as one, open(f"{TOP}/c/warc.h", "rb") as other:
         assert one.read() == other.read()
     said = subprocess.run(["nm", "-D", built("out/lib/libwarc.so")], capture_output=True, text=True, check=True).stdout

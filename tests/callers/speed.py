@@ -20,7 +20,7 @@ RUNS = 5
 
 
 def repeated(path: str, times: int) -> None:
-    """Writes the crawl of examples/ so many times."""
+    """Writes the crawl of examples/ `times` times."""
     with open(f"{TOP}/examples/crawl.warc", "rb") as crawl, open(path, "wb") as file:
         file.write(crawl.read() * times)
 

@@ -637,7 +637,7 @@ class Room(InFolder):
         return f"{self.folder}/a.warc.gz"
 
     def opened(self, limit: int, temporary: str) -> List[str]:
-        """The lines that BOMB prints, with files of at most so many bytes."""
+        """The lines that BOMB prints, with files of at most `limit` bytes."""
         words = [sys.executable, "-c", BOMB, str(limit), self.bomb()]
         environment = {**os.environ, "TMPDIR": temporary}
         return subprocess.run(words, capture_output=True, check=True, env=environment, text=True).stdout.splitlines()

@@ -54,7 +54,7 @@ def run(place: Place, line: List[bytes], piped: bytes = b"", name: Optional[byte
 
 
 def said(ended: Ended, archive: bytes, length: bool = False) -> bytes:
-    """How a run is reported: its output, or that this is the archive as it stands, its message, and its status."""
+    """How a run is reported: its output, or that this is the archive unchanged, its message, and its status."""
     if length:
         out = b"%d bytes\n" % len(ended.out)
     elif ended.out and ended.out == archive:

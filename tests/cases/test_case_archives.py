@@ -1,6 +1,6 @@
 """The archives of the scripts and the fronts of some, compared with the second reading of the format.
 
-CASES_EVERY says which archives are compared: each of them, or one in so many.
+CASES_EVERY says which archives are compared: each of them, or one in that number.
 """
 from __future__ import annotations
 

@@ -76,7 +76,7 @@ DECIDED = {
     "http://a.example:8080/secret": "-",
     "http://a.example/Secret": "-",
     "http://a.example.evil.example/secret": "-",
-    # A host stands for it and all below it, by any scheme and port.
+    # A host means it and all below it, by any scheme and port.
     "http://b.example/": LINES[4],
     "ftp://b.example:2121/x": LINES[4],
     "https://deep.below.b.example/x?y": LINES[4],

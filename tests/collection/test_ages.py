@@ -9,7 +9,7 @@ from conftest import Collection, lines, record, to_read, unchanged
 
 
 def set_back(collection: Collection, days: int) -> None:
-    """Makes all that is known so many days older."""
+    """Makes all that is known `days` older."""
     then = time.strftime("%Y-%m-%dT%H:%M:%SZ", time.gmtime(time.time() - days * 86_400))
     base = sqlite3.connect(collection.path("catalogue/catalogue.sqlite"))
     with base:

@@ -36,7 +36,7 @@ def test_a_cut_file(collection: Collection, words: Tuple[str, ...]) -> None:
 
 
 def test_another_body_of_the_same_length(collection: Collection) -> None:
-    """Its digest is that of the new body, so that nothing but the head shows it."""
+    """Its digest is the new body's, so that nothing but the head shows it."""
     path = finished(collection)
     rewritten(path, *(record(place, b"PAGE %d" % place, URI + str(place)) for place in range(3)))
     assert collection.night().returncode == 1

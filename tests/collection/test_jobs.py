@@ -12,7 +12,7 @@ from conftest import Collection, record, script, to_read
 
 
 def plan(collection: Collection, count: int, *words: str) -> str:
-    """Plans a run over so many small files. Returns the folder of its jobs."""
+    """Plans a run over `count` small files. Returns the folder of its jobs."""
     for number in range(count):
         collection.put("disk/%d.warc" % number, record(number))
     done = collection.run("plan", *words, "disk")

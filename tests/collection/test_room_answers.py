@@ -270,7 +270,7 @@ def test_a_range_of_what_a_reader_began_to_read(films: Collection) -> None:
 
 @pytest.mark.parametrize("path", ["/memento/20200101000000/", "/room/answer/20200101000000/"])
 def test_tags(films: Collection, path: str) -> None:
-    """A reader who has the bytes is told so, each time it asks. Each capture has a tag of its own."""
+    """A reader who has the bytes gets an answer that says so, each time it asks. Each capture has a tag of its own."""
     room = Room(films)
     tags = set()
     for name in ("plain", "packed", "short", "chunked", "empty"):

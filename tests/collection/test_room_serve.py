@@ -187,7 +187,7 @@ def test_the_connection_that_is_idle_longest_is_closed(served: Collection) -> No
 
 
 def test_an_address_with_too_many_connections(served: Collection) -> None:
-    """It is told so at once, others have theirs, and it has them again when it closes some."""
+    """An answer says so at once, others have theirs, and it has them again when it closes some."""
     with running(served, of_address=5) as server:
         crowd = [server.connected("127.0.0.2") for _ in range(5)]
         assert becomes(lambda: len(server.server.active_channels) == 5)
@@ -334,7 +334,7 @@ def test_a_process_that_dies_is_started_again(served: Collection) -> None:
         assert becomes(lambda: not os.path.exists("/proc/%d" % worker))
 
 
-def test_it_ends_when_it_is_told_to(served: Collection) -> None:
+def test_it_ends_when_it_is_asked_to(served: Collection) -> None:
     with program_running(served) as child:
         assert status_of(child.port, MEMENTO) == 200
         child.terminate()

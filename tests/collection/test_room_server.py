@@ -79,7 +79,7 @@ def test_pages_of_other_sites(simple: Collection, site: str, mode: str, use: str
     assert Room(simple).ask(MEMENTO, **fields).status == status
 
 
-def test_names_that_a_server_has_to_be_told() -> None:
+def test_names_that_a_server_has_to_be_given() -> None:
     from zogwedu_collection.hosts import site_for
     from zogwedu_collection.texts import Trouble
 
@@ -118,7 +118,7 @@ def test_answers_have_names_of_files_and_not_paths(collection: Collection) -> No
     assert "f.warc (" in room.ask("/timegate/" + URI + "nothing").text
 
 
-def test_what_a_reader_is_told_comes_before_what_an_operator_needs(collection: Collection) -> None:
+def test_what_a_reader_needs_comes_before_what_an_operator_needs(collection: Collection) -> None:
     collection.put("disk/a.warc", revisit(2, URI, FIRST, ID % 99))
     collection.put("disk/b.warc", b"no archive")
     read(collection)

@@ -231,7 +231,7 @@ def test_many_texts_and_one_host(crawls: Collection, monkeypatch: pytest.MonkeyP
 
 
 def test_what_is_withheld_is_not_found(collection: Collection, tmp_path: Path) -> None:
-    """Neither a hit, nor a capture, nor a count tells of it, and no revisit of it either."""
+    """Neither a hit, nor a capture, nor a count shows it, and no revisit of it either."""
     collection.put(
         "disk/a.warc",
         response(1, "http://open.example/", "2010-01-01T00:00:00Z", page("Open", "secret word"), **HTML),

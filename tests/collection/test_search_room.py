@@ -162,7 +162,7 @@ def test_a_tree(shared: Collection) -> None:
 
 
 def test_what_is_withheld_is_in_no_answer(shared: Collection, rules: str) -> None:
-    """No hit, no snippet, no number and no host tells of it; and a word of it alone isn't said to be there or not."""
+    """No hit, no snippet, no number and no host shows it; and a word of it alone isn't said to be there or not."""
     room = Room(shared, access=rules)
     found = {hit["uri"]: hit for hit in hits(room, "q=common")}
     assert set(found) == {OPEN, LATE}

@@ -19,7 +19,7 @@ class Body:
     status = None
     truncated = False
     undone: Any = ()
-    spans: Any = ()  # where it lies in its file, which only a server asks
+    spans: Any = ()  # where it is in its file, which only a server asks
 
     def __init__(self, given: int, block: bytes) -> None:
         self.given = given

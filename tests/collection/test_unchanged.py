@@ -38,7 +38,7 @@ def test_other_inodes(collection: Collection) -> None:
 
 
 def test_a_file_that_was_modified_just_before(collection: Collection) -> None:
-    """It may be modified again in what the disk takes for the same moment. So may one with a time that lies ahead."""
+    """It may be modified again in what the disk takes for the same moment. So may one with a time in the future."""
     path = collection.put("disk/a.warc", record(1))
     ahead = time.time() + 86_400
     os.utime(path, (ahead, ahead))

@@ -92,7 +92,7 @@ CHARSETS = {
     "declared": ("cp1251", "application/xhtml+xml", f"{XML}<html><body>{LAST}</p></body></html>"),
     "none": ("utf-8", "text/html", LAST),
 }
-LONG = 550_000_000  # bytes: a browser has no text of so many characters
+LONG = 550_000_000  # bytes: a browser has no text of this length
 PLACES = (
     "<a id=to href='#old'>x</a><a id=up href='#'>x</a><a id=up-by-name href='#top'>x</a><p style='height: 5000px'></p>"
     "<a name=old>x</a><p id=last>x"

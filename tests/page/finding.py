@@ -8,7 +8,7 @@ from typing import Any
 
 HITS = "document.querySelectorAll('ol.hits > li').length"
 HOSTS = "document.querySelectorAll('table.hosts tbody tr').length"
-# The texts whose contrast with what is behind them is less than 4.5.
+# The texts whose contrast with their background is less than 4.5.
 FAINT = """(() => {
   const parts = (color) => {
     const numbers = color.match(/[\\d.]+/g).map(Number), most = color.startsWith('rgb') ? 255 : 1;
@@ -124,7 +124,7 @@ def type_words(tests: Any, words: str) -> None:
 
 
 def first_screen(tests: Any, folder: str) -> None:
-    """It tells a stranger what is there."""
+    """It says to a stranger what is there."""
     tests.go("")
     tests.holds(tests.becomes(f"{HOSTS} === 1"), "the first screen has the hosts", tests.text())
     text = tests.text()

@@ -14,7 +14,7 @@ from typing import List
 
 TOP = os.path.dirname(os.path.dirname(os.path.dirname(os.path.realpath(__file__))))
 sys.path[:0] = [os.path.join(TOP, "tests", "reference"), os.path.join(TOP, "tools")]
-sys.dont_write_bytecode = True  # many run at once, and none leaves anything behind
+sys.dont_write_bytecode = True  # many run at once, and none leaves anything
 import shared  # noqa: E402
 import warc_reference  # noqa: E402
 

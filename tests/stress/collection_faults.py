@@ -281,7 +281,7 @@ def unchecked_blocks(trial: Trial) -> None:
 
 
 def changed_file(trial: Trial) -> None:
-    """A file that is changed while all of it is replayed gives nothing. Where its time lies ahead, so that it may be
+    """A file that is changed while all of it is replayed gives nothing. Where its time is ahead, so that it may be
     changed again in the same moment, one with the same size and time is read again."""
     path = put(trial.path("archives", "a.warc"), page())
     os.utime(path, (time.time() + 86_400,) * 2)

@@ -76,7 +76,7 @@ def named(number: int) -> bytes:
 
 
 def revisits(first_names: Callable[[int], int]) -> Callable[[int], bytes]:
-    """Revisits of one URI, each of which names the one before it, and the first what it names among so many."""
+    """Revisits of one URI, each of which names the one before it, and the first what it names among all of them."""
 
     def make(size: int) -> bytes:
         count = size // len(revisit(0, 0))
@@ -201,7 +201,7 @@ def tried(program: str, command: str, folder: str, make: Callable[[int], bytes],
 
 
 def main() -> int:
-    """Tries each kind, and tells whether one takes too long."""
+    """Tries each kind, and says whether one takes too long."""
     program, megabytes = sys.argv[1], int(sys.argv[2]) if len(sys.argv) > 2 else 2
     begin, slow, count = time.monotonic(), 0, 0
     with tempfile.TemporaryDirectory() as folder:

@@ -148,7 +148,7 @@ Line = Tuple[str, ...]
 
 
 def yes(chance: random.Random, one_in: int) -> bool:
-    """True once in so many times."""
+    """True once in `one_in` times."""
     return chance.randrange(one_in) == 0
 
 

@@ -44,7 +44,7 @@ BIG = bytes(range(256)) * 5_000
 ZEROS = 1 << 20
 HOSTS = ("127.0.0.1", "127.0.0.2")
 HEAD_SECONDS = 15
-# Of one address, with those that are told that there are too many.
+# Of one address, with those that get an answer that there are too many.
 MOST_OF_ADDRESS = 64
 REASONS = {"P1": 404, "P2": 404, "P4": 404, "P5": 404, "P3": 502, "P6": 502, "P7": 502, "P8": 502, "P9": 502}
 # Their codings are none that can be sent.
@@ -853,7 +853,7 @@ def is_closed(connection: socket.socket) -> bool:
 
 
 def too_many(trial: Trial, server: Served, path: str) -> None:
-    """More connections of an address than there may be are told so, or closed, and later ones are served."""
+    """Of an address too many connections get an answer that says so, or are closed, and later ones are served."""
     crowd = [server.connected() for _ in range(3 * MOST_OF_ADDRESS)]
     last = [connection for connection in crowd if not is_closed(connection)]
     trial.judge(wait_for(lambda: not answers(server, path)), "one connection more")

@@ -128,7 +128,7 @@ def served(
 
 @contextlib.contextmanager
 def started(trial: Trial, words: Sequence[str]) -> Iterator[Served]:
-    """A server that a command starts. It must end when it is told to, and have no fault of its own."""
+    """A server that a command starts. It must end when it is asked to, and have no fault of its own."""
     log = trial.path("log-%d" % time.monotonic_ns())
     env: Dict[str, str] = dict(os.environ, PYTHONPATH=PACKAGE)
     with open(log, "wb") as out:

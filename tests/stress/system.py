@@ -383,7 +383,7 @@ def full_disks(stress: Stress) -> None:
 
 
 def write_to_disk(stress: Stress, command: Command, path: str, size: int) -> Tuple[bool, Sequence[object], Result]:
-    """Runs a command with its output on a disk of so many bytes. Returns what `judge` takes."""
+    """Runs a command with its output on a disk of a limited size. Returns what `judge` takes."""
     wanted = stress.expected[command]
     with open(path, "wb") as out:
         seen = stress.run_into(out, words_for(command, stress.archive))
@@ -419,7 +419,7 @@ def reader_goes_away(stress: Stress) -> None:
 
 
 def leave_after(stress: Stress, command: Command, wanted: int) -> Tuple[bool, Sequence[object], Result]:
-    """Reads so many bytes of the output, then closes the pipe. Returns what `judge` takes."""
+    """Reads `wanted` bytes of the output, then closes the pipe. Returns what `judge` takes."""
     whole = stress.expected[command].out
     child = subprocess.Popen(
         [stress.program, *words_for(command, stress.archive)],

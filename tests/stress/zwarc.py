@@ -115,7 +115,7 @@ class Trials:
         return f"{self.folder}/{name}"
 
     def environment(self) -> dict[str, str]:
-        """That of the runs: the programs are found, and temporary files have a folder of their own."""
+        """The environment of the runs: the programs are found, and temporary files have a folder of their own."""
         path, package = f"{self.bin}:{os.environ['PATH']}", f"{TOP}/out/python"
         return {**os.environ, "TMPDIR": self.temporary, "PATH": path, "PYTHONPATH": package, "LC_ALL": "C.UTF-8"}
 

@@ -1,4 +1,4 @@
-"""What a reader of the room over a collection is told, without a browser: in plain words, and the rest folded."""
+"""What the room over a collection says to a reader, without a browser: in plain words, and the rest folded."""
 from __future__ import annotations
 
 import os

@@ -74,9 +74,9 @@ class PayloadVerdict(NamedTuple):
 class Body:
     """A body, or what is stored of a coded one.
 
-    `chosen` and `given` are the positions of the chosen capture and of the record that gives the body; `status` is that
-    of the HTTP response, None if the record isn't one; `truncated` says that a record of it isn't whole; `undone` lists
-    the codings that were undone, none unless `decoded=True` was asked for.
+    `chosen` and `given` are the positions of the chosen capture and of the record that gives the body; `status` is the
+    status of the HTTP response, None if the record isn't one; `truncated` says that a record of it isn't whole;
+    `undone` lists the codings that were undone, none unless `decoded=True` was asked for.
     """
 
     def __init__(

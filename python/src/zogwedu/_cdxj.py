@@ -67,7 +67,7 @@ def media_of(value: Optional[str]) -> Optional[str]:
 
 
 def facts_of(kind: str, headers: Any, http: Any) -> Facts:
-    """What the heads of a record say. `http` is that of the HTTP response in it, or None."""
+    """What the heads of a record say. `http` is the head of the HTTP response in it, or None."""
     digest, own = headers.get("WARC-Payload-Digest") or None, headers.get("Content-Type")
     is_revisit = kind.lower() == "revisit"
     if kind.lower() == "resource":

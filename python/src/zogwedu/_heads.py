@@ -12,8 +12,8 @@ else:
     Texts = Mapping
 
 LOWER = {upper: upper + 32 for upper in range(ord("A"), ord("Z") + 1)}
-# Most heads of an archive have the names of one before: their places are kept for as many lists of names, of so many
-# characters each.
+# Most heads of an archive have the names of one before: their places are kept for this many lists of names, of
+# this many characters each.
 MOST_LISTS, MOST_NAMES = 256, 1024
 
 

@@ -1,4 +1,4 @@
-"""The captures of a file, for an index: where each lies in the file, and what its heads say. No part is proved."""
+"""The captures of a file, for an index: where each is in the file, and what its heads say. No part is proved."""
 import os
 from typing import Dict, Iterator, List, NamedTuple, Optional, Tuple
 

@@ -25,7 +25,7 @@ Note = Callable[[int, int, int, int], None]
 
 
 class Form(NamedTuple):
-    """How streams of one kind are read.
+    """How streams of a kind are read.
 
     `begin` makes what undoes one member. It is fed at most `step` bytes at a time: zlib makes of them up to 1,032 times
     their length, Zstandard up to 128 KiB of 4 bytes. `has_padding` allows zero bytes after the last member.

@@ -47,7 +47,7 @@ def pieces(file: Union["Path", Any], *, mmap: bool = True) -> List[Piece]:
     without bytes has none. The bytes of all runs, joined, are an archive.
 
     `file` is a path or a binary file object, which is read and decompressed as by `Archive.open`. Of one that gzip
-    wrote the good members are read; what lies between them is damage, and no record has bytes of both sides. After a
+    wrote the good members are read; what is between them is damage, and no record has bytes of both sides. After a
     damaged member the next one is where a head of gzip is whose member is good and begins as a record does. Raises
     CompressedError if a frame of zstd is damaged or torn. Raises Refused with F14 Memory if memory runs out in the
     library, and MemoryError if it runs out in Python.
@@ -99,7 +99,7 @@ def _contents(file: Union["Path", Any], map_it: bool) -> Contents:
 
 
 def _found(lent: library.Lent, contents: Contents) -> List[Piece]:
-    """The pieces of bytes. What lies on both sides of a gap never belonged together, nor do two archives of a package,
+    """The pieces of bytes. What is on both sides of a gap never belonged together, nor do two archives of a package,
     so each side is asked for."""
     cuts: List[Tuple[int, List[Piece]]] = [(part.offset, []) for part in contents.parts]
     cuts += [(gap.at, [Piece(gap.at, 0, 0, gap.damage)]) for gap in contents.gaps]

@@ -75,7 +75,7 @@ def _escaped(text: bytes) -> bytes:
 
 @functools.lru_cache(maxsize=HOSTS_KEPT)
 def _host_and_port(text: bytes, scheme: bytes) -> Tuple[bytes, bytes]:
-    """The host and the port of a key, the port with its colon, unless it is that of the scheme."""
+    """The host and the port of a key, the port with its colon, unless it is the scheme's own."""
     found = PORT.fullmatch(text)
     assert found is not None  # any text does
     host = re.sub(rb"\.{2,}", b".", _ascii(_unescaped(found[1]))).strip(b".").lower()

@@ -19,7 +19,7 @@ PIECE = 1 << 20
 
 
 def bytes_of(text: Text, what: str) -> bytes:
-    """A text as bytes: UTF-8, with the bytes that `surrogateescape` stands for. TypeError says what isn't one."""
+    """A text as bytes: UTF-8, and lone surrogates by `surrogateescape`. TypeError says what isn't one."""
     if isinstance(text, str):
         return text.encode("utf-8", "surrogateescape")
     if not isinstance(text, (bytes, bytearray, memoryview)):
