@@ -33,7 +33,8 @@ def unpacked(path: str, folder: str) -> str:
     with open(path, "rb") as file, open(name, "wb") as out:
         done = subprocess.run([packer, "-dc"], stdin=file, stdout=out, check=False)
     if done.returncode:
-        sys.exit(f"{path} can't be decompressed: {packer} ended with status {done.returncode}")
+        more = "docs/FIRST-HOUR.md says what to do with a damaged file"
+        sys.exit(f"{path} can't be decompressed: {packer} ended with status {done.returncode}; {more}")
     return name
 
 
