@@ -169,7 +169,7 @@ def main_page(front: str, common: str, commands: list[tuple[str, str, str]]) -> 
     """warc.1: what all commands share, and a table of the commands."""
     usage = matched(re.search(r"```\n.*?```\n", front, re.DOTALL))[0]
     rows = "".join(f"| `{title}` | {summary} |\n" for title, summary, _ in commands)
-    intro = front.replace(usage, "").strip()
+    intro = re.sub(r"This page is generated .*?\n\n", "", front.replace(usage, ""), flags=re.DOTALL).strip()
     text = f"# Synopsis\n\n{usage}\n# Description\n\n{intro}\n\n# Commands\n\n| Command | Does |\n|---|---|\n{rows}\n"
     also = [*(f"{title.replace(' ', '-')}(1)" for title, _, _ in commands), "zwarc(1)", "warc(5)"]
     return page("warc", 1, "reads, checks, replays and writes web archives", text + deeper(common), also)
