@@ -17,7 +17,15 @@ from collections.abc import Iterator
 from shared import TOP, read
 
 WIDTH = 120
-PAGES = ("README.md", "CONTRIBUTING.md", "CHANGELOG.md", "docs/*.md", "*/README.md", "bench/HISTORY.md")
+PAGES = (
+    "README.md",
+    "CONTRIBUTING.md",
+    "CHANGELOG.md",
+    "docs/*.md",
+    "*/README.md",
+    "bench/HISTORY.md",
+    "tools/program_page.md",
+)
 # What stays together: code, a link, or a word, with whatever touches them.
 TOKEN = re.compile(r"(?:`[^`\n]*`|!?\[[^\]\n]*\]\([^)\s]*\)|[^\s`\[]+|[`\[])+")
 # What must not begin a line, since it would begin something else there.
