@@ -70,7 +70,7 @@ def add_run_options(parser: argparse.ArgumentParser) -> None:
     missing = "takes files for gone that aren't there, however many of a folder"
     add("--allow-missing", action="store_true", help=missing)
     add("--batch", type=count_of, metavar="N", help="files for each job; as many as take some seconds without it")
-    within = "reads again the files that were read longest ago, so many that each is read once in a time, as 30d"
+    within = "reads again the files that were read longest ago, so that each is read once in a time, as 30d"
     add("--within", type=seconds_in, metavar="TIME", help=within)
     text = parser.add_mutually_exclusive_group()
     parser.set_defaults(text=None)
