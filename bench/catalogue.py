@@ -25,9 +25,10 @@ TOP = os.path.dirname(os.path.dirname(os.path.abspath(__file__)))
 sys.path.insert(0, os.path.join(TOP, "collection"))
 from zogwedu_collection.access import EVERYTHING  # noqa: E402
 from zogwedu_collection.catalogue import TABLES, Catalogue  # noqa: E402
-from zogwedu_collection.lines import RecordRow, short_rows  # noqa: E402
-from zogwedu_collection.members import Place  # noqa: E402
+from zogwedu_collection.lines import RecordRow, short_places  # noqa: E402
+from zogwedu_collection.members import PLACE, Place  # noqa: E402
 from zogwedu_collection.near import near_captures  # noqa: E402
+from zogwedu_collection.parts import Parts  # noqa: E402
 
 CAPTURES, HOSTS, OFTEN, VARIANTS, ASKED = 1_000_000, 1000, 20_000, 1000, 2000
 RECORDS, LEAST_MEMBER, MOST_MEMBER = 30_000, 1_000, 120_000
@@ -35,15 +36,20 @@ BEFORE = 6
 MARKS = ", ".join("?" * 11)
 
 
-def record_rows(begin: int) -> Iterator[RecordRow]:
-    """Rows of records of which each has a member."""
-    drawn, offset = random.Random(7), 0
-    for number in range(RECORDS):
-        name, length = f"<urn:uuid:{drawn.getrandbits(128):032x}>", drawn.randrange(LEAST_MEMBER, MOST_MEMBER)
-        place = begin, length, drawn.randrange(-(1 << 31), 1 << 31)
-        about = "response", "2020-01-01T00:00:00Z", name, f"http://o{number % HOSTS}.example/{number}", "0" * 32
-        yield RecordRow(1, number, offset, 2 * length, *about, *place)
-        begin, offset = begin + length, offset + 2 * length + 600
+def record_rows(folder: str, begin: int) -> Iterator[RecordRow]:
+    """Rows of records of which each has a member, one after another, as a job writes them."""
+    drawn, offset, lengths = random.Random(7), 0, []
+    written = Parts(os.path.join(folder, "output"), {"places": [0, RECORDS * PLACE.size]})
+    with open(written.path, "wb") as out:
+        for _ in range(RECORDS):
+            lengths.append(drawn.randrange(LEAST_MEMBER, MOST_MEMBER))
+            out.write(PLACE.pack(begin, lengths[-1], drawn.randrange(-(1 << 31), 1 << 31)))
+            begin += lengths[-1]
+    for number, (length, place) in enumerate(zip(lengths, short_places(written))):
+        about = "response", "2020-01-01T00:00:00Z", f"<urn:uuid:{drawn.getrandbits(128):032x}>"
+        target = f"http://o{number % HOSTS}.example/{number}"
+        yield RecordRow(1, number, offset, 2 * length, *about, target, "0" * 32, *place)
+        offset += 2 * length + 600
 
 
 def bytes_of(folder: str, begin: int, count: int) -> float:
@@ -54,7 +60,7 @@ def bytes_of(folder: str, begin: int, count: int) -> float:
     columns = ", ".join(TABLES["records"].split(", ")[:count])
     base.execute(f"CREATE TABLE records ({columns}, PRIMARY KEY (file, position)) WITHOUT ROWID")
     base.execute("BEGIN")
-    rows = (row[:count] for row in short_rows(record_rows(begin)))
+    rows = (row[:count] for row in record_rows(folder, begin))
     base.executemany(f"INSERT INTO records VALUES ({', '.join('?' * count)})", rows)
     base.execute("COMMIT")
     base.execute("VACUUM")

@@ -383,7 +383,7 @@ class Job:
             self.outcome.statuses.update(self.part_statuses(tally))
             self.put_part(out, "hashes", tally.hashes)
             if tally.members:
-                self.put_part(out, "members", tally.members)
+                self.put_part(out, "places", tally.members)
                 why = self.differs(source, tally)
                 if why:
                     return "failed", "members: " + why
@@ -391,16 +391,16 @@ class Job:
         self.outcome.no_bytes = len(tally.empty)
         return self.state_of(tally, source)
 
-    def put_part(self, out: IO[bytes], name: str, lines: bytearray) -> None:
-        """Writes a line for each record after what the program wrote."""
+    def put_part(self, out: IO[bytes], name: str, rows: bytearray) -> None:
+        """Writes a row for each record after what the program wrote."""
         begin = out.seek(0, os.SEEK_END)
-        write_all(out, bytes(lines))
-        self.outcome.places[name] = [begin, begin + len(lines)]
+        write_all(out, bytes(rows))
+        self.outcome.places[name] = [begin, begin + len(rows)]
 
     def differs(self, source: Source, tally: Tally) -> Optional[str]:
         """How some captures of a compressed file differ if their members alone are read, if they do."""
         assert source.seekable is not None
-        words = self.settings.warc, source.file, source.seekable, source.noted, tally, self.where
+        words = self.settings.warc, source.file, source.seekable, tally, self.where
         return Sample(*words).difference(Parts(self.path, tally.places))
 
     def put_texts(self, out: IO[bytes], file: IO[bytes]) -> None:

@@ -4,17 +4,22 @@ from __future__ import annotations
 import collections
 import dataclasses
 import functools
+import itertools
 import urllib.parse
-from typing import Any, Counter, Iterable, Iterator, List, NamedTuple, Optional, Tuple
+from typing import Counter, Iterator, List, NamedTuple, Optional, Tuple
 
+from .members import NO_PLACE, PLACE
 from .parts import Parts
 from .texts import Stored, decoded
 
 WEB_SCHEMES = ("http", "https", "ftp")
+# The last columns of a row of `list`.
+Columns = Tuple[Optional[int], Optional[int], Optional[int]]
+NO_COLUMNS: Columns = (None, None, None)
 
 
 class RecordRow(NamedTuple):
-    """A line of `list`. The catalogue has no length of a member that ends where the next record's begins."""
+    """A line of `list`. There is no length of a member that ends where the next record's begins."""
 
     file: int
     position: int
@@ -118,7 +123,7 @@ def list_columns(line: bytes) -> List[bytes]:
 def record_rows(file: int, parts: Parts, sums: Sums) -> Iterator[RecordRow]:
     """The rows of `list`, each with the hash of its record and the member that holds it alone, where the job wrote
     these."""
-    hashes, has_hashes, members = parts.lines("hashes"), parts.has("hashes"), parts.lines("members")
+    hashes, has_hashes, places = parts.lines("hashes"), parts.has("hashes"), short_places(parts)
     for line in parts.lines("list"):
         position, offset, length, kind, date, name, target = list_columns(line)
         key = date[:4], kind.lower()
@@ -128,29 +133,18 @@ def record_rows(file: int, parts: Parts, sums: Sums) -> Iterator[RecordRow]:
         hashed = next(hashes, None)
         if hashed is None and has_hashes:
             raise ValueError("a record without a hash")
-        place = next(members, b"-")
-        columns = (None, None, None) if place == b"-" else map(int, place.split(b" ", 2))
         own = None if hashed is None else hashed.decode("ascii")
-        yield RecordRow(file, int(position), int(offset), int(length), *texts, own, *columns)
+        yield RecordRow(file, int(position), int(offset), int(length), *texts, own, *next(places, NO_COLUMNS))
 
 
-def short_rows(rows: Iterable[RecordRow]) -> Iterator[Tuple[Any, ...]]:
-    """Rows of `list` as the catalogue has them, which leaves out a length that the next row says: the column before the
-    last one."""
-    before: Optional[RecordRow] = None
-    for row in rows:
-        if before is not None:
-            yield (*before[:-2], None, before[-1]) if is_followed(before, row) else before
-        before = row
-    if before is not None:
-        yield before
-
-
-def is_followed(row: RecordRow, after: RecordRow) -> bool:
-    """Whether the member of a record ends where that of another one begins."""
-    if row.packed_at is None or row.packed_length is None:
-        return False
-    return row.packed_at + row.packed_length == after.packed_at
+def short_places(parts: Parts) -> Iterator[Columns]:
+    """The places of the records as the catalogue has them, which leaves out a length that the next place says."""
+    places = parts.rows("places", PLACE)
+    offset, length, crc = next(places, NO_PLACE)
+    for after in itertools.chain(places, (NO_PLACE,)):
+        is_followed = offset + length == after[0]
+        yield NO_COLUMNS if offset < 0 else (offset, None if is_followed else length, crc)
+        offset, length, crc = after
 
 
 def capture_rows(file: int, parts: Parts, sums: Sums) -> Iterator[CaptureRow]:

@@ -3,11 +3,11 @@ it, without the rest of their file."""
 from __future__ import annotations
 
 import array
-import bisect
 import hashlib
+import itertools
 import os
 import struct
-from typing import IO, TYPE_CHECKING, Iterator, NamedTuple, Optional
+from typing import IO, TYPE_CHECKING, Iterator, NamedTuple, Optional, Sequence
 
 from .parts import HASH_DIGITS, MOST_HASHED
 from .texts import Trouble
@@ -20,12 +20,16 @@ else:
 PIECE = 1 << 20
 # How many bytes zlib is given at once.
 STEP = 1 << 16
-# How many members of a file are noted. Each takes 36 bytes of memory in a job.
+# How many members of a file are noted. Each takes 32 bytes of memory in a job, and 20 more if it holds a record alone.
 MOST_NOTED = 1 << 22
 # The most continuations that are read in the place of a whole file.
 MOST_CONTINUATIONS = 1000
 # A member ends with the CRC-32 of what it holds, and with its length.
 CRC, FOOT = struct.Struct("<i"), 8
+# A place as a job writes it, and what it writes for a record that no member holds alone.
+PLACE, NO_PLACE = struct.Struct("<qqi"), (-1, 0, 0)
+# What is noted after the last member.
+NOWHERE = (1 << 63, 0, 0, 0)
 
 
 class Place(NamedTuple):
@@ -70,27 +74,35 @@ class Noted:
 
     def __init__(self, file: IO[bytes]) -> None:
         self.file = file
-        self.begins, self.ends = array.array("q"), array.array("q")
-        self.offsets, self.lengths, self.crcs = array.array("q"), array.array("q"), array.array("i")
+        self.offsets, self.ends = array.array("q"), array.array("q")
+        self.begins, self.stops = array.array("q"), array.array("q")
 
     def note(self, offset: int, end: int, begin: int, stop: int) -> None:
         """Notes a member, and which bytes of what the file holds are its own. zlib has judged its CRC."""
-        if begin == stop or len(self.begins) == MOST_NOTED:
-            return
-        foot = os.pread(self.file.fileno(), CRC.size, end - FOOT)
-        if len(foot) == CRC.size:
-            self.begins.append(begin)
-            self.ends.append(stop)
+        if begin != stop and len(self.begins) < MOST_NOTED:
             self.offsets.append(offset)
-            self.lengths.append(end - offset)
-            self.crcs.append(CRC.unpack(foot)[0])
+            self.ends.append(end)
+            self.begins.append(begin)
+            self.stops.append(stop)
 
-    def of(self, begin: int, end: int) -> Optional[Place]:
-        """The member that holds these bytes, and no others; None if none does."""
-        at = bisect.bisect_left(self.begins, begin)
-        if at == len(self.begins) or (self.begins[at], self.ends[at]) != (begin, end):
-            return None
-        return Place(self.offsets[at], self.lengths[at], self.crcs[at])
+    def places(self, begins: Sequence[int], last_stop: int) -> bytearray:
+        """Of each record the place of the member that holds it and no other bytes, as a job writes places. Each record
+        stops where the next one begins."""
+        places, file, none = bytearray(), self.file.fileno(), PLACE.pack(*NO_PLACE)
+        members = zip(self.begins, self.stops, self.offsets, self.ends)
+        held, until, offset, end = next(members, NOWHERE)
+        for begin, stop in zip(begins, itertools.chain(itertools.islice(begins, 1, None), (last_stop,))):
+            while held < begin:
+                held, until, offset, end = next(members, NOWHERE)
+            crc = os.pread(file, CRC.size, end - FOOT) if (held, until) == (begin, stop) else b""
+            places += PLACE.pack(offset, end - offset, *CRC.unpack(crc)) if len(crc) == CRC.size else none
+        return places
+
+
+def place_of(places: bytearray, position: int) -> Optional[Place]:
+    """The place of a record, as a job writes places."""
+    place = PLACE.unpack_from(places, position * PLACE.size)
+    return None if place == NO_PLACE else Place(*place)
 
 
 def held_by(file: IO[bytes], place: Place, size: int) -> Iterator[bytes]:

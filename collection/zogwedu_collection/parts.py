@@ -5,7 +5,8 @@ import array
 import dataclasses
 import hashlib
 import os
-from typing import IO, TYPE_CHECKING, Dict, Iterator, List, Optional, Sequence, Set
+import struct
+from typing import IO, TYPE_CHECKING, Any, Dict, Iterator, List, Optional, Sequence, Set, Tuple
 
 if TYPE_CHECKING:
     from .members import Noted
@@ -17,6 +18,8 @@ OF_NO_BYTES = b"sha1:3I42H3S6NNFQ2MSVX7XZKYAYSCX5QBYJ"
 # The most bytes of a head that are hashed, and how much of the SHA-256 is kept.
 MOST_HASHED = 1 << 20
 HASH_DIGITS = 32
+# How many rows of numbers are read at once.
+ROWS_AT_ONCE = 1 << 12
 
 
 @dataclasses.dataclass
@@ -46,6 +49,20 @@ class Parts:
                     return
         raise ValueError("the part %s isn't whole" % name)
 
+    def rows(self, name: str, form: struct.Struct) -> Iterator[Tuple[Any, ...]]:
+        """The rows of numbers that a job wrote in a form."""
+        begin, end = self.places.get(name, (0, 0))
+        if begin == end:
+            return
+        with open(self.path, "rb") as file:
+            file.seek(begin)
+            while begin < end:
+                data = file.read(min(ROWS_AT_ONCE * form.size, end - begin))
+                if not data or len(data) % form.size:
+                    raise ValueError("the part %s isn't whole" % name)
+                begin += len(data)
+                yield from form.iter_unpack(data)
+
     def summary(self) -> Dict[str, str]:
         """The lines of `summary`: values by their names."""
         pairs = (line.decode("utf-8", "replace").split("\t", 1) for line in self.lines("summary"))
@@ -62,11 +79,11 @@ class Tally:
     follows from."""
 
     def __init__(self, source: Optional[IO[bytes]], noted: Optional[Noted] = None) -> None:
-        """Of a compressed file it is noted where its members lie."""
+        """Of a compressed file it is noted where its members are."""
         self.source = source
         self.noted = noted
         self.offsets = array.array("q")
-        self.members = bytearray()
+        self.members = bytearray()  # the places of the records
         self.places: Dict[str, List[int]] = {}
         self.hashes = bytearray()
         self.waiting: Optional[List[bytes]] = None
@@ -122,14 +139,19 @@ class Tally:
         if self.begins:
             self.begins.discard(int(row[1]))
         if self.source is not None:
+            offset = int(row[1])
             if self.waiting is not None:
-                self.add_hash(self.source, self.waiting, int(row[1]))
+                self.add_hash(self.source, self.waiting, offset)
             self.waiting = row
+            self.offsets.append(offset)
 
     def end_list(self) -> None:
         """Takes the last record, which ends where the file does."""
         if self.source is not None and self.waiting is not None:
-            self.add_hash(self.source, self.waiting, os.fstat(self.source.fileno()).st_size)
+            size = os.fstat(self.source.fileno()).st_size
+            self.add_hash(self.source, self.waiting, size)
+            if self.noted is not None:
+                self.members = self.noted.places(self.offsets, size)
         self.waiting = None
 
     def add_hash(self, source: IO[bytes], row: List[bytes], end: int) -> None:
@@ -139,10 +161,6 @@ class Tally:
         beside = min(max(end - int(offset) - int(length), 0), MOST_HASHED)
         head = os.pread(source.fileno(), beside, int(offset))
         self.hashes += hashlib.sha256(words + b"\n" + head).hexdigest()[:HASH_DIGITS].encode("ascii") + b"\n"
-        if self.noted is not None:
-            place = self.noted.of(int(offset), end)
-            self.offsets.append(int(offset))
-            self.members += b"-\n" if place is None else b"%d %d %d\n" % place
 
     def of_fixity(self, line: bytes) -> None:
         """Revisits with the digest of no bytes are counted apart: they are no damage."""

@@ -8,7 +8,7 @@ import subprocess
 import tempfile
 from typing import IO, Dict, List, NamedTuple, Optional, Set
 
-from .members import MOST_CONTINUATIONS, Noted, Other, held_by
+from .members import MOST_CONTINUATIONS, Other, held_by, place_of
 from .parts import Parts, Tally
 from .texts import escaped
 from .unpack import write_all
@@ -55,7 +55,6 @@ class Sample:
     warc: str
     packed: IO[bytes]
     whole: IO[bytes]
-    noted: Noted
     tally: Tally
     temporary: str
 
@@ -85,7 +84,7 @@ class Sample:
         sizes: Dict[int, int] = {}
         for position in {int(it.given) for it in lines} | series:
             begin, end = self.tally.offsets[position], self.end_of(position)
-            sizes[position] = end - begin if self.noted.of(begin, end) else left + 1
+            sizes[position] = end - begin if place_of(self.tally.members, position) else left + 1
         left -= sum(sizes[position] for position in series)
         chosen = []
         for line in lines:
@@ -102,7 +101,7 @@ class Sample:
     def copy(self, position: int, archive: IO[bytes]) -> bool:
         """Copies a record from its member. Returns whether its bytes are those of the whole."""
         begin, end = self.tally.offsets[position], self.end_of(position)
-        place = self.noted.of(begin, end)
+        place = place_of(self.tally.members, position)
         assert place is not None
         try:
             for piece in held_by(self.packed, place, end - begin):

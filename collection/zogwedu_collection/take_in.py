@@ -18,7 +18,6 @@ from .jobs import all_files, files_of
 from .job_folders import drop_folders, folders_of, names_in
 from .keys import SPELL
 from .lines import RecordRow, Sums, capture_rows, digest_rows, finding_rows, payload_rows, payloads_of, record_rows
-from .lines import short_rows
 from .manifest import compare_stated
 from .moves import settle_moves
 from .parts import Parts
@@ -327,7 +326,7 @@ def load_rows(catalogue: Catalogue, parts: Parts, outcome: Outcome, reading: Rea
     summary = parts.summary()
     good, bad, unchecked = (int(summary[name]) for name in ("good", "bad", "unchecked"))
     marks = ", ".join("?" * len(RecordRow._fields))
-    records = put("INSERT INTO records VALUES (%s)" % marks, short_rows(record_rows(file, parts, sums))).rowcount
+    records = put("INSERT INTO records VALUES (%s)" % marks, record_rows(file, parts, sums)).rowcount
     captures = put(
         "INSERT INTO captures VALUES (?, ?, ?, ?, ?, ?, ?, ?, ?, ?, ?)", capture_rows(file, parts, sums)
     ).rowcount

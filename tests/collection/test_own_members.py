@@ -5,7 +5,7 @@ from __future__ import annotations
 import gzip
 import os
 import sys
-from typing import IO, List, Optional
+from typing import IO, List, Optional, Sequence
 
 import pytest
 from conftest import PROJECT, URI, Collection, record, unchanged
@@ -89,7 +89,7 @@ def test_a_member_that_holds_more(collection: Collection) -> None:
     with open(path, "rb") as file:
         noted = members.Noted(file)
         size = sum(map(len, members_of(file, noted.note)))
-        place = noted.of(0, size)
+        place = members.place_of(noted.places([0], size), 0)
         assert place is not None and place.length == len(large)
         given = 0
         with pytest.raises(members.Other, match="more"):
@@ -108,17 +108,14 @@ def test_places_are_compared_in_a_job(collection: Collection, monkeypatch: pytes
     """A fault in the places of members is a file that failed, and nothing of it is taken in."""
     path = collection.put("disk/a.warc.gz", *MEMBERS)
     assert state_of(collection.warc, collection.folder, path) == "good "
-    own = members.Noted.of
+    own = members.Noted.places
 
-    def next_one(self: members.Noted, begin: int, end: int) -> Optional[members.Place]:
-        """The member after the right one."""
-        place = own(self, begin, end)
-        at = len(self.offsets) if place is None else self.offsets.index(place.offset) + 1
-        if at == len(self.offsets):
-            return place
-        return members.Place(self.offsets[at], self.lengths[at], self.crcs[at])
+    def next_ones(self: members.Noted, begins: Sequence[int], last_stop: int) -> bytearray:
+        """The members after the right ones."""
+        places = own(self, begins, last_stop)
+        return places[members.PLACE.size :] + places[-members.PLACE.size :]
 
-    monkeypatch.setattr(members.Noted, "of", next_one)
+    monkeypatch.setattr(members.Noted, "places", next_ones)
     assert state_of(collection.warc, collection.folder, path).startswith("failed members: record ")
 
 

@@ -24,6 +24,7 @@ pytest.importorskip("hypothesis")
 from hypothesis import HealthCheck, given, settings  # noqa: E402
 from hypothesis import strategies as st  # noqa: E402
 from zogwedu_collection import catalogue, export, lines, needed, parts, runs, texts, unpack  # noqa: E402
+from zogwedu_collection.members import NO_PLACE, PLACE  # noqa: E402
 
 from .in_node import TOP  # noqa: E402
 
@@ -134,12 +135,20 @@ def test_counts_of_payloads_come_back(good: int, bad: int, unchecked: int, cut: 
 def counts_in(text: bytes) -> Optional[Tuple[int, ...]]:
     """The counts in what the program wrote, or None where it isn't whole."""
     with tempfile.TemporaryDirectory() as folder:
-        with open(os.path.join(folder, "output"), "wb") as out:
-            out.write(text)
         try:
-            return tuple(lines.payloads_of(parts.Parts(out.name, {"payloads": [0, len(text)]})))
+            return tuple(lines.payloads_of(parts_in(folder, payloads=text)))
         except ValueError:
             return None
+
+
+def parts_in(folder: str, **texts_of: bytes) -> parts.Parts:
+    """What a job wrote, by the names of its parts."""
+    written = parts.Parts(os.path.join(folder, "output"))
+    with open(written.path, "wb") as out:
+        for name, text in texts_of.items():
+            written.places[name] = [out.tell(), out.tell() + len(text)]
+            out.write(text)
+    return written
 
 
 @FAST
@@ -188,19 +197,34 @@ def test_words_reach_a_command(words: List[str]) -> None:
 @given(st.lists(st.tuples(st.booleans(), st.integers(0, 1), st.integers(1, 99)), min_size=1))
 def test_places_of_members_come_back(members: List[Tuple[bool, int, int]]) -> None:
     """Also without the lengths that the next row says, of members with and without other bytes between them."""
-    rows, at = [], 0
+    places, listed, at = [], [], 0
     for position, (is_alone, gap, length) in enumerate(members):
-        place = (at + gap, length, -position) if is_alone else ()
-        rows.append(lines.RecordRow(1, position, position, 0, "resource", "2020", "<a:b>", None, "hash", *place))
+        places.append((at + gap, length, -position) if is_alone else NO_PLACE)
+        listed.append(b"%d\t%d\t0\tresource\t2020\t<a:b>\t-\n" % (position, position))
         at += gap + length
     base = sqlite3.connect(":memory:")
     base.execute("CREATE TABLE records (%s)" % catalogue.TABLES["records"])
     marks = ", ".join("?" * len(lines.RecordRow._fields))
-    base.executemany("INSERT INTO records VALUES (%s)" % marks, lines.short_rows(rows))
+    with tempfile.TemporaryDirectory() as folder:
+        written = parts_in(folder, list=b"".join(listed), places=b"".join(PLACE.pack(*place) for place in places))
+        rows = lines.record_rows(1, written, lines.Sums())
+        base.executemany("INSERT INTO records VALUES (%s)" % marks, rows)
     found = base.execute(needed.ROWS + "TRUE ORDER BY position", (1,))
-    places = [needed.row_of(columns, len(rows)).place for columns in found]
-    assert places == [None if row.packed_at is None else row[-3:] for row in rows]
+    read = [needed.row_of(columns, len(places)).place for columns in found]
+    assert read == [None if place == NO_PLACE else place for place in places]
     lengths = base.execute("SELECT packed_length FROM records ORDER BY position").fetchall()
     follows = [one[0] and other[:2] == (True, 0) for one, other in zip(members, members[1:])]
     assert [it is None for it, in lengths[:-1]] == [it or not one[0] for it, one in zip(follows, members)]
     base.close()
+
+
+@FAST
+@given(st.integers(1, 9), st.integers(1, PLACE.size - 1), st.booleans())
+def test_torn_places_are_refused(count: int, cut: int, is_short: bool) -> None:
+    """Neither a part that is cut nor a file that ends before its last part is taken for the whole."""
+    listed, places = b"0\t0\t0\tresource\t2020\t<a:b>\t-\n" * count, PLACE.pack(7, 8, 9) * count
+    with tempfile.TemporaryDirectory() as folder:
+        torn = parts_in(folder, list=listed, places=places[:-cut])
+        torn.places["places"][1] += cut if is_short else 0
+        with pytest.raises(ValueError, match="isn't whole"):
+            list(lines.record_rows(1, torn, lines.Sums()))
