@@ -10,6 +10,7 @@ const ORDER_OF_MEMBERS = 'A position counts good records, as in what is saved; a
     'members hold.';
 const OF_DAMAGED = 'the answer comes from the good records. A later capture, or a record that this one leads to, may ' +
     'have been in bytes that are damaged or missing.';
+const GZIP_ALONE = 'This page decompresses gzip alone.';
 const PLAIN_NAME = /^[A-Za-z0-9][\w.-]*$/;  // a name that a shell takes as it is
 
 /**
@@ -35,13 +36,17 @@ const PACKED_WORDS = {
       ['is too long to be decompressed here',
        `This page decompresses up to ${size(LIMIT)}. The gzip member at byte ${offset} leads beyond that.`,
 ],
-  zstd: () => ['is compressed by zstd', 'This page decompresses gzip alone.'],
+  zstd: () => ['is compressed by zstd', GZIP_ALONE],
   zip: ({why}, offset) => ['is refused', `Its ZIP isn’t read, at byte ${offset}. ${plainly(why)}.`],
-  entry: ({why}, offset) => ['isn’t what was packed', `Its bytes at byte ${offset} of the package: ${plainly(why)}.`],
+  entry: ({why}, offset) => [OF_PACKAGE.entry, `Its bytes at byte ${offset} of the package: ${plainly(why)}.`],
   members: ({why}, offset) =>
-      ['isn’t what was packed',
+      [OF_PACKAGE.members,
        `Its bytes at byte ${offset} of the package: ${plainly(why)}. Its gzip members are good by their own ` +
            'checksums, and are shown.',
+],
+  unread: (_, offset) =>
+      [OF_PACKAGE.unread,
+       `zstd compressed its bytes at byte ${offset} of the package. ${GZIP_ALONE}`,
 ],
   crossing: (_, offset) =>
       ['isn’t an archive by itself', `Its last record, at its byte ${offset}, goes on in the file after it.`],
@@ -54,12 +59,15 @@ const PACKED_WORDS = {
 function packedAdvice({kind, name}) {
   if (kind === 'zip')
     return ['Of a ZIP that contradicts itself one program would show what another didn’t check. Fetch it again.'];
+  const thenOpen = ', and open what that gives.';
+  if (kind === 'unread')
+    return ['Unpack the package, decompress this archive, as by ', code('zstd -d a.warc.zst'), thenOpen];
   if (isOfPackage(kind)) return ['Fetch the package again.'];
   if (kind === 'crossing') return ['What that record gives was never captured so. All else is as in the files.'];
   const packed = inShell(name, kind === 'zstd' ? 'a.warc.zst' : 'a.warc.gz');
   const to = packed.replace(/(\.gz|\.zst)?$/, '');
-  if (kind === 'zstd') return ['Decompress it first, as by ', code(`zstd -d ${packed}`), ', and open what that gives.'];
-  if (kind === 'long') return ['Decompress it first, as by ', code(`gunzip ${packed}`), ', and open what that gives.'];
+  if (kind === 'zstd') return ['Decompress it first, as by ', code(`zstd -d ${packed}`), thenOpen];
+  if (kind === 'long') return ['Decompress it first, as by ', code(`gunzip ${packed}`), thenOpen];
   if (kind === 'other') return ['Whether they belong to it isn’t known. ', code('zwarc'), ' refuses the file.'];
   const part = ' writes what can be decompressed up to the damage, also of this member; its checksum isn’t tried. ' +
       'Open what that gives.';

@@ -110,9 +110,16 @@ function listLine(row) {
 
 const DAMAGE_NUMBERS = 4;
 
-// Whether a damage is one of a whole file of a package.
+// The kinds of damage of a whole file of a package, in a few words.
+/** @type {Record<string, string>} */
+const OF_PACKAGE = {
+  entry: 'isn’t what was packed',
+  members: 'isn’t what was packed',
+  unread: 'is compressed by zstd',
+};
+
 /** @param {string} kind */
-const isOfPackage = (kind) => kind === 'entry' || kind === 'members';
+const isOfPackage = (kind) => kind in OF_PACKAGE;
 
 // The damages of a file, in order.
 class Damages {
@@ -153,7 +160,7 @@ class Damages {
     if (gap) {
       const {kind, name, offset} = gap;
       const isPacked = isOfPackage(kind);
-      const fault = isPacked ? `${name} isn’t what was packed` : `no good member at byte ${offset} of ${name}`;
+      const fault = isPacked ? `${name} ${OF_PACKAGE[kind]}` : `no good member at byte ${offset} of ${name}`;
       return {place, length, fault, gap};
     }
     return {place, length, fault: this.faults.get(kind).replace(/ at \d+$/, ` at ${faultAt}`)};

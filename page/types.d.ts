@@ -55,8 +55,8 @@ type Part = { name: string; size: number; start: number; isPacked: boolean };
 // Why a compressed file isn't read further than it is: the number is the offset of a member, or of what isn't one.
 type PackedDamage = { kind: string; name: string; offset: number; why: string };
 // What is left out of a compressed file, as it is no good member: its length in the file, and where in the archive the
-// bytes of the members before it end, and those of the members after it begin. Or, of the kinds 'entry' and 'members',
-// a whole file of a package that isn't what was packed; of the latter nothing is left out.
+// bytes of the members before it end, and those of the members after it begin. Or, of the kinds of OF_PACKAGE, a whole
+// file of a package that isn't what was packed, or that zstd compressed; of the kind 'members' nothing is left out.
 type Gap = PackedDamage & { length: number; place: number };
 // Some bytes of the archive.
 type ByteRange = { from: number; to: number };

@@ -21,6 +21,13 @@ const MOST_TITLE = 1000;  // characters
 const MOST_HASHED = 1024 * MEGABYTE;
 const LEAST_TOLD = 16 * MEGABYTE;  // bytes after which progress is reported again
 const VERDICT_WORDS = ['good', 'bad', 'unchecked'];
+// The kinds of damage of an archive, by what compressed it.
+/** @type {Record<string, string>} */
+const FAULT_KINDS = {
+  gzip: 'members',
+  zstd: 'unread',
+  '': 'entry'
+};
 // Of several statements on a file the worst counts.
 const WORST_FIRST = ['bad', 'unchecked', 'good'];
 const HEAD_OF_FILE = 'WARC/1.1\r\nWARC-Type: metadata\r\nWARC-Date: 2020-01-01\r\n' +
@@ -318,7 +325,7 @@ class Opening {
   }
 
   // The bytes of an archive, which are tried against their CRC. Of one that isn't what was packed these are what gzip
-  // wrote, since its members are judged by themselves, and else nothing.
+  // wrote, since its members are judged by themselves, and else nothing. Of one that zstd compressed there are none.
   /** @type {(file: File, entry: ZipEntry) => Promise<NamedBlob>} */
   async archiveOf(file, entry) {
     const name = this.files.length > 1 ? `${file.name}/${entry.name}` : entry.name, pieces = [];
@@ -338,9 +345,9 @@ class Opening {
     }
     const stored = entry.file.slice(entry.begin, entry.begin + entry.packed);
     const held = entry.method === DEFLATED_METHOD ? new Blob(pieces) : stored;
-    if (!why) return Object.assign(held, {name});
-    const isOfGzip = packingOf(await bytesOfFile(held, 0, Math.min(FIRST_BYTES, held.size))) === 'gzip';
-    const kind = isOfGzip ? 'members' : 'entry', {offset, packed: length} = entry;
-    return Object.assign(isOfGzip ? held : new Blob(), {name, fault: {kind, name, offset, why, length}});
+    const packing = packingOf(await bytesOfFile(held, 0, Math.min(FIRST_BYTES, held.size)));
+    if (!why && packing !== 'zstd') return Object.assign(held, {name});
+    const kind = FAULT_KINDS[packing], {offset, packed: length} = entry;
+    return Object.assign(packing === 'gzip' ? held : new Blob(), {name, fault: {kind, name, offset, why, length}});
   }
 }

@@ -118,6 +118,17 @@ def test_bytes_with_another_crc(collection: Collection) -> None:
     assert verdicts(collection)["archive/a.warc"] == "bad"
 
 
+def test_an_archive_that_zstd_compressed(collection: Collection) -> None:
+    """It is damage, whatever it holds, and the archives after it are read."""
+    packed = b"\x28\xb5\x2f\xfd" + bytes(9)
+    items = [Item(b"archive/a.warc", PAGES[0]), Item(b"archive/b.warc.zst", packed)]
+    items.append(Item(b"archive/c.warc.gz", gzip.compress(PAGES[4])))
+    assert (night(collection, zip_of(items)).returncode, collection.states()) == (1, {"a.wacz": "gunzip"})
+    assert [replayed(collection, place) for place in (0, 4)] == [b"page 0", b"page 4"]
+    assert collection.ask("SELECT good_records, damages, damaged FROM checks") == [(2, 1, len(packed))]
+    assert "'archive/b.warc.zst': compressed by zstd" in collection.detail("a.wacz")
+
+
 def test_no_record_has_bytes_of_two_archives(collection: Collection) -> None:
     """Joined, these are one good archive: the block of a torn record goes on in the next archive."""
     whole = PAGES[0] + record(7, PAGES[1], URI + "7") + PAGES[2]

@@ -10,7 +10,7 @@ import sys
 from typing import Any
 
 from browser import Browser
-from compressed import FILES, SAID, records_of, save
+from compressed import FILES, SAID, ZSTD, records_of, save
 
 TOP = os.path.dirname(os.path.dirname(os.path.dirname(os.path.abspath(__file__))))
 sys.path.insert(0, os.path.join(TOP, "tests", "reference"))
@@ -81,10 +81,12 @@ def refused(tests: Any, folder: str, records: list[bytes]) -> None:
     packed = b"".join(map(gzip.compress, records[:9]))
     damaged = [Item(b"archive/a.warc", crawl, local=said, central=said), Item(b"archive/b.warc", half)]
     of_members = [Item(b"archive/a.warc.gz", packed, local=said, central=said), Item(b"archive/b.warc", half)]
+    of_zstd = [Item(b"archive/a.warc", half), Item(b"archive/b.warc.zst", ZSTD), Item(b"archive/c.warc", crawl)]
     cases = {
         "cut": (wacz_of({"a.warc": crawl})[:-1], 0, "is refused", "NoEnd"),
         "twice": (zip_of([Item(b"archive/a.warc", crawl)] * 2), 0, "is refused", "two entries are named"),
         "crc": (zip_of(damaged), 9, "a.warc isn’t what was packed", "its CRC differs"),
+        "zstd": (zip_of(of_zstd), 27, "b.warc.zst is compressed by zstd", "zstd -d a.warc.zst"),
         "members": (zip_of(of_members), 18, "a.warc.gz isn’t what was packed", "good by their own checksums"),
         "torn": (wacz_of({"a.warc.gz": gzip.compress(half)[:-9], "b.warc": crawl}), len(records), "is torn", ""),
     }

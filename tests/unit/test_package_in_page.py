@@ -50,6 +50,7 @@ READ = """async (files) => {
   return found;
 }"""
 ONE, TWO = b"WARC one", gzip.compress(b"WARC ") + gzip.compress(b"two")
+OF_ZSTD = b"\x28\xb5\x2f\xfd" + bytes(9)
 ARCHIVES = {"b.warc.gz": TWO, "a.warc": ONE}
 
 
@@ -96,7 +97,7 @@ def test_as_in_python() -> None:
 
 def damaged_packages() -> List[bytes]:
     """Packages with an archive that isn't what was packed, between two others: stored and deflated, as it is and
-    compressed by gzip, with its members whole or not."""
+    compressed by gzip, with its members whole or not; and with one that zstd compressed, whether it is or not."""
     three = b"".join(gzip.compress(b"WARC %d" % number, mtime=0) for number in range(3))
     torn = three[:40] + bytes([three[40] ^ 1]) + three[41:]
     said = {"crc": 5}
@@ -107,6 +108,9 @@ def damaged_packages() -> List[bytes]:
         Item(b"archive/b.warc", ONE, local=said, central=said),
         Item(b"archive/b.warc", ONE, DEFLATED, local=said, central=said),
         Item(b"archive/b.warc.gz", three, DEFLATED, local=said, central=said),
+        Item(b"archive/b.warc.zst", OF_ZSTD),
+        Item(b"archive/b.warc.zst", OF_ZSTD, DEFLATED),
+        Item(b"archive/b.warc.zst", OF_ZSTD, local=said, central=said),
     ]
     return [zip_of([Item(b"archive/a.warc", ONE), item, Item(b"archive/c.warc.gz", TWO)]) for item in items]
 
@@ -127,7 +131,7 @@ def test_what_is_good_of_damaged_archives() -> None:
         own = package.archives[1].begin if found["damage"]["kind"] == "damaged" else 0
         assert gaps == [(gap.at, gap.damage.offset - own, gap.damage.length) for gap in joined.gaps]
     kinds = [it["damage"]["kind"] for it in in_page(files)]
-    assert kinds == ["members", "damaged", "damaged", "entry", "entry", "members"]
+    assert kinds == ["members", "damaged", "damaged", "entry", "entry", "members", *["unread"] * 3]
 
 
 def test_damage() -> None:
@@ -138,10 +142,10 @@ def test_damage() -> None:
         wacz_of({"a.warc": ONE, "b.warc.gz": TWO[:-1]}),
         wacz_of(ARCHIVES)[:-1],
         zip_of([Item(b"archive/a.warc", ONE)] * 2),
-        wacz_of({"a.warc": ONE, "b.warc": b"\x28\xb5\x2f\xfd" + bytes(9)}),
+        wacz_of({"a.warc": ONE, "b.warc": OF_ZSTD}),
     ]
     found = in_page(files)
-    kinds = ["entry", "torn", "zip", "zip", "zstd"]
+    kinds = ["entry", "torn", "zip", "zip", "unread"]
     assert [it["damage"]["kind"] for it in found] == kinds
     assert [bytes.fromhex(it["bytes"]) for it in found] == [ONE * 2, ONE + b"WARC ", b"", b"", ONE]
     assert found[0]["damage"]["name"] == "archive/b.warc" and "CRC" in found[0]["damage"]["why"]
