@@ -33,19 +33,18 @@ def line_of(line: bytes) -> Line:
 
 def drawn(parts: Parts) -> List[Line]:
     """Lines of `captures` that a record gives, each as likely as any other, in no order."""
-    kept: List[Line] = []
+    kept: List[bytes] = []
     seen = 0
-    for text in parts.lines("captures"):
-        line = line_of(text)
-        if line.given == b"-":
+    for line in parts.lines("captures"):
+        if line.split(b"\t", 5)[4] == b"-":
             continue
         seen += 1
         if len(kept) < MOST_COMPARED:
             kept.append(line)
-        elif random.randrange(seen) < MOST_COMPARED:
+        elif random.random() * seen < MOST_COMPARED:
             kept[random.randrange(MOST_COMPARED)] = line
     random.shuffle(kept)
-    return kept
+    return [line_of(it) for it in kept]
 
 
 @dataclasses.dataclass
