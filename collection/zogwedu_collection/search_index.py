@@ -28,6 +28,8 @@ VERSION = 2
 NAME = "search.sqlite"
 SETTING = "text"  # of the catalogue: whether runs read texts
 OF_SCANNER = "%d.%d" % (scan.VERSION, words.VERSION)
+# Bytes of a page of SQLite. Many texts take 2 or 3 KB: of a page of 4,096 bytes one would leave a third empty.
+PAGE = 8192
 WAIT_SECONDS = 0.05  # between two looks at whether a reader is done
 MOST_SWEPT = 500  # texts in a transaction
 # In the place of the record that gives the body of a capture: it is in another file, or no record of a file does.
@@ -117,6 +119,7 @@ class Index:
             self.base.execute("PRAGMA synchronous = FULL")
             self.base.execute("PRAGMA secure_delete = ON")
             if is_made:
+                self.base.execute("PRAGMA page_size = %d" % PAGE)  # of a new index
                 self.keep_log()
                 self.make_tables()
             check_version(self.base, self.folder)

@@ -22,6 +22,7 @@ from zogwedu_collection.access import EVERYTHING, read_access
 from zogwedu_collection.catalogue import Catalogue
 from zogwedu_collection.query import BadQuery, query_of
 from zogwedu_collection.search import Filters, Found, Search, searching
+from zogwedu_collection.search_index import Index, path_in
 from zogwedu_collection.snippets import snippet_of
 from zogwedu_collection.texts import Trouble
 from zogwedu_collection.timemaps import Seen
@@ -228,6 +229,22 @@ def test_many_texts_and_one_host(crawls: Collection, monkeypatch: pytest.MonkeyP
             with searching(crawls.path("catalogue")) as catalogue:
                 one = Search(catalogue, query_of("mill"), Filters(host=host), Seen(EVERYTHING))
                 assert [hit.target for hit in one.found().hits] == targets and len(one.matched) == count, (host, most)
+
+
+def test_texts_fill_the_pages_of_the_index(collection: Collection) -> None:
+    """Texts that take some 2,500 bytes each leave no third of a page of the database empty."""
+    catalogue, numbers = Catalogue(collection.path("catalogue"), is_made=True), random.Random(7)
+    catalogue.make_tables()
+    Index(catalogue, is_made=True).close()
+    empty = os.path.getsize(path_in(catalogue.folder))
+    index = Index(catalogue, is_made=True)
+    with index.transaction():
+        for number in range(200):
+            index.put_text(b"%032d" % number, "", numbers.randbytes(2200).hex())
+    kept = index.base.execute("SELECT sum(length(body)) FROM texts").fetchone()[0]
+    index.close()
+    assert 200 * 2_400 < kept < 200 * 2_600
+    assert os.path.getsize(path_in(catalogue.folder)) - empty < 1.2 * kept
 
 
 def test_what_is_withheld_is_not_found(collection: Collection, tmp_path: Path) -> None:
