@@ -53,6 +53,7 @@ SCORED = (
     "SELECT text FROM (SELECT rowid AS text, bm25(words, %s, %s) AS score FROM texts.words"
     " WHERE words MATCH ? %%s LIMIT %d) ORDER BY score, text" % (TITLE_WEIGHT, TEXT_WEIGHT, MOST_SCORED + 1)
 )
+OF_HOST = "SELECT %s FROM texts.addresses CROSS JOIN texts.seen USING (address) WHERE %s"
 OF_TARGET = (
     "SELECT captures.file, position, instant, path, given, read_on, %s FROM captures JOIN files USING (file)"
     " LEFT JOIN readings USING (file) WHERE target = ? AND instant >= ? AND instant < ? AND instant <= ?"
@@ -248,10 +249,12 @@ class Search:
         if self.filters.host is None or self.catalogue.one(is_many, (self.query.match(),)) is None:
             return "", []
         condition, values = self.filters.of_host(self.filters.host)
-        query = "SELECT text FROM texts.addresses CROSS JOIN texts.seen USING (address) WHERE " + condition
-        count = self.catalogue.one("SELECT count(*) FROM (%s LIMIT %d)" % (query, MOST_OF_HOST + 1), values)[0]
+        # To count captures needs no text, and so nothing beside an index.
+        first = "%s LIMIT %d" % (OF_HOST % (1, condition), MOST_OF_HOST + 1)
+        if self.catalogue.one("SELECT count(*) FROM (%s)" % first, values)[0] > MOST_OF_HOST:
+            return "", []
         # The index is asked for the words alone, and not once for each of these texts.
-        return ("AND +rowid IN (%s)" % query, values) if count <= MOST_OF_HOST else ("", [])
+        return "AND +rowid IN (%s)" % (OF_HOST % ("text", condition)), values
 
     def scored(self) -> List[int]:
         """The texts that have the words, the best first."""

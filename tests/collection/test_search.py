@@ -247,6 +247,26 @@ def test_texts_fill_the_pages_of_the_index(collection: Collection) -> None:
     assert os.path.getsize(path_in(catalogue.folder)) - empty < 1.2 * kept
 
 
+def test_a_suffix_that_all_hosts_have(crawls: Collection, monkeypatch: pytest.MonkeyPatch) -> None:
+    """It finds what no filter finds, and its captures are counted by an index alone: there may be very many."""
+    wanted = [hit for hit in asked(crawls, "mill").hits if hit.target != "urn:x:mill"]
+    assert len(wanted) == 2
+    monkeypatch.setattr(search, "MOST_BATCH", 0)
+    for most in (100, 0):
+        monkeypatch.setattr(search, "MOST_OF_HOST", most)
+        assert asked(crawls, "mill", host=".example").hits == wanted, most
+    filters = Filters(host=".example")
+    asked_for: List[str] = []
+    with searching(crawls.path("catalogue")) as catalogue:
+        catalogue.base.set_trace_callback(asked_for.append)
+        Search(catalogue, query_of("mill"), filters, Seen(EVERYTHING)).found()
+        catalogue.base.set_trace_callback(None)
+        counting = [it for it in asked_for if it.startswith("SELECT count(*) FROM (")]
+        values = filters.of_host(".example")[1]
+        plan = [catalogue.rows("EXPLAIN QUERY PLAN " + it, values if "?" in it else ()) for it in counting]
+    assert len(plan) == 1 and any("seen USING COVERING INDEX" in str(row) for row in plan[0]), plan
+
+
 def test_what_is_withheld_is_not_found(collection: Collection, tmp_path: Path) -> None:
     """Neither a hit, nor a capture, nor a count shows it, and no revisit of it either."""
     collection.put(
