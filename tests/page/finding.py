@@ -47,6 +47,8 @@ FOCUSED = """(() => {
   const isThere = box.width > 0 && box.left >= 0 && box.right <= innerWidth && it.checkVisibility();
   return [it.id || it.textContent.trim(), outlineStyle !== 'none', isThere];
 })()"""
+GAP = """document.querySelector('.timeline h3').getBoundingClientRect().top -
+  document.querySelector('table.calendar').getBoundingClientRect().bottom"""
 SCREENS = tuple((*size, scheme) for size in ((320, 900), (1440, 1000)) for scheme in ("dark", "light"))
 MOST_STOPS = 30
 SAID = {"status", "generic"}  # what is read out when it changes; of a view that is a line about its parts
@@ -238,6 +240,7 @@ def calendar(tests: Any, folder: str) -> None:
     tests.holds(tests.becomes("!!document.querySelector('.timeline li a')"), "the captures of a month", tests.text())
     said = browser.run("byId('heard').textContent")
     tests.holds(said == "Jan 2020: 1 capture, listed below", "how many captures a month has is heard", said)
+    tests.holds(browser.run(GAP) >= 6, "the heading of a month is apart from the calendar", browser.run(GAP))
     tests.holds(browser.run(f"{button}.ariaPressed") == "true", "which month it is")
     tests.holds(browser.run(f"document.activeElement === {button}"), "the focus stays at the month")
     heard = roles(tests)
