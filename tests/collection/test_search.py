@@ -10,12 +10,13 @@ import signal
 import sqlite3
 import sys
 import time
+import urllib.parse
 from pathlib import Path
 from typing import Any, Callable, Dict, List, Sequence, Tuple
 
 import pytest
 from conftest import PACKAGE, Collection, Done, later, record
-from rooms import ID, new_collection, program, response, revisit
+from rooms import ID, Room, new_collection, program, response, revisit
 
 from zogwedu_collection import page_texts, search
 from zogwedu_collection.access import EVERYTHING, read_access
@@ -182,6 +183,18 @@ STATUSES: Tuple[Tuple[int, Tuple[str, ...]], ...] = (
 def test_statuses(crawls: Collection, status: int, words: Tuple[str, ...]) -> None:
     done = crawls.run("search", *words)
     assert (done.returncode, bool(done.stdout)) == (status, status == 0), done.stderr.decode()
+
+
+def test_the_room_finds_the_same(crawls: Collection) -> None:
+    """The hits of the shell, in their order, with the same texts and marks; but no folders, and not each capture."""
+    room = Room(crawls)
+    for query in ("mill", "burned", "MÜHLE", "new mill", "sold", '"the mill" -burned', "mil*", "nowhere"):
+        wanted = found(crawls, "--", query, status=int(query == "nowhere"))
+        for hit in wanted:
+            hit["chosen"][0] = os.path.basename(hit["chosen"][0])
+            del hit["captures"]
+        reply = room.ask("/search/json?q=" + urllib.parse.quote(query))
+        assert [{**hit, "in_periods": len(hit["periods"])} for hit in wanted] == reply.json["found"], query
 
 
 def test_no_query_is_an_error_of_the_index(crawls: Collection) -> None:
