@@ -157,14 +157,18 @@ class Refused(unittest.TestCase):
             self.assertEqual(damage.fault and damage.fault.offset, data.index(members[1]))
             with zogwedu.Archive.open(path, front=True) as archive:
                 self.assertEqual((len(archive), type(archive.fault)), (1, zogwedu.CompressedError))
+
+    def test_an_archive_of_which_nothing_is_read(self) -> None:
         said = {"crc": 1}
-        items = [Item(b"archive/a.warc", record(1), local=said, central=said), Item(b"archive/b.warc", record(2))]
-        with written(zip_of(items)) as path:
-            out = io.BytesIO()
-            salvaged = zogwedu.salvage(path, out)
-            self.assertEqual((out.getvalue(), len(salvaged.damage)), (record(2), 1))
-            with zogwedu.Archive.open(path, front=True) as archive:
-                self.assertEqual((len(archive), type(archive.fault)), (0, zogwedu.CompressedError))
+        torn = Item(b"archive/b.warc", record(1), local=said, central=said)
+        for item in (torn, Item(b"archive/b.warc.zst", b"\x28\xb5\x2f\xfd" + bytes(20))):
+            data = zip_of([Item(b"archive/a.warc", record(2)), item, Item(b"archive/c.warc", record(3))])
+            with written(data) as path:
+                out = io.BytesIO()
+                salvaged = zogwedu.salvage(path, out)
+                self.assertEqual((out.getvalue(), len(salvaged.damage)), (record(2) + record(3), 1))
+                with zogwedu.Archive.open(path, front=True) as archive:
+                    self.assertEqual((len(archive), type(archive.fault)), (1, zogwedu.CompressedError))
 
 
 class Packages(unittest.TestCase):
