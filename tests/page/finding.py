@@ -8,6 +8,11 @@ from typing import Any
 
 HITS = "document.querySelectorAll('ol.hits > li').length"
 HOSTS = "document.querySelectorAll('table.hosts tbody tr').length"
+HOSTS_SHOWN = (
+    ("http://river.example", "2018-03-01", "2019-04-01"),
+    ("http://site.example", "2020-01-01", "2021-06-01"),
+    ("http://town.example", "2018-03-01", "2019-04-01"),
+)
 # The texts whose contrast with their background is less than 4.5.
 FAINT = """(() => {
   const parts = (color) => {
@@ -126,11 +131,12 @@ def type_words(tests: Any, words: str) -> None:
 
 
 def first_screen(tests: Any, folder: str) -> None:
-    """It says to a stranger what is there."""
+    """A stranger sees what is there: each host, with its numbers and from when to when."""
     tests.go("")
-    tests.holds(tests.becomes(f"{HOSTS} === 1"), "the first screen has the hosts", tests.text())
-    text = tests.text()
-    tests.holds("http://site.example" in text and "2020-01-01" in text and "2021-06-01" in text, "numbers", text)
+    tests.holds(tests.becomes(f"{HOSTS} === 3"), "the first screen has the hosts", tests.text())
+    rows = tests.browser.run("[...document.querySelectorAll('table.hosts tbody tr')].map((it) => it.innerText)")
+    for row, wanted in zip(sorted(rows), HOSTS_SHOWN):
+        tests.holds(all(word in row for word in wanted), "a host with its numbers and its span", (row, wanted))
     heard = roles(tests)
     tests.holds(("search", "Words") in heard and ("search", "URI") in heard, "both forms are heard", heard)
     tests.holds(any(role == "rowheader" for role, _ in heard), "rows of hosts have headings", heard)

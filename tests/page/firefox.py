@@ -6,6 +6,7 @@ or without Firefox, the test is left out, and a line says so.
 
 from __future__ import annotations
 
+import base64
 import gzip
 import json
 import os
@@ -52,6 +53,14 @@ FILES = """return [...document.querySelectorAll('.line .file')].map((it) => it.t
 ENDED = "return /findings after|stopped/.test(document.getElementById('status').textContent)"
 SAVE = """document.getElementById('only').click();
 document.getElementById('save-shown').click();"""
+
+
+def is_there() -> bool:
+    """Whether Firefox is installed. A line says that it isn't."""
+    if shutil.which(PROGRAM):
+        return True
+    print(f"Firefox: left out, since {PROGRAM} isn't installed", flush=True)
+    return False
 
 
 class Firefox:
@@ -131,6 +140,12 @@ class Firefox:
             time.sleep(0.1)
         with open(path, "rb") as file:
             return file.read()
+
+    def picture(self, path: str) -> None:
+        """Takes a picture of the window."""
+        data = self.ask("WebDriver:TakeScreenshot", {"full": False})["value"]
+        with open(path, "wb") as out:
+            out.write(base64.b64decode(data))
 
     def close(self) -> None:
         """Ends this Firefox, and no other."""
@@ -219,8 +234,7 @@ def no_connections(tests: Any, folder: str) -> None:
 
 def in_firefox(tests: Any, folder: str) -> None:
     """All of them, where Firefox can be had."""
-    if not shutil.which(PROGRAM):
-        print(f"Firefox: left out, since {PROGRAM} isn't installed", flush=True)
+    if not is_there():
         return
     opens_files(tests, folder)
     no_connections(tests, folder)

@@ -1,5 +1,5 @@
 #!/usr/bin/env python3
-"""Tries the reading room over a collection in Debian's Chromium, headless.
+"""Tries the reading room over a collection in Debian's Chromium, headless, and in Firefox where it is there.
 
 Usage: test_served.py PROGRAM [FOLDER]
 
@@ -13,6 +13,7 @@ from __future__ import annotations
 import base64
 import contextlib
 import gzip
+import itertools
 import os
 import sys
 import tempfile
@@ -21,6 +22,7 @@ from typing import Any
 
 HERE = os.path.dirname(os.path.abspath(__file__))
 sys.path[:0] = [HERE, *(os.path.join(os.path.dirname(HERE), name) for name in ("stress", "reference"))]
+import firefox
 from browser import Browser
 from collection_trial import Trial, put, record
 from finding import finding
@@ -44,6 +46,8 @@ SHOWN = "document.querySelector('iframe.view')?.dataset.shown === 'yes'"
 MARKUP = "odd <b>markup</b> \u202e".encode()
 LAST = "last.localhost"  # what the browser connects to once a page has had its turn
 IN_VIEW = "document.querySelector('iframe.view').contentDocument"
+LOOK_FOR = """document.getElementById('find-words').value = arguments[0];
+document.getElementById('find-form').requestSubmit();"""
 
 
 def evil(port: int) -> bytes:
@@ -70,8 +74,15 @@ def revisit(number: int, date: str, path: bytes, of: str) -> bytes:
     return record("revisit", number, date, TOP + path, b"", **fields)
 
 
+def elsewhere(number: int, target: bytes, day: str) -> bytes:
+    """A page of another host."""
+    block = b"HTTP/1.1 200 OK\r\nContent-Type: text/html\r\n\r\n<title>The mill</title><p>It burned before %s."
+    date, content_type = f"{day}T00:00:00Z", "application/http;msgtype=response"
+    return record("response", number, date, target, block % day.encode(), content_type=content_type)
+
+
 def collection(folder: str, port: int) -> None:
-    """Two crawls of a site: the second has its picture in the first, and is compressed."""
+    """Two crawls of a site: the second has its picture in the first, and is compressed. A third is of two others."""
     first = [
         response(1, FIRST, b"", b"text/html", FRONT % b"Snow"),
         response(2, FIRST, b"picture.png", b"image/png", PICTURE),
@@ -91,6 +102,9 @@ def collection(folder: str, port: int) -> None:
     first += [response(30 + it, MONTH % (it + 1), b"often", b"text/html", b"<h1>%d</h1>" % it) for it in range(12)]
     put(os.path.join(folder, "first.warc"), b"".join(first))
     put(os.path.join(folder, "second.warc.gz"), gzip.compress(b"".join(second)))
+    pages = itertools.product((b"http://river.example/", b"http://town.example/mill"), ("2018-03-01", "2019-04-01"))
+    third = b"".join(elsewhere(50 + number, *it) for number, it in enumerate(pages))
+    put(os.path.join(folder, "third.warc"), third)
 
 
 class Tests:
@@ -344,6 +358,33 @@ def try_withheld(tests: Tests) -> None:
     tests.holds(browser.run("document.querySelector('iframe.view')") is None, "withheld: no view", tests.text())
 
 
+def in_firefox(tests: Tests, folder: str) -> None:
+    """Hosts, words, a page and a calendar in Firefox, where it can be had."""
+    if not firefox.is_there():
+        return
+    browser = firefox.Firefox()
+    try:
+        browser.ask("WebDriver:Navigate", {"url": tests.at})
+        browser.until("return document.querySelectorAll('table.hosts tbody tr').length === 3")
+        if folder:
+            browser.picture(f"{folder}/first-screen-firefox.png")
+        browser.run(LOOK_FOR, "snow site")
+        browser.until("return document.querySelectorAll('ol.hits > li mark').length > 1")
+        if folder:
+            browser.picture(f"{folder}/words-firefox.png")
+        browser.run("document.querySelector('ol.hits h3 a').click()")
+        browser.until(f"return {SHOWN} && {IN_VIEW}.querySelector('h1').textContent === 'Snow'")
+        browser.ask("WebDriver:Navigate", {"url": f"{tests.at}#99991231235959/{TOP.decode()}often"})
+        browser.until("return Boolean(document.querySelector('table.calendar button'))")
+        browser.run("document.querySelector('table.calendar button').click()")
+        browser.until("return document.querySelectorAll('.timeline li a').length === 1")
+        tests.holds(True, "Firefox: hosts, words, a page and a calendar")
+    except RuntimeError as error:
+        tests.holds(False, "Firefox: hosts, words, a page and a calendar", error)
+    finally:
+        browser.close()
+
+
 def main() -> int:
     program, folder = sys.argv[1], (sys.argv[2:] or [""])[0]
     if not os.path.exists(os.path.join(PACKAGE, "zogwedu", "__init__.py")):
@@ -358,6 +399,7 @@ def main() -> int:
             dates(tests)
             narrow(tests)
             finding(tests, folder)
+            in_firefox(tests, folder)
             hostile(tests, listener)
             as_it_is(tests, listener, made)
         every = tests, packages(trial), withheld(trial)
