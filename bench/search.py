@@ -1,16 +1,23 @@
 #!/usr/bin/env python3
 """Measures the search of warc-collection: what it takes to read texts, to keep them and to find them.
 
-Usage: search.py [TEXTS]
+Usage: search.py [TEXTS..]
 
-Makes a catalogue of TEXTS (50,000 if left out) texts of some 3,700 characters, whose words are drawn from 120,000 as
-often as words are (Zipf), each in four captures of half as many URIs. Prints the processor time of extracting and
-loading a page of 18 KB, over the HTML files of this machine's /usr/share/doc; the bytes of the index for a character
-and for a capture; and the times of searches, the median of nine, with what a reader sees of the first twenty hits. It
-needs neither the program nor the Python package.
+For each number of TEXTS (50,000 if left out; the published figures are of 50,000 and 200,000) makes a catalogue of as
+many texts, each in four captures of half as many URIs. Two of five are pages of this machine's /usr/share/doc and of
+Rust's documents, 20,000 at most; the others are drawn, and all of them where there are no more pages. A drawn text has
+620 words, some 4,300 characters. They come from a list of 120,000 words, the words of these pages first, as often as
+words are (Zipf); and every second one is a word that the text has already, so that 40 % of its words differ from each
+other, as in real pages of that length (35 to 40 %).
+
+Prints the processor time of extracting and loading a page of 18 KB, over the HTML files of /usr/share/doc; the bytes of
+the index for a character and for a capture, as runs leave it and after `prune`; and the times of searches, the median
+of nine, with what a reader sees of the first twenty hits. It needs neither the program nor the Python package.
 """
 from __future__ import annotations
 
+import collections
+import contextlib
 import glob
 import hashlib
 import itertools
@@ -32,45 +39,85 @@ sys.path.insert(0, os.path.join(TOP, "collection"))
 from zogwedu_collection.access import EVERYTHING  # noqa: E402
 from zogwedu_collection.catalogue import Catalogue  # noqa: E402
 from zogwedu_collection.disk import Stamp  # noqa: E402
-from zogwedu_collection.page_texts import key_of, text_in  # noqa: E402
+from zogwedu_collection.page_texts import NoText, key_of, text_in  # noqa: E402
 from zogwedu_collection.parts import Parts  # noqa: E402
 from zogwedu_collection.query import query_of  # noqa: E402
 from zogwedu_collection.scan import PageText  # noqa: E402
 from zogwedu_collection.search import Filters, Search, searching  # noqa: E402
-from zogwedu_collection.search_index import Index, path_in  # noqa: E402
+from zogwedu_collection.search_index import Index, path_in, settle_texts  # noqa: E402
 from zogwedu_collection.timemaps import Seen  # noqa: E402
+from zogwedu_collection.words import words_of  # noqa: E402
 
 TEXTS, VOCABULARY, WORDS = 50_000, 120_000, 620
+MOST_PAGES, MOST_OF_PAGE = 20_000, 200_000  # bytes
+REPEATED = 0.5  # of the words of a drawn text
 CAPTURES_A_TEXT, TEXTS_A_URI, TEXTS_A_FILE = 4, 2, 500
 PAGE = 18_000  # bytes
 COMMON, RARE, SOME = "comm", "rareword", "twohundred"
 TIMES = 9
 STAMP = Stamp(1, 1, 1, 1, 1)
+DOCUMENTS, RUST = "/usr/share/doc/**/*.html", "~/.rustup/toolchains/*/share/doc/rust/html/**/*.html"
 
 
-def vocabulary() -> list[str]:
-    """Words, the most frequent ones first."""
+def pages(pattern: str) -> Iterator[bytes]:
+    """HTML files, in an order that is the same each time and mixes them."""
+    found = sorted(filter(os.path.isfile, glob.glob(os.path.expanduser(pattern), recursive=True)))
+    random.Random(10).shuffle(found)
+    for path in found:
+        with open(path, "rb") as file:
+            yield file.read(MOST_OF_PAGE)
+
+
+def page_texts() -> list[PageText]:
+    """The texts of pages of this machine, each once."""
+    found: dict[str, PageText] = {}
+    for body in itertools.chain(pages(DOCUMENTS), pages(RUST)):
+        if len(found) == MOST_PAGES:
+            break
+        with contextlib.suppress(NoText):
+            made = text_in(body, "text/html", "text/html")
+            found[key_of(made)] = made
+    return list(found.values())
+
+
+def vocabulary(real: list[PageText]) -> list[str]:
+    """Words, the most frequent ones first: those of texts, and then made ones."""
+    counts = collections.Counter(itertools.chain.from_iterable(words_of(it.text) for it in real))
+    made = dict.fromkeys(word for word, _ in counts.most_common(VOCABULARY))
     numbers = random.Random(11)
-    letters = "etaoinshrdlcumwfgypbvk"
-    made: dict[str, None] = {}
     while len(made) < VOCABULARY:
         length = 2 + int(math.log(len(made) + 1, 6)) + numbers.randrange(3)
-        made["".join(numbers.choices(letters, k=length))] = None
+        made["".join(numbers.choices("etaoinshrdlcumwfgypbvk", k=length))] = None
     return list(made)
 
 
-def texts(count: int) -> Iterator[PageText]:
+class Drawn:
+    """Draws texts."""
+
+    def __init__(self, words: list[str]) -> None:
+        self.numbers = random.Random(12)
+        self.words = words
+        self.weights = list(itertools.accumulate(1 / (rank + 2.7) for rank in range(len(words))))
+
+    def text(self) -> PageText:
+        chosen = self.numbers.choices(self.words, cum_weights=self.weights, k=WORDS)
+        for place in range(1, WORDS):
+            if self.numbers.random() < REPEATED:
+                chosen[place] = chosen[int(self.numbers.random() * place)]
+        return PageText(" ".join(chosen[:6]), " ".join(chosen), False)
+
+
+def texts(count: int, real: list[PageText], words: list[str]) -> Iterator[PageText]:
     """Texts, of which 60 % have a common word, 200 another one, and one a rare one."""
-    numbers, words = random.Random(12), vocabulary()
-    weights = list(itertools.accumulate(1 / (rank + 2.7) for rank in range(VOCABULARY)))
+    drawn, left = Drawn(words), iter(real)
     every = max(count // 200, 1)
     for number in range(count):
-        chosen = numbers.choices(words, cum_weights=weights, k=WORDS)
-        chosen += [COMMON] if number % 10 < 6 else []
-        chosen += [SOME] if number % every == 0 else []
-        chosen += [RARE] if number == count // 2 else []
-        numbers.shuffle(chosen)
-        yield PageText(" ".join(chosen[:6]), " ".join(chosen), False)
+        of_page = next(left, None) if number % 5 < 2 else None
+        made = of_page or drawn.text()
+        more = [COMMON] if number % 10 < 6 else []
+        more += [SOME] if number % every == 0 else []
+        more += [RARE] if number == count // 2 else []
+        yield PageText(made.title, " ".join([made.text, *more]), False)
 
 
 def put_file(catalogue: Catalogue, index: Index, file: int, some: list[PageText], path: str) -> None:
@@ -97,12 +144,11 @@ def put_file(catalogue: Catalogue, index: Index, file: int, some: list[PageText]
     index.take_in(file, 1, STAMP, Parts(path, {"texts": [0, os.path.getsize(path)]}))
 
 
-def load(folder: str, count: int) -> tuple[float, int]:
+def load(folder: str, all_texts: Iterator[PageText]) -> tuple[float, int]:
     """Makes the catalogue and its index. Returns the processor time of taking in, and the characters."""
     catalogue = Catalogue(folder, is_made=True)
     catalogue.make_tables()
     index, spent, characters = Index(catalogue, is_made=True), 0.0, 0
-    all_texts = texts(count)
     for file in itertools.count(1):
         some = list(itertools.islice(all_texts, TEXTS_A_FILE))
         if not some:
@@ -115,21 +161,12 @@ def load(folder: str, count: int) -> tuple[float, int]:
     return spent, characters
 
 
-def pages() -> list[bytes]:
-    """The HTML files of this machine's documents."""
-    found = []
-    for path in filter(os.path.isfile, sorted(glob.glob("/usr/share/doc/**/*.html", recursive=True))):
-        with open(path, "rb") as file:
-            found.append(file.read(200_000))
-    return found
-
-
 def of_a_page(folder: str) -> tuple[float, float]:
     """The milliseconds of processor time that extracting and loading take for as many bytes as a page has, and the
     bytes of the index for a character of these pages."""
     catalogue = Catalogue(folder, is_made=True)
     catalogue.make_tables()
-    index, bodies = Index(catalogue, is_made=True), pages()
+    index, bodies = Index(catalogue, is_made=True), list(pages(DOCUMENTS))
     begin = time.process_time()
     with index.transaction():
         for body in bodies:
@@ -153,7 +190,7 @@ def median_of(ask: Callable[[], Any]) -> float:
     return statistics.median(found)
 
 
-def searches(folder: str) -> Iterator[tuple[str, str]]:
+def searches(folder: str, frequent: str) -> Iterator[tuple[str, str]]:
     """How long searches take."""
     asked: dict[str, tuple[str, dict[str, Any]]] = {
         "a rare word": (RARE, {}),
@@ -161,7 +198,8 @@ def searches(folder: str) -> Iterator[tuple[str, str]]:
         "a word of 60 % of the texts": (COMMON, {}),
         "the same, of a host": (COMMON, {"host": "site7.example"}),
         "the same, of a host that isn't there": (COMMON, {"host": "none.example"}),
-        "two words of 60 %, without a third": (f"{COMMON} {vocabulary()[0]} -{RARE}", {}),
+        "the same, of a suffix that all hosts have": (COMMON, {"host": ".example"}),
+        "this one and the most frequent word, without a rare one": (f"{COMMON} {frequent} -{RARE}", {}),
         "a beginning of three letters": ("abc*", {}),
     }
     with searching(folder) as catalogue:
@@ -177,33 +215,49 @@ def searches(folder: str) -> Iterator[tuple[str, str]]:
 
 def sizes(folder: str, characters: int, count: int) -> Iterator[tuple[str, str]]:
     """The bytes of the index, for a character and for a capture."""
-    base = sqlite3.connect(path_in(folder))
     query = "SELECT sum(pgsize) FROM dbstat WHERE name LIKE 'seen%' OR name LIKE '%addresses%'"
-    whole = os.path.getsize(path_in(folder))
-    try:
-        seen = base.execute(query).fetchone()[0] or 0
-    except sqlite3.OperationalError:  # without SQLite's table of pages it isn't known apart
-        seen = 0
-    yield "index", f"{whole / 1e6:.0f} MB"
-    yield "texts and words of the drawn words, a character", f"{(whole - seen) / characters:.2f} bytes"
+    whole, seen = os.path.getsize(path_in(folder)), 0
+    with contextlib.closing(sqlite3.connect(path_in(folder))) as base:
+        # Without SQLite's table of pages it isn't known apart.
+        with contextlib.suppress(sqlite3.OperationalError):
+            seen = base.execute(query).fetchone()[0] or 0
+    yield "the index", f"{whole / 1e6:.0f} MB"
+    yield "texts and words, a character", f"{(whole - seen) / characters:.2f} bytes"
     yield "a capture", f"{seen / (count * CAPTURES_A_TEXT):.0f} bytes" if seen else "not known"
-    base.close()
+
+
+def of_texts(folder: str, count: int, real: list[PageText], words: list[str]) -> Iterator[tuple[str, str]]:
+    """What a number of texts takes."""
+    spent, characters = load(folder, texts(count, real, words))
+    yield f"loading {count:,} texts, {characters / 1e6:.0f} M characters", f"{spent:.0f} s"
+    yield from sizes(folder, characters, count)
+    yield from searches(folder, words[0])
+    settle_texts(Catalogue(folder), is_tidied=True)
+    for name, size in sizes(folder, characters, count):
+        yield f"after `prune`: {name}", size
+
+
+def measured(folder: str, counts: list[int]) -> Iterator[tuple[str, str]]:
+    """All that is measured, as it is known."""
+    spent, size = of_a_page(f"{folder}/pages")
+    yield "extracting and loading 18 KB of HTML", f"{spent:.1f} ms"
+    yield "texts and words of these pages, a character", f"{size:.2f} bytes"
+    real = page_texts()
+    characters = sum(len(it.title) + len(it.text) for it in real)
+    yield "pages of this machine", f"{len(real):,}, {characters / 1e6:.0f} M characters"
+    words = vocabulary(real)
+    for count in counts:
+        yield from of_texts(f"{folder}/{count}", count, real, words)
 
 
 def main() -> None:
     """Measures all."""
-    count = int(sys.argv[1]) if len(sys.argv) > 1 else TEXTS
+    counts = list(map(int, sys.argv[1:])) or [TEXTS]
     print(
         f"Commit {commit()}; Python {sys.version.split()[0]}, SQLite {sqlite3.sqlite_version}; load {os.getloadavg()}"
     )
     with tempfile.TemporaryDirectory(dir=os.environ.get("TMPDIR")) as folder:
-        spent, size = of_a_page(f"{folder}/pages")
-        rows = [("extracting and loading 18 KB of HTML", f"{spent:.1f} ms")]
-        rows.append(("texts and words of these pages, a character", f"{size:.2f} bytes"))
-        spent, characters = load(f"{folder}/texts", count)
-        rows.append((f"loading {count:,} texts, {characters / 1e6:.0f} M characters", f"{spent:.0f} s"))
-        rows += [*sizes(f"{folder}/texts", characters, count), *searches(f"{folder}/texts")]
-    put_table(("What", "Processor time, or size"), rows)
+        put_table(("What", "Processor time, or size"), measured(folder, counts))
 
 
 if __name__ == "__main__":
