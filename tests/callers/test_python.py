@@ -484,6 +484,14 @@ class Heads(unittest.TestCase):
             self.assertIsNone(archive[0].http)
             self.assertEqual(http_of(archive[2]).headers["content-type"], "text/html")
 
+    def test_no_http_after_one(self) -> None:
+        """A block without a head never gets the one of the record before it."""
+        one = stored("HTTP/1.1 200 OK\r\nA: b", b"x")
+        archive = zogwedu.Archive(one + stored("no head", b"", number=2))
+        self.assertEqual(http_of(archive[0]).status, 200)
+        for _ in range(2):
+            self.assertIsNone(archive[1].http)
+
     def test_closed(self) -> None:
         archive = zogwedu.Archive.open(CRAWL)
         record, http = archive[2], http_of(archive[2])
