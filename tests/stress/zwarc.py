@@ -11,11 +11,13 @@ where they are.
 """
 from __future__ import annotations
 
+import base64
 import collections
 import contextlib
 import dataclasses
 import functools
 import gzip
+import hashlib
 import http.server
 import itertools
 import os
@@ -249,6 +251,17 @@ def packages(trials: Trials) -> None:
     seen = trials.run(["zwarc", "--stream", "list", good_package])
     trials.judge((seen.out, seen.status) == (b"", 3) and b"not for packages" in seen.message, ("--stream",), seen)
     bad_packages(trials, archives)
+    good_blocks(trials)
+
+
+def good_blocks(trials: Trials) -> None:
+    """A bad file of a package is a failure also where each block has its digest."""
+    digest = b"WARC-Block-Digest: sha1:%s\r\n" % base64.b32encode(hashlib.sha1(b"abc").digest())
+    archive = {"a.warc": record("resource", 1, b"abc").replace(b"Content-Type", digest + b"Content-Type")}
+    for wrong, status in (((), 0), (("archive/a.warc",), 1)):
+        path = trials.file("stated.wacz", wacz_of(archive, wrong=wrong))
+        seen = trials.run(["zwarc", "fixity", path])
+        trials.judge(seen.status == status and b"good 1 bad 0" in seen.out, ("fixity", path, str(status)), seen)
 
 
 def bad_packages(trials: Trials, archives: Mapping[str, bytes]) -> None:
