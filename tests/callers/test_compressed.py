@@ -331,6 +331,13 @@ class Indexes(InFolder):
         self.assertEqual((lines, done.returncode), ([], 1))
         self.assertIn("%d captures without" % len(self.wanted()), done.stderr)
 
+    def test_captures_that_share_a_member(self) -> None:
+        """None of them has a place of its own, nor has the one with which the member begins."""
+        one, other, alone = self.wanted()[:3]
+        lines, done = self.index(gzip.compress(one + other) + gzip.compress(alone))
+        self.assertEqual((len(lines), done.returncode), (1, 1), lines)
+        self.assertIn("2 captures without", done.stderr)
+
     def test_files_that_are_refused(self) -> None:
         for data, status in ((contents(CRAWL)[:-1], 2), (gzip.compress(contents(CRAWL))[:-1], 3)):
             lines, done = self.index(data)
