@@ -202,6 +202,15 @@ def test_packages_in_a_package() -> None:
         assert raised.value.fault == fault
 
 
+def test_where_a_package_in_a_package_is_cut() -> None:
+    """The offset of its fault is the one in the whole file."""
+    inner = wacz_of(ARCHIVES)[:-1]
+    data = packed_files([("a", b"before it"), ("one.wacz", inner)])
+    with pytest.raises(_zip.BadZip) as raised:
+        package_of(data)
+    assert (raised.value.fault, raised.value.offset) == ("NoEnd", data.index(inner) + len(inner))
+
+
 @pytest.mark.parametrize(
     "names", [[], ["a.warc"], ["archive/a.arc"], ["Archive/a.warc"], ["archive/a/b.warc"], ["archive/.warc/"]]
 )
