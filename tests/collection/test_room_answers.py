@@ -97,6 +97,15 @@ def test_a_long_list_in_json(long: Collection, uri: str) -> None:
     assert path == "" and len(set(positions)) == MANY and positions == sorted(positions)
 
 
+def test_the_captures_on_both_sides_of_one(long: Collection) -> None:
+    """The nearest ones, however many there are."""
+    reply = Room(long).ask("/timegate/" + URI, ACCEPT_DATETIME="Wed, 01 Jan 2020 00:00:10 GMT")
+    links = {name: found[0].partition(";")[0] for name, found in links_in(str(reply.get("Link"))).items()}
+    around = {"first": "000000", "prev": "000009", "next": "000011", "last": "065640"}
+    wanted = {name: "%s/memento/20200101%s/%s" % (AT, digits, URI) for name, digits in around.items()}
+    assert {name: links.get(name) for name in around} == wanted
+
+
 def test_parts_that_are_none(long: Collection) -> None:
     room = Room(long)
     for form, key in (("link", "x"), ("json", "20200101000000000000000"), ("link", "20200101000000000000000-1-2")):
