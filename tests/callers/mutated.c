@@ -158,7 +158,8 @@ static bool is_line(const uint8_t **at, const uint8_t *bytes, size_t length) {
     return is;
 }
 
-/* The rows of many records are those of each, in room for some of them. */
+/* The rows of many records are those of each, in room for some of them. The last of them needs all the room that is
+ * filled. */
 static void ask_rows(warc_archive *archive, size_t first) {
     static uint8_t out[98304], texts[65536];
     warc_row rows[8], row;
@@ -176,9 +177,12 @@ static void ask_rows(warc_archive *archive, size_t first) {
             if (!is_line(&line, at, lengths[part])) abort();
         }
     }
+    size_t filled = (size_t)(line - exact);
+    if (warc_rows(archive, first, rows, count, exact, filled, NULL) != count) abort();
+    if (count != 0 && warc_rows(archive, first, rows, count, exact, filled - 1, NULL) != count - 1) abort();
 }
 
-/* The fields of many heads are those of each. */
+/* The fields of many heads are those of each, and the last of these needs all the room that is filled. */
 static void ask_fields(warc_archive *archive, size_t first) {
     static uint8_t out[98304];
     warc_lines lines[8];
@@ -198,6 +202,9 @@ static void ask_fields(warc_archive *archive, size_t first) {
         if (warc_field_at(archive, first + i, lines[i].fields, &field, &problem) || problem.code) abort();
         if ((size_t)(line - begin) != lines[i].length) abort();
     }
+    size_t filled = (size_t)(line - exact);
+    if (warc_fields(archive, first, lines, count, exact, filled, NULL) != count) abort();
+    if (count != 0 && warc_fields(archive, first, lines, count, exact, filled - 1, NULL) != count - 1) abort();
 }
 
 static void ask_all(warc_archive *archive, const text *of) {
