@@ -341,6 +341,18 @@ class Growing(unittest.TestCase):
             self.assertEqual(archive.grow(), 1)
             archive.close()
 
+    def test_a_text_is_of_all_records_after_growth(self) -> None:
+        """Also where the same text was asked for before."""
+        with open(CRAWL, "rb") as crawl:
+            whole = crawl.read()
+        for text in (zogwedu.Archive.list_text, zogwedu.Archive.check, zogwedu.Archive.fixity):
+            with tempfile.NamedTemporaryFile() as file, zogwedu.Archive.open(file.name) as archive:
+                text(archive)
+                file.write(whole)
+                file.flush()
+                archive.grow()
+                self.assertEqual(text(archive), text(zogwedu.Archive(whole)))
+
     def grown(self, old: bytes, new: bytes, **how: bool) -> Tuple[zogwedu.Archive, Union[int, zogwedu.WarcError]]:
         with tempfile.NamedTemporaryFile() as file:
             file.write(old)
