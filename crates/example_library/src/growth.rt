@@ -35,8 +35,11 @@ pub fn lengths_of(
     new: Vec<u8>,
     id: &[u8],
 ) -> Result<(Option<u64>, Option<u64>), Fault> {
-    match Archive::open(alloc, MemSource::new(old, usize::MAX)) {
-        Ok(mut archive) => lengths(alloc, &mut archive, new, id),
-        Err((fault, _source)) => Err(fault),
-    }
+    let mut archive = match Archive::open(alloc, MemSource::new(old, usize::MAX)) {
+        Ok(archive) => archive,
+        Err((fault, _source)) => return Err(fault),
+    };
+    let found = lengths(alloc, &mut archive, new, id);
+    archive.into_source();
+    found
 }

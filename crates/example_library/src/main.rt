@@ -61,10 +61,13 @@ fn report_replayed(
 
 /// The same for the bytes of an archive.
 fn report_page(rt: &HostRuntime, bytes: Vec<u8>, moment: &Moment) -> io::Result<()> {
-    match Archive::open(rt.alloc(), MemSource::new(bytes, usize::MAX)) {
-        Ok(mut archive) => report_replayed(rt, &mut archive, moment),
-        Err((fault, _)) => println!(rt; "refused: {fault}"),
-    }
+    let mut archive = match Archive::open(rt.alloc(), MemSource::new(bytes, usize::MAX)) {
+        Ok(archive) => archive,
+        Err((fault, _)) => return println!(rt; "refused: {fault}"),
+    };
+    let reported = report_replayed(rt, &mut archive, moment);
+    archive.into_source();
+    reported
 }
 
 /// The same for the first instant of a date.

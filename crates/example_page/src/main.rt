@@ -50,10 +50,13 @@ fn report_grown(
     longer: Vec<u8>,
     moment: &Moment,
 ) -> io::Result<()> {
-    match page::opened(rt.alloc(), bytes) {
-        Ok(mut archive) => report_refused(rt, &mut archive, longer, moment),
-        Err(fault) => println!(rt; "no archive: {fault}"),
-    }
+    let mut archive = match page::opened(rt.alloc(), bytes) {
+        Ok(archive) => archive,
+        Err(fault) => return println!(rt; "no archive: {fault}"),
+    };
+    let reported = report_refused(rt, &mut archive, longer, moment);
+    archive.into_source();
+    reported
 }
 
 /// The same of a file, and of the front of another record after it.

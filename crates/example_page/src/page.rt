@@ -60,10 +60,9 @@ pub fn page(alloc: Global, bytes: Vec<u8>, uri: &[u8], moment: &Moment) -> Resul
         Ok(archive) => archive,
         Err(fault) => return Err(NoPage::Refused(fault)),
     };
-    match replayed(alloc, &mut archive, uri, moment) {
-        Ok(page) => Ok(page),
-        Err(fault) => Err(NoPage::Unanswered(fault)),
-    }
+    let answer = replayed(alloc, &mut archive, uri, moment);
+    archive.into_source();
+    answer.map_err(NoPage::Unanswered)
 }
 
 /// Grows an archive in memory, and says whether it grew. One that didn't is as it was.
