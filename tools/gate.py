@@ -14,6 +14,7 @@ import sys
 import time
 from collections.abc import Sequence
 
+import proofs
 from shared import TOP
 
 FIRST = """Checks the tree as it is, proves each crate, tries planted bugs, and tests what people touch. Where nothing
@@ -39,9 +40,15 @@ class Counts:
         else as one."""
         minutes = (time.monotonic() - self.begun) / 60
         print(f"== {' '.join(words)} (minute {minutes:.0f})", flush=True)
-        last, pipe = "", subprocess.PIPE
+        last = ""
         with subprocess.Popen(
-            words, cwd=TOP, stdin=subprocess.DEVNULL, stdout=pipe, stderr=subprocess.STDOUT, text=True, errors="replace"
+            words,
+            cwd=TOP,
+            stdin=subprocess.DEVNULL,
+            stdout=subprocess.PIPE,
+            stderr=subprocess.STDOUT,
+            text=True,
+            errors="replace",
         ) as run:
             for line in run.stdout or ():
                 print(line, end="", flush=True)
@@ -61,8 +68,10 @@ def main() -> int:
     """Runs everything."""
     print(FIRST, flush=True)
     counts = Counts()
-    if counts.run_all(CHECKS) and counts.run(["rt", "ci"]) and counts.run_all(BUILDS):
-        counts.run(["python3", "tools/test_around.py"])
+    if counts.run_all(CHECKS) and counts.run(["rt", "ci"]):
+        proofs.keep_proved(TOP)
+        if counts.run_all(BUILDS):
+            counts.run(["python3", "tools/test_around.py"])
     print(f"{counts.passed} passed, {counts.failed} failed")
     return 1 if counts.failed else 0
 

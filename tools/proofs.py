@@ -1,9 +1,10 @@
 """Where crates are proved and built: in trees outside the checkout, since the gate reads every file in it.
 
 The trees of a checkout are in a folder of its own below ${XDG_CACHE_HOME:-~/.cache}/zogwedu; ZOGWEDU_BUILD names
-another folder in the place of that one. In a tree `rt ci` proves crates as the gate does, and takes and keeps proofs
-as the gate does: what one of them proved, the other doesn't prove again. `rt ci` builds no static library, so `rt lib`
-does that, over the libraries that `rt ci` left there.
+another folder in the place of that one. In a tree `rt ci` proves crates as the gate does. Some kits keep what it proved
+for its next run, and others don't: so what a run proved and built is kept in that folder too, and where one run proved
+all that a command needs, it is taken from there. `rt ci` builds no static library, so `rt lib` does that, over the
+libraries that `rt ci` left there.
 
 Usage: proofs.py clean                   removes the trees of this checkout, and those of checkouts that are no more
        proofs.py build FOLDER NAME TO    proves and builds a program that is a folder of FOLDER, and puts it into TO
@@ -152,12 +153,30 @@ class Tree:
         with open(f"{self.top}/HANDLES", "w", encoding="utf-8") as out:
             out.write(read("HANDLES"))
 
+    def take(self, names: Sequence[str]) -> bool:
+        """Puts into the tree what was proved and built of these crates, if one run did so with all of them as their
+        files are now; returns whether it did."""
+        self.put(names)
+        found = {crate.name: crate.stamp() for crate in toolchain().crates_below(self.top)}
+        kept = {name: kept_folder(name) for name in names}
+        runs = {read_or_empty(f"{folder}/run") for folder in kept.values()}
+        if len(runs) != 1 or any(read_or_empty(f"{folder}/stamp") != found[name] for name, folder in kept.items()):
+            return False
+        for name, folder in kept.items():
+            shutil.rmtree(f"{self.folder(name)}/out", ignore_errors=True)
+            shutil.copytree(f"{folder}/out", f"{self.folder(name)}/out")
+            print(f"{name:15} kept", flush=True)
+        return True
+
     def prove(self, names: Sequence[str], edits: Sequence[str] = ()) -> str:
         """Has `rt ci` prove these crates and those below them, build and run the programs among them, and try planted
-        bugs, which are paths tests/plants/NAME/X.edit; returns its last line. Ends this script where a crate isn't
-        proved, a planted bug is, or a run isn't as it is wanted."""
-        self.put(all_below(names, self.uses))
-        for name in all_below(names, self.uses):
+        bugs, which are paths tests/plants/NAME/X.edit; returns its last line, or that all was kept. Ends this script
+        where a crate isn't proved, a planted bug is, or a run isn't as it is wanted."""
+        wanted = all_below(names, self.uses)
+        if not edits and self.take(wanted):
+            return "all was kept"
+        self.put(wanted)
+        for name in wanted:
             shutil.rmtree(f"{self.folder(name)}/out", ignore_errors=True)
             shutil.rmtree(f"{self.folder(name)}/must-fail", ignore_errors=True)
         for path in edits:
@@ -177,6 +196,7 @@ class Tree:
                 last = report(run.stdout or (), log)
         if run.returncode:
             sys.exit(f"not all is proved: see {self.top}/log")
+        keep_proved(self.top)
         return last
 
     def build_static(self, name: str, kind: str) -> str:
@@ -204,15 +224,32 @@ class Tree:
         return built
 
 
-def keep_built(out: str, to: str, stamp: str) -> None:
-    """Copies the files that were built, and says of which files they are. The stamp comes last."""
+def kept_folder(name: str) -> str:
+    """Where it is kept what was proved and built of a crate."""
+    return f"{checkout_folder()}/kept/{name}"
+
+
+def keep_built(out: str, to: str, stamp: str, run: str = "") -> None:
+    """Copies what was built, and says of which files it is, and by which run. The stamp comes last."""
     shutil.rmtree(to, ignore_errors=True)
     os.makedirs(f"{to}/out")
     for name in os.listdir(out):
         if os.path.isfile(f"{out}/{name}"):
             shutil.copy2(f"{out}/{name}", f"{to}/out/{name}")
-    with open(f"{to}/stamp", "w", encoding="ascii") as text:
-        text.write(stamp)
+    if os.path.isdir(f"{out}/rlib"):
+        shutil.copytree(f"{out}/rlib", f"{to}/out/rlib")
+    for name, said in (("run", run), ("stamp", stamp)):
+        with open(f"{to}/{name}", "w", encoding="ascii") as text:
+            text.write(said)
+
+
+def keep_proved(top: str) -> None:
+    """Keeps what `rt ci` has just proved and built below a folder, for the commands that come after it. It leaves its
+    libraries without a stamp; a stamp is on what `rt check` had left there and `rt ci` put back, which isn't kept."""
+    found, run = [crate for crate in toolchain().crates_below(top) if crate.name in crates()], str(time.time_ns())
+    if not any(os.path.exists(f"{crate.folder}/out/rlib/stamp") for crate in found):
+        for crate in found:
+            keep_built(f"{crate.folder}/out", kept_folder(crate.name), crate.stamp(), run)
 
 
 def all_below(names: Iterable[str], uses: dict[str, list[str]]) -> list[str]:

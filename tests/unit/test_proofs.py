@@ -4,6 +4,8 @@ from __future__ import annotations
 import os
 import sys
 from pathlib import Path
+from types import SimpleNamespace
+from typing import NamedTuple
 
 import pytest
 
@@ -12,6 +14,7 @@ sys.path.insert(0, f"{TOP}/tools")
 
 import lint  # noqa: E402
 import proofs  # noqa: E402
+import shared  # noqa: E402
 
 
 @pytest.fixture(name="cache")
@@ -81,6 +84,66 @@ def test_what_the_gate_reads_is_left(tmp_path: Path, path: str) -> None:
     (tmp_path / path).parent.mkdir(parents=True, exist_ok=True)
     (tmp_path / path).write_text("")
     assert not list(lint.strays(str(tmp_path), []))
+
+
+class Crate(NamedTuple):
+    """A crate as the toolchain knows it."""
+
+    name: str
+    folder: str
+
+    def stamp(self) -> str:
+        """A sum of its files: here their text."""
+        return Path(self.folder, "src", "lib.rt").read_text(encoding="utf-8")
+
+
+@pytest.fixture(name="proved")
+def fixture_proved(cache: Path, monkeypatch: pytest.MonkeyPatch) -> Path:
+    """A checkout of two crates that `rt ci` proved: a library and a program."""
+    top = cache.parent / "checkout"
+    for name, uses in (("low", ""), ("tool", "low")):
+        (top / "crates" / name / "src").mkdir(parents=True)
+        (top / "crates" / name / "src" / "lib.rt").write_text(f"{name} {uses}")
+        (top / "crates" / name / "out").mkdir()
+    (top / "crates.txt").write_text("low:\ntool: low\n")
+    (top / "HANDLES").write_text("Handles allowed: none.\n")
+    (top / "crates" / "low" / "out" / "rlib" / "low.rlib").mkdir(parents=True)
+    (top / "crates" / "low" / "out" / "rlib" / "low.rlib" / "checked.a").write_text("proved")
+    (top / "crates" / "tool" / "out" / "tool").write_text("program")
+    kit = SimpleNamespace(
+        crates_below=lambda at: [Crate(it, f"{at}/crates/{it}") for it in sorted(os.listdir(f"{at}/crates"))]
+    )
+    for module in (proofs, shared):
+        monkeypatch.setattr(module, "TOP", str(top))
+    monkeypatch.setattr(proofs, "toolchain", lambda: kit)
+    return top
+
+
+def test_what_a_run_proved_is_taken(proved: Path) -> None:
+    tree = proofs.Tree("program")
+    assert not tree.take(["low", "tool"])
+    proofs.keep_proved(str(proved))
+    assert tree.prove(["tool"]) == "all was kept"
+    assert Path(tree.folder("low"), "out", "rlib", "low.rlib", "checked.a").read_text() == "proved"
+    assert Path(tree.folder("tool"), "out", "tool").read_text() == "program"
+
+
+def test_what_was_proved_of_other_files_is_left(proved: Path) -> None:
+    proofs.keep_proved(str(proved))
+    (proved / "crates" / "low" / "src" / "lib.rt").write_text("changed")
+    assert not proofs.Tree("program").take(["low", "tool"])
+
+
+def test_what_two_runs_proved_is_left(proved: Path) -> None:
+    proofs.keep_proved(str(proved))
+    proofs.keep_built(f"{proved}/crates/low/out", proofs.kept_folder("low"), "low ", "another run")
+    assert not proofs.Tree("program").take(["low", "tool"])
+
+
+def test_what_rt_check_left_is_not_kept(proved: Path) -> None:
+    (proved / "crates" / "low" / "out" / "rlib" / "stamp").write_text("low ")
+    proofs.keep_proved(str(proved))
+    assert not proofs.Tree("program").take(["low", "tool"])
 
 
 def test_a_log_of_the_gate_becomes_a_line_for_each_crate(tmp_path: Path, capsys: pytest.CaptureFixture[str]) -> None:
