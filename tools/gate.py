@@ -44,6 +44,7 @@ class Counts:
         with subprocess.Popen(
             words,
             cwd=TOP,
+            env=proofs.side_by_side(),
             stdin=subprocess.DEVNULL,
             stdout=subprocess.PIPE,
             stderr=subprocess.STDOUT,

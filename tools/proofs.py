@@ -28,7 +28,7 @@ import time
 from collections.abc import Iterable, Iterator, Sequence
 from typing import Any, NamedTuple, TextIO
 
-from shared import TOP, below, crates, put_copy, read, rows, rows_in
+from shared import TOP, below, crates, matched, put_copy, read, rows, rows_in
 
 PARTS = ("src", "specs", "proofs")
 # What `rt ci` runs a program with, and compares.
@@ -37,6 +37,9 @@ OF_A_RUN = ("stdin", "stdout", "args", "status", "data")
 CHECKOUT = "checkout"
 ENDED = re.compile(r"^rt: (\w+) (?:(proved)|is (kept)|NOT PROVED)")
 EDIT = re.compile(r"^rt: must-fail \S+\.edit: ")
+# More than any proof has taken, and three times what most do. `rt` believes in up to 10 GB, by the lines of a crate,
+# and so lets crates wait for one another while processors have nothing to do.
+MEMORY_OF_A_PROOF = 4 << 30
 HELP = "set ZOGWEDU_BUILD to a folder that you alone may write to: crates are proved there"
 
 
@@ -187,6 +190,7 @@ class Tree:
             with subprocess.Popen(
                 ["rt", "ci"],
                 cwd=self.top,
+                env=side_by_side(),
                 stdin=subprocess.DEVNULL,
                 stdout=subprocess.PIPE,
                 stderr=subprocess.STDOUT,
@@ -250,6 +254,14 @@ def keep_proved(top: str) -> None:
     if not any(os.path.exists(f"{crate.folder}/out/rlib/stamp") for crate in found):
         for crate in found:
             keep_built(f"{crate.folder}/out", kept_folder(crate.name), crate.stamp(), run)
+
+
+def side_by_side() -> dict[str, str]:
+    """The environment in which `rt ci` has a proof on each processor, as far as there is memory for them."""
+    with open("/proc/meminfo", encoding="ascii") as text:
+        free = 1024 * int(matched(re.search(r"^MemAvailable:\s+(\d+)", text.read(), re.MULTILINE))[1])
+    jobs = max(1, min(len(os.sched_getaffinity(0)), free // MEMORY_OF_A_PROOF))
+    return {"RT_JOBS": str(jobs), **os.environ}
 
 
 def all_below(names: Iterable[str], uses: dict[str, list[str]]) -> list[str]:

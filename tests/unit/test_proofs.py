@@ -146,6 +146,15 @@ def test_what_rt_check_left_is_not_kept(proved: Path) -> None:
     assert not proofs.Tree("program").take(["low", "tool"])
 
 
+def test_a_proof_has_a_processor_and_memory(monkeypatch: pytest.MonkeyPatch) -> None:
+    monkeypatch.delenv("RT_JOBS", raising=False)
+    assert 1 <= int(proofs.side_by_side()["RT_JOBS"]) <= len(os.sched_getaffinity(0))
+    monkeypatch.setattr(proofs, "MEMORY_OF_A_PROOF", 1 << 60)
+    assert proofs.side_by_side()["RT_JOBS"] == "1"
+    monkeypatch.setenv("RT_JOBS", "3")
+    assert proofs.side_by_side()["RT_JOBS"] == "3"
+
+
 def test_a_log_of_the_gate_becomes_a_line_for_each_crate(tmp_path: Path, capsys: pytest.CaptureFixture[str]) -> None:
     said = [
         "rt: warc_field proved\n",
