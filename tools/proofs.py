@@ -160,7 +160,7 @@ class Tree:
         """Puts into the tree what was proved and built of these crates, if one run did so with all of them as their
         files are now; returns whether it did."""
         self.put(names)
-        found = {crate.name: crate.stamp() for crate in toolchain().crates_below(self.top)}
+        found = stamps(self.top)
         kept = {name: kept_folder(name) for name in names}
         runs = {read_or_empty(f"{folder}/run") for folder in kept.values()}
         if len(runs) != 1 or any(read_or_empty(f"{folder}/stamp") != found[name] for name, folder in kept.items()):
@@ -210,11 +210,11 @@ class Tree:
         lows = below(name, self.uses)[:-1]
         self.prove(lows)
         self.put([*lows, name], {name: kind})
-        found = {crate.name: crate for crate in toolchain().crates_below(self.top)}
+        found = stamps(self.top)
         for low in lows:
             with open(f"{self.folder(low)}/out/rlib/stamp", "w", encoding="ascii") as out:
-                out.write(found[low].stamp())
-        built, stamp = f"{self.top}/built/{name}", found[name].stamp()
+                out.write(found[low])
+        built, stamp = f"{self.top}/built/{name}", found[name]
         if read_or_empty(f"{built}/stamp") == stamp:
             print(f"{name:15} kept", flush=True)
             return built
@@ -233,15 +233,16 @@ def kept_folder(name: str) -> str:
     return f"{checkout_folder()}/kept/{name}"
 
 
-def keep_built(out: str, to: str, stamp: str, run: str = "") -> None:
-    """Copies what was built, and says of which files it is, and by which run. The stamp comes last."""
+def keep_built(out: str, to: str, stamp: str, run: str = "", library: str = "") -> None:
+    """Copies the files that were built, and the folder of a library where one is named, and says of which files they
+    are, and by which run. The stamp comes last."""
     shutil.rmtree(to, ignore_errors=True)
     os.makedirs(f"{to}/out")
     for name in os.listdir(out):
         if os.path.isfile(f"{out}/{name}"):
             shutil.copy2(f"{out}/{name}", f"{to}/out/{name}")
-    if os.path.isdir(f"{out}/rlib"):
-        shutil.copytree(f"{out}/rlib", f"{to}/out/rlib")
+    if library and os.path.isdir(f"{out}/{library}"):
+        shutil.copytree(f"{out}/{library}", f"{to}/out/{library}")
     for name, said in (("run", run), ("stamp", stamp)):
         with open(f"{to}/{name}", "w", encoding="ascii") as text:
             text.write(said)
@@ -250,10 +251,20 @@ def keep_built(out: str, to: str, stamp: str, run: str = "") -> None:
 def keep_proved(top: str) -> None:
     """Keeps what `rt ci` has just proved and built below a folder, for the commands that come after it. It leaves its
     libraries without a stamp; a stamp is on what `rt check` had left there and `rt ci` put back, which isn't kept."""
-    found, run = [crate for crate in toolchain().crates_below(top) if crate.name in crates()], str(time.time_ns())
-    if not any(os.path.exists(f"{crate.folder}/out/rlib/stamp") for crate in found):
-        for crate in found:
-            keep_built(f"{crate.folder}/out", kept_folder(crate.name), crate.stamp(), run)
+    found, run = {name: stamp for name, stamp in stamps(top).items() if name in crates()}, str(time.time_ns())
+    if not any(os.path.exists(f"{top}/crates/{name}/out/rlib/stamp") for name in found):
+        for name, stamp in found.items():
+            keep_built(f"{top}/crates/{name}/out", kept_folder(name), stamp, run, "rlib")
+
+
+def stamps(top: str) -> dict[str, str]:
+    """The sum of each crate's files, and of those of the crates below it, by which the toolchain knows its library."""
+    found = {}
+    for crate in toolchain().crates_below(top):
+        found[crate.name] = stamp = crate.stamp()
+        # The toolchain computes the sums of the crates below anew for each crate, a low one's thousands of times.
+        crate.stamp = lambda stamp=stamp: stamp
+    return found
 
 
 def side_by_side() -> dict[str, str]:
@@ -280,9 +291,14 @@ def read_or_empty(path: str) -> str:
 
 
 def toolchain() -> Any:
-    """The toolchain's own module, which says by which stamp a library is known to be of its sources."""
+    """The toolchain's own module, which says by which stamp a library is known to be of its sources. It remembers lists
+    of crates, which change here, and is made to forget them."""
     sys.path.insert(0, f"{kit()}/bin")
-    return importlib.import_module("rtlib")
+    module = importlib.import_module("rtlib")
+    for it in vars(module).values():
+        if hasattr(it, "cache_clear"):
+            it.cache_clear()
+    return module
 
 
 def report(said: Iterable[str], log: TextIO) -> str:

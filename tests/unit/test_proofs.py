@@ -5,7 +5,6 @@ import os
 import sys
 from pathlib import Path
 from types import SimpleNamespace
-from typing import NamedTuple
 
 import pytest
 
@@ -86,11 +85,11 @@ def test_what_the_gate_reads_is_left(tmp_path: Path, path: str) -> None:
     assert not list(lint.strays(str(tmp_path), []))
 
 
-class Crate(NamedTuple):
+class Crate:
     """A crate as the toolchain knows it."""
 
-    name: str
-    folder: str
+    def __init__(self, name: str, folder: str) -> None:
+        self.name, self.folder = name, folder
 
     def stamp(self) -> str:
         """A sum of its files: here their text."""
@@ -144,6 +143,17 @@ def test_what_rt_check_left_is_not_kept(proved: Path) -> None:
     (proved / "crates" / "low" / "out" / "rlib" / "stamp").write_text("low ")
     proofs.keep_proved(str(proved))
     assert not proofs.Tree("program").take(["low", "tool"])
+
+
+def test_a_crate_that_is_listed_later_has_a_sum(tmp_path: Path) -> None:
+    (tmp_path / ".git").mkdir()
+    for name in ("low", "tool"):
+        (tmp_path / "crates" / name / "src").mkdir(parents=True)
+        (tmp_path / "crates" / name / "src" / "lib.rt").write_text("#![tactic(auto)]\n")
+    (tmp_path / "crates.txt").write_text("low:\n")
+    assert set(proofs.stamps(str(tmp_path))) == {"low"}
+    (tmp_path / "crates.txt").write_text("low:\ntool: low\n")
+    assert set(proofs.stamps(str(tmp_path))) == {"low", "tool"}
 
 
 def test_a_proof_has_a_processor_and_memory(monkeypatch: pytest.MonkeyPatch) -> None:
