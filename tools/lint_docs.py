@@ -8,7 +8,7 @@
   tools/lint_architecture.py says.
 - Each file that has the word of a row of CONTRIBUTING.md's table of changes is in that row (tools/lint_changes.py).
 - docs/PROGRAM.md has a section, and README.md a row, for each command of the program and for no other.
-- A link, a heading or a path that a page names is there.
+- A link, a heading or a path that a page names is there, and each table has a head.
 - README.md has at most 9 KB, and the pages have no more words than tools/lint_words.py says.
 - CHANGELOG.md has a section for the version, and the packages for Python and Rust have that version.
 - docs/TRUST.md names the number of cases that the suites and tests/cases have.
@@ -125,6 +125,17 @@ def missing_paths(page: str) -> Iterator[str]:
             yield f"{page}: no file {path}"
 
 
+def broken_tables(page: str, text: str) -> Iterator[str]:
+    """Rows that no table has: an empty line ends one."""
+    before = ""
+    lines = re.sub(r"^```.*?^```$", lambda found: "\n" * found[0].count("\n"), text, flags=re.M | re.S).split("\n")
+    for number, line in enumerate(lines, 1):
+        begins = line.startswith("|") and not before.startswith("|")
+        if begins and not lines[number : number + 1][0].startswith("|---"):
+            yield f"{page}:{number}: a row without a table"
+        before = line
+
+
 def cases_in(script: str) -> int:
     """How many words of a script are followed by what is wanted of them. README.md of tests/cases says how it reads."""
     count, is_open = 0, False
@@ -168,7 +179,8 @@ def main() -> None:
         found += check.wrong()
     for pattern in PAGES:
         for path in sorted(glob.glob(f"{TOP}/{pattern}")):
-            found += missing_paths(os.path.relpath(path, TOP))
+            page = os.path.relpath(path, TOP)
+            found += [*missing_paths(page), *broken_tables(page, read(page))]
     if len(read("README.md").encode()) > MOST:
         found.append(f"README.md: more than {MOST} bytes")
     found += make_calling.faults()
