@@ -1,11 +1,12 @@
 #!/usr/bin/env python3
 """Counts what a reader has to believe: the definitions of specs/ that the words of a contract reach.
 
-Usage: count_specs.py [--write | --all]
+Usage: count_specs.py [--write | --all | CLAIM]
 
 For each claim of docs/TRUST.md it follows the words of the contracts that the claim links, and counts the lines of the
-definitions. It prints the table that TRUST has; --write puts it there, and --all prints the files that all public
-contracts rest on, in reading order. `make lint-docs` fails where TRUST has other numbers.
+definitions. It prints the table that TRUST has; --write puts it there, --all prints the files that all public contracts
+rest on, in reading order, and the number of a claim prints its definitions, so that they can be read one after another.
+`make lint-docs` fails where TRUST has other numbers.
 
 A word counts if the contract cites it, or if the definition of a word that counts uses it. Public are functions with
 `pub`, those of a public trait, and those that implement a trait. Comments and empty lines aren't counted.
@@ -165,6 +166,21 @@ def by_file(specs: Files, words: set[Word]) -> List[Tuple[str, str, int]]:
     return [(crate, file, sum(lines_of(specs, it) for it in words if it[:2] == (crate, file))) for crate, file in files]
 
 
+def defining(text: str, words: set[str]) -> Iterator[str]:
+    """The paragraphs of a file that define words, with their comments."""
+    for paragraph in re.split(r"\n{2,}", text.strip()):
+        if words & set(definitions(paragraph)):
+            yield paragraph
+
+
+def texts(specs: Files, words: set[Word]) -> Iterator[str]:
+    """The definitions of words with their comments, file by file."""
+    for crate, file, count in by_file(specs, words):
+        path = f"crates/{crate}/specs/{file}.antt"
+        yield f"==== {path}: {count} lines"
+        yield from defining(read(path), {word for *place, word in words if place == [crate, file]})
+
+
 def way(specs: Files, words: set[Word]) -> str:
     """The files of words, by crates, each with its lines."""
     parts: dict[str, list[str]] = {}
@@ -210,6 +226,9 @@ def main() -> None:
         specs = specs_of(TOP)
         for crate, file, count in by_file(specs, of_all(specs)):
             print(f"{count:5} crates/{crate}/specs/{file}.antt")
+    elif sys.argv[1:] and sys.argv[1].isdigit():
+        specs = specs_of(TOP)
+        print(*texts(specs, list(of_claims(specs))[int(sys.argv[1]) - 1]), sep="\n\n")
     elif sys.argv[1:] == ["--write"]:
         made = page()
         with open(f"{TOP}/{PAGE}", "w", encoding="utf-8") as out:

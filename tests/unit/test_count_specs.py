@@ -67,3 +67,17 @@ def test_a_private_function_has_no_contract_for_readers(tmp_path: Path) -> None:
 def test_words_reach_through_files(specs: count_specs.Files) -> None:
     assert count_specs.reached(specs, {("low", "Words", "IsGood")}) == OF_SHOWN
     assert [count_specs.lines_of(specs, it) for it in sorted(OF_SHOWN)] == [2, 2, 2]
+
+
+def test_a_definition_is_printed_with_its_comment() -> None:
+    assert list(count_specs.defining(WORDS, {"IsPart"})) == [
+        "-- A comment inside.\nIsPart : List → Set\nIsPart text = true"
+    ]
+
+
+def test_the_definitions_of_a_claim_are_those_that_are_counted() -> None:
+    specs = count_specs.specs_of(count_specs.TOP)
+    words = list(count_specs.of_claims(specs))[1]
+    paragraphs = [it for it in count_specs.texts(specs, words) if not it.startswith("====")]
+    printed = {word for it in paragraphs for word in count_specs.definitions(it)}
+    assert {word for *_, word in words} <= printed
