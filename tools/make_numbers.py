@@ -80,8 +80,11 @@ def wrong() -> Iterator[str]:
     """What is wrong with the table or the page, a line each."""
     rows = entries()
     order = [place_of(number) for number, *_ in rows]
-    if order != sorted(set(order)) or len(rows) != int(matched(re.search(r"; (\d+)\] = \[", read(TABLE)))[1]):
-        yield f"{TABLE}: the numbers aren't in order, or a row isn't as tools/make_numbers.py reads it"
+    if order != sorted(set(order)):
+        yield f"{TABLE}: the numbers aren't in order"
+    count = int(matched(re.search(r"; (\d+)\] = \[", read(TABLE)))[1])
+    if len(rows) != count:
+        yield f"{TABLE}: the table says {count} rows, and tools/make_numbers.py reads {len(rows)}"
     for number, name, means, remedy in rows:
         if not (name and means and remedy):
             yield f"{TABLE}: {number} lacks a name, a meaning or what to do"
