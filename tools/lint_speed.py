@@ -10,7 +10,7 @@ from shared import matched, read
 
 PAGE = "docs/SPEED.md"
 SAID = re.compile(
-    r"`list` of a crawl\s+takes (\d\.\d\d)\s+and `check` (\d\.\d\d); a record takes\s+(\d+) bytes\s+of\s+memory"
+    r"`list` of a crawl\s+takes (\d\.\d\d)\s+and `check` (\d\.\d\d); a record takes\s+(\d+)\s+bytes\s+of\s+memory"
 )
 MIB = 1 << 20
 RECORDS = 1_000_000  # of the archive of which the most memory is measured
