@@ -4,9 +4,10 @@
 Usage: count_specs.py [--write | --all | CLAIM]
 
 For each claim of docs/TRUST.md it follows the words of the contracts that the claim links, and counts the lines of the
-definitions. It prints the table that TRUST has; --write puts it there, --all prints the files that all public contracts
-rest on, in reading order, and the number of a claim prints its definitions, so that they can be read one after another.
-`make lint-docs` fails where TRUST has other numbers.
+definitions. It prints the table that TRUST has; --write puts the counts there, and leaves the words to begin with as
+they are. --all prints the files that all public contracts rest on, in reading order, and the number of a claim prints
+its definitions, so that they can be read one after another. `make lint-docs` fails where TRUST has other counts, or
+begins with a word that the claim doesn't rest on.
 
 A word counts if the contract cites it, or if the definition of a word that counts uses it. Public are functions with
 `pub`, those of a public trait, and those that implement a trait. Comments and empty lines aren't counted.
@@ -30,8 +31,11 @@ BESIDE = ("suites_", "example_", "warc_vectors")
 FUNCTION = re.compile(r'^\s*(pub )?(?:const |unsafe )*(?:extern "C" )?fn (\w+)')
 USE = re.compile(r"^\s*(?:ghost )?use Rattle\.(\w+)\.specs\.(\w+)\.\{([^}]*)\}", re.MULTILINE)
 CONTRACT = re.compile(r"^\[`?([\w:]+)`?\]\(\.\./(crates/\w+/src/[\w/]+\.rt)\)$")
-HEAD = "| Claim | Definitions | Lines | Lines that no claim above needs | In these files, with their lines |\n"
+HEAD = "| Claim | Definitions | Lines | Lines that no claim above needs | Begin with |\n"
 TABLE = re.compile(rf"{re.escape(HEAD)}(?:\|.*\n)*")
+ROW = re.compile(r"^\| (\d+) \|.*\| ([^|\n]*) \|$", re.MULTILINE)
+# "`Opens` of `warc_reading`", or several words of a crate.
+BEGINNING = re.compile(r"((?:`\w+`(?:, )?)+) of `(\w+)`")
 ALL = re.compile(r"(All public contracts rest on) [\d,]+ definitions of [\d,]+ lines, in [\d,]+ files")
 Word = Tuple[str, str, str]
 Names = Dict[str, Word]
@@ -181,24 +185,30 @@ def texts(specs: Files, words: set[Word]) -> Iterator[str]:
         yield from defining(read(path), {word for *place, word in words if place == [crate, file]})
 
 
-def way(specs: Files, words: set[Word]) -> str:
-    """The files of words, by crates, each with its lines."""
-    parts: dict[str, list[str]] = {}
-    for crate, file, count in by_file(specs, words):
-        parts.setdefault(crate, []).append(f"`{file}` ({count})")
-    return "; ".join(f"`{crate}`: {', '.join(files)}" for crate, files in parts.items()) or "none"
+def beginnings(text: str) -> dict[int, str]:
+    """What the table of a page begins each claim with."""
+    found = TABLE.search(text)
+    return {int(number): cell for number, cell in ROW.findall(found[0] if found else "")}
+
+
+def strange(begin: str, words: set[Word]) -> Iterator[str]:
+    """The words to begin with that aren't among those of a claim."""
+    for names, crate in BEGINNING.findall(begin):
+        for name in re.findall(r"\w+", names):
+            if not any((place, word) == (crate, name) for place, _, word in words):
+                yield f"{name} of {crate}"
 
 
 def table() -> str:
     """The table of the page."""
-    specs = specs_of(TOP)
+    specs, begin = specs_of(TOP), beginnings(read(PAGE))
     rows = ""
     before: set[Word] = set()
     for number, words in enumerate(of_claims(specs), 1):
         more = words - before
         before |= words
         counts = [sum(lines_of(specs, it) for it in part) for part in (words, more)]
-        rows += f"| {number} | {len(words)} | {counts[0]:,} | {counts[1]:,} | {way(specs, more)} |\n"
+        rows += f"| {number} | {len(words)} | {counts[0]:,} | {counts[1]:,} | {begin.get(number, '')} |\n"
     return f"{HEAD}|---|---|---|---|---|\n{rows}"
 
 
@@ -219,6 +229,12 @@ def wrong() -> Iterator[str]:
         yield f"{PAGE}: has no counts of definitions as tools/count_specs.py writes them"
     elif page() != text:
         yield f"{PAGE}: its counts of definitions are others: run tools/count_specs.py --write"
+    for number, words in enumerate(of_claims(specs_of(TOP)), 1):
+        begin = beginnings(text).get(number, "")
+        if not BEGINNING.search(begin):
+            yield f"{PAGE}: claim {number} begins with no definition"
+        for name in strange(begin, words):
+            yield f"{PAGE}: claim {number} doesn't rest on {name}"
 
 
 def main() -> None:

@@ -81,3 +81,10 @@ def test_the_definitions_of_a_claim_are_those_that_are_counted() -> None:
     paragraphs = [it for it in count_specs.texts(specs, words) if not it.startswith("====")]
     printed = {word for it in paragraphs for word in count_specs.definitions(it)}
     assert {word for *_, word in words} <= printed
+
+
+def test_a_claim_begins_with_words_that_it_rests_on() -> None:
+    page = f"{count_specs.HEAD}|---|---|---|---|---|\n| 1 | 3 | 6 | 6 | `IsGood`, `IsPart` of `low`; `high` of `lower` |\n"
+    begin = count_specs.beginnings(page)
+    assert list(begin) == [1]
+    assert list(count_specs.strange(begin[1], OF_SHOWN)) == ["high of lower"]
