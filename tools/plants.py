@@ -17,7 +17,11 @@ from shared import TOP
 
 def main(names: list[str]) -> None:
     """Tries them, and prints the last line of `rt ci`."""
-    folders = names or sorted(os.listdir(f"{TOP}/tests/plants"))
+    known = sorted(os.listdir(f"{TOP}/tests/plants"))
+    unknown = [name for name in names if name not in known]
+    if unknown:
+        sys.exit(f"no planted bugs of {', '.join(unknown)} in tests/plants")
+    folders = names or known
     edits = [
         f"tests/plants/{name}/{file}" for name in folders for file in sorted(os.listdir(f"{TOP}/tests/plants/{name}"))
     ]
