@@ -11,7 +11,8 @@
 - A link, a heading or a path that a page names is there, and each table has a head.
 - README.md has at most 9 KB, and the pages have no more words than tools/lint_words.py says.
 - CHANGELOG.md has a section for the version, and the packages for Python and Rust have that version.
-- docs/TRUST.md names the number of cases that the suites and tests/cases have.
+- docs/TRUST.md names the number of cases that the suites and tests/cases have, and other counts are as
+  tools/lint_counts.py says.
 - README says of speed what docs/SPEED.md says.
 - docs/NUMBERS.md is what tools/make_numbers.py makes, and docs/FORMAT.md has the same numbers and names.
 - docs/PROGRAM.md is what tools/make_program.py makes.
@@ -28,6 +29,7 @@ from collections.abc import Iterator
 import count_specs
 import lint_architecture
 import lint_changes
+import lint_counts
 import lint_speed
 import lint_trust
 import lint_words
@@ -49,6 +51,7 @@ CHECKS = (
     count_specs,
     lint_architecture,
     lint_changes,
+    lint_counts,
     lint_speed,
     lint_trust,
     lint_words,

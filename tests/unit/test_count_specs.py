@@ -6,6 +6,7 @@ from typing import Set
 
 import count_specs
 import pytest
+from shared import TOP
 
 CODE = """\
 ghost use Rattle.low.specs.Words.{IsGood, IsPart as IsPiece, IsUnused};
@@ -76,7 +77,7 @@ def test_a_definition_is_printed_with_its_comment() -> None:
 
 
 def test_the_definitions_of_a_claim_are_those_that_are_counted() -> None:
-    specs = count_specs.specs_of(count_specs.TOP)
+    specs = count_specs.specs_of(TOP)
     words = list(count_specs.of_claims(specs))[1]
     paragraphs = [it for it in count_specs.texts(specs, words) if not it.startswith("====")]
     printed = {word for it in paragraphs for word in count_specs.definitions(it)}
@@ -84,7 +85,9 @@ def test_the_definitions_of_a_claim_are_those_that_are_counted() -> None:
 
 
 def test_a_claim_begins_with_words_that_it_rests_on() -> None:
-    page = f"{count_specs.HEAD}|---|---|---|---|---|\n| 1 | 3 | 6 | 6 | `IsGood`, `IsPart` of `low`; `high` of `lower` |\n"
+    page = (
+        f"{count_specs.HEAD}|---|---|---|---|---|\n| 1 | 3 | 6 | 6 | `IsGood`, `IsPart` of `low`; `high` of `lower` |\n"
+    )
     begin = count_specs.beginnings(page)
     assert list(begin) == [1]
     assert list(count_specs.strange(begin[1], OF_SHOWN)) == ["high of lower"]
