@@ -424,6 +424,32 @@ class GoodMembers(InFolder):
         self.assertEqual(subprocess.run(words, capture_output=True, check=False).returncode, 3)
         words[-2:] = [CRAWL, f"{self.folder}/good.warc"]
         self.assertEqual(subprocess.run(words, capture_output=True, check=False).returncode, 0)
+        words[-2:] = [self.file(data), "-"]
+        done = subprocess.run(words, capture_output=True, text=True, check=False)
+        self.assertEqual((done.returncode, done.stdout.encode()), (2, contents(CRAWL)))
+        self.assertEqual(done.stderr, f"{said}zogwedu: salvaged 18 records, {len(contents(CRAWL))} bytes\n")
+        rest = len(contents(CRAWL)) - begin
+        rows = f"records\t0\t{begin}\t2\n{said[9:].replace(' ', '@', 3)}records\t{begin}\t{rest}\t16\n"
+        done = subprocess.run([*words[:3], "pieces", words[4]], capture_output=True, text=True, check=False)
+        self.assertEqual((done.returncode, done.stdout, done.stderr), (2, rows.replace("@", "\t"), ""))
+
+    def test_the_commands_over_other_files(self) -> None:
+        """A good archive is one piece; a file that isn't there, and one that would be read and written, are refused."""
+        size = len(contents(CRAWL))
+        for words, wanted in (
+            (["pieces", CRAWL], (0, f"records\t0\t{size}\t18\n")),
+            (["pieces", f"{self.folder}/none"], (3, "")),
+            (["salvage", f"{self.folder}/none", "-"], (3, "")),
+        ):
+            words = [sys.executable, "-m", "zogwedu", *words]
+            done = subprocess.run(words, capture_output=True, text=True, check=False)
+            self.assertEqual((done.returncode, done.stdout), wanted, done.stderr)
+        path = self.file(contents(CRAWL))
+        with open(path, "ab") as out:
+            words = [sys.executable, "-m", "zogwedu", "salvage", path, "-"]
+            done = subprocess.run(words, stdout=out, stderr=subprocess.PIPE, text=True, check=False)
+        self.assertEqual((done.returncode, len(contents(path))), (3, size))
+        self.assertIn("the file that is written is the one that is read", done.stderr)
 
     def test_a_member_in_the_data_of_another(self) -> None:
         """It is found only where the outer one is damaged; what the outer one holds is read once if it isn't."""

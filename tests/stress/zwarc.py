@@ -220,9 +220,14 @@ def streamed(trials: Trials) -> None:
         trials.judge((seen.out, seen.status) == (b"", 3) and b"--stream is for" in seen.message, command, seen)
 
 
+def has_package() -> bool:
+    """Whether the Python package was built."""
+    return os.path.exists(f"{TOP}/out/python/zogwedu/libwarc.so")
+
+
 def packages(trials: Trials) -> None:
     """The archives of a package are one archive; `fixity` says what of the package isn't as it was packed."""
-    if not os.path.exists(f"{TOP}/out/python/zogwedu/libwarc.so"):
+    if not has_package():
         return
     plain = trials.file("plain", PLAIN)
     archives = {"b.warc": RECORDS[2], "a.warc.gz": b"".join(MEMBERS[:2])}
@@ -310,13 +315,35 @@ def bad(trials: Trials) -> None:
             judge_bad(trials, with_archive(command, path), None, None)
             judge_bad(trials, with_archive(command, "-"), path, None)
             judge_bad(trials, with_archive(command, "-"), None, data)
+        tool(trials, "python3", "exit 1")
         seen = trials.run(["zwarc", "salvage", "--all", path])
-        is_named = b"'python3 -m zogwedu salvage ARCHIVE OUT'" in seen.message
+        os.remove(f"{trials.bin}/python3")
+        is_named = b"'zwarc salvage --all', with python3-zogwedu" in seen.message
         trials.judge((seen.out, seen.status) == (b"", 3) and is_named != ("zstd" in name), (name, "salvage"), seen)
+        if has_package() and "zstd" not in name:
+            good_parts(trials, path, data)
         for command in ONCE:
             seen = trials.run(["zwarc", "--stream", *with_archive(command, path)])
             is_right = seen.status == 3 and b"zwarc: " + path.encode() in seen.message
             trials.judge(is_right, (name, "--stream", *command), seen)
+
+
+def good_parts(trials: Trials, path: str, data: bytes) -> None:
+    """`pieces` and `salvage --all` read on after each damage, by Python's package: not over a pipe."""
+    good = [text for text, member in zip(RECORDS, MEMBERS) if member in data]
+    for words, standard in ((["salvage", "--all", path], None), (["salvage", "-", "--all"], path)):
+        seen = trials.run(["zwarc", *words], standard)
+        said = b"\nzogwedu: salvaged %d records, %d bytes\n" % (len(good), sum(map(len, good)))
+        is_right = seen.message.endswith(said) and b"zogwedu: damage " in seen.message
+        trials.judge((seen.out, seen.status) == (b"".join(good), 2) and is_right, words, seen)
+    seen = trials.run(["zwarc", "pieces", path])
+    rows = [line.split(b"\t") for line in seen.out.splitlines()]
+    runs = [row for row in rows if row[0] == b"records"]
+    is_right = sum(int(row[3]) for row in runs) == len(good) and b" compressed bytes" in b"".join(rows[-1] + rows[0])
+    trials.judge(is_right and len(runs) < len(rows) and seen.status == 2, ["pieces", path], seen)
+    for command in (["pieces", "-"], ["salvage", "--all", "-"]):
+        seen = trials.run(["zwarc", *command], piped=data)
+        trials.judge((seen.out, seen.status) == (b"", 3) and b", not a pipe\n" in seen.message, command, seen)
 
 
 def judge_bad(trials: Trials, words: Sequence[str], standard: str | None, piped: bytes | None) -> None:

@@ -1,5 +1,7 @@
 """python -m zogwedu unpack [--stored] ARCHIVE FOLDER: writes the bodies of an archive as files.
 
+python -m zogwedu pieces ARCHIVE: prints which parts of an archive, compressed or not, are whole.
+
 python -m zogwedu salvage ARCHIVE OUT: writes all good records of an archive, compressed or not, to a new file.
 
 python -m zogwedu wacz FILE: prints the archives of a package, the verdicts on its files, and its pages.
@@ -12,13 +14,15 @@ import os
 import sys
 from typing import BinaryIO, List, NamedTuple, Sequence, Union
 
-from . import Archive, Body, CompressedError, NoBody, Record, Refused, Undecodable, WarcError, salvage
+from . import Archive, Body, CompressedError, NoBody, Record, Refused, Undecodable, WarcError
+from . import pieces, salvage
 from ._cdxj import HEAD_11, is_fit, line_11_of, line_of
 from ._indexed import indexed
 from ._library import CODED
 from ._packages import run
 
 USAGE = """usage: python -m zogwedu unpack [--stored] ARCHIVE FOLDER
+       python -m zogwedu pieces ARCHIVE
        python -m zogwedu salvage ARCHIVE OUT
        python -m zogwedu wacz [--verdicts] FILE
        python -m zogwedu join FILE
@@ -119,14 +123,39 @@ def said_of(fault: Union[Refused, CompressedError, None]) -> str:
     return str(fault)
 
 
+def put_pieces(path: str) -> int:
+    """Prints the pieces of an archive, as `warc pieces` does; answers the exit status."""
+    found = pieces(path)
+    for it in found:
+        kind, about = ("records", it.count) if it.fault is None else ("damage", said_of(it.fault))
+        print(kind, it.offset, it.length, about, sep="\t")
+    sys.stdout.flush()
+    return 2 if any(it.fault is not None for it in found) else 0
+
+
 def save(path: str, out: str) -> int:
-    """Writes all good records of an archive to a new file, and says what is left out; answers the exit status."""
-    with open(out, "xb") as file:
-        salvaged = salvage(path, file)
+    """Writes all good records of an archive to a new file, or to standard output for `-`, and says what is left out;
+    answers the exit status."""
+    if out == "-":
+        with open(sys.stdout.fileno(), "wb", buffering=0, closefd=False) as standard:
+            salvaged = salvage(path, standard)
+    else:
+        with open(out, "xb") as file:
+            salvaged = salvage(path, file)
     for damage in salvaged.damage:
         print(f"zogwedu: damage {damage.offset} {damage.length} {said_of(damage.fault)}", file=sys.stderr)
-    print(f"{salvaged.records} records, {salvaged.length} bytes")
+    said = f"{salvaged.records} records, {salvaged.length} bytes"
+    print(f"zogwedu: salvaged {said}" if out == "-" else said, file=sys.stderr if out == "-" else sys.stdout)
     return 2 if salvaged.damage else 0
+
+
+def good_parts(words: List[str]) -> int:
+    """Does `pieces` and `salvage`; answers the exit status."""
+    try:
+        return put_pieces(words[1]) if words[0] == "pieces" else save(words[1], words[2])
+    except (WarcError, OSError, ValueError) as error:
+        print(f"zogwedu: {error}", file=sys.stderr)
+        return 3
 
 
 def put_index(path: str, has_11: bool) -> int:
@@ -161,12 +190,8 @@ def main(words: List[str]) -> int:
         return status
     if words[:1] == ["cdxj"] and len(words) == 2 + (words[1:2] == ["--cdx11"]):
         return index_command(words[1:])
-    if words[:1] == ["salvage"] and len(words) == 3:
-        try:
-            return save(words[1], words[2])
-        except (WarcError, OSError) as error:
-            print(f"zogwedu: {error}", file=sys.stderr)
-            return 3
+    if {"pieces": 2, "salvage": 3}.get("".join(words[:1])) == len(words):
+        return good_parts(words)
     stored = words[1:2] == ["--stored"]
     rest = words[2:] if stored else words[1:]
     if words[:1] != ["unpack"] or len(rest) != 2:
