@@ -20,7 +20,8 @@ from .replay import Files, other_bytes
 from .states import READ
 from .texts import Stored, Trouble, counted, escaped, path_bytes, real_path, say
 from .timemaps import WITHHELD, Seen
-from .unpack import pieces_of, write_all
+from .unpack import write_all
+from .wacz import pieces_of
 
 if TYPE_CHECKING:
     from zogwedu import _cdxj

@@ -39,7 +39,7 @@ from .package import package_for
 from .program import instant_of, said
 from .texts import Stored, Trouble, decoded, escaped, real_path, say
 from .unpack import PIECE, Damaged, Unsupported, is_of_gzip, write_all
-from .wacz import good_of_parts, has_good_parts, pieces_of
+from .wacz import good_of_parts, has_good_parts, is_package, pieces_of
 
 MOST_CANDIDATES = 64
 # The most captures that are asked what they lack, for one that is replayed.
@@ -294,11 +294,12 @@ class Files:
 
 
 def check_places(file: IO[bytes], rows: Sequence[Row]) -> None:
-    """NoMember unless a file that gzip wrote has a member of its own for each record, or it isn't compressed."""
-    is_of_members = is_of_gzip(file)
-    if not is_of_members and pieces_of(file) is not None:
+    """NoMember unless a file that gzip wrote, or a package, has a member of its own for each record, or the file isn't
+    compressed."""
+    has_members = is_of_gzip(file) or is_package(file)
+    if not has_members and pieces_of(file) is not None:
         raise NoMember("no members of gzip")
-    if any((row.place is not None) != is_of_members for row in rows):
+    if any((row.place is not None) != has_members for row in rows):
         raise NoMember("a record has no member of its own")
 
 

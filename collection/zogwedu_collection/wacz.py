@@ -59,35 +59,41 @@ def opened(file: IO[bytes]) -> _wacz.Package:
 
 class Joined:
     """Gives what the archives of a package hold, one after another, in pieces. `begins` is where those begin that hold
-    anything, once all are given."""
+    anything, once all are given. `note` hears of each member of gzip, where it is in the file of the package, unless
+    that compressed its archive once more."""
 
-    def __init__(self, file: IO[bytes]) -> None:
+    def __init__(self, file: IO[bytes], note: _members.Note = lambda *_places: None) -> None:
         self.package = opened(file)
+        self.note = note
         self.begins: List[int] = []
 
     def __iter__(self) -> Iterator[bytes]:
         at = 0
         for entry in self.package.archives:
             begin = at
-            for piece in held_by(self.package, entry):
+            for piece in held_by(self.package, entry, functools.partial(self.noted, begin)):
                 at += len(piece)
                 yield piece
             if at > begin:
                 self.begins.append(begin)
 
+    def noted(self, before: int, offset: int, end: int, begin: int, stop: int) -> None:
+        """Passes on a member of an archive before which others hold some bytes."""
+        self.note(offset, end, before + begin, before + stop)
 
-def held_by(package: _wacz.Package, entry: _zip.Entry) -> Iterator[bytes]:
+
+def held_by(package: _wacz.Package, entry: _zip.Entry, note: _members.Note = lambda *_places: None) -> Iterator[bytes]:
     """What an archive of a package holds, in pieces."""
     try:
-        yield from _wacz.Unpacked(package.read, entry)
+        yield from _wacz.Unpacked(package.read, entry, note)
     except _members.Damaged as damaged:
         raise Damaged("%s: %s" % (_zip.shown(entry.name), reason_of(damaged.why))) from None
 
 
 def pieces_of(file: IO[bytes], note: _members.Note = lambda *_places: None) -> Optional[Iterable[bytes]]:
-    """What a compressed file or a package holds, in pieces, or None for another file. `note` hears of each member of a
-    file that gzip wrote."""
-    return Joined(file) if is_package(file) else pieces_of_compressed(file, note)
+    """What a compressed file or a package holds, in pieces, or None for another file. `note` hears of each member of
+    gzip that is in the file as it is."""
+    return Joined(file, note) if is_package(file) else pieces_of_compressed(file, note)
 
 
 def has_good_parts(file: IO[bytes]) -> bool:

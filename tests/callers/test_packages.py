@@ -15,7 +15,7 @@ import zogwedu
 
 TOP = os.path.dirname(os.path.dirname(os.path.dirname(os.path.abspath(__file__))))
 sys.path.insert(0, os.path.join(TOP, "tests", "reference"))
-from packages import Item, files_of, hash_of, packed_files, page_line, wacz_of, zip_of  # noqa: E402
+from packages import DEFLATED, Item, files_of, hash_of, packed_files, page_line, wacz_of, zip_of  # noqa: E402
 
 with open(f"{TOP}/examples/crawl.warc", "rb") as crawl_file:
     CRAWL = crawl_file.read()
@@ -270,6 +270,35 @@ class EntryPoints(unittest.TestCase):
             self.assertIsNone(zogwedu.entry_point(archive, zogwedu.Page("urn:none", "2026-11-27T00:00:00Z", None)))
             coded = zogwedu.entry_point(archive, zogwedu.Page(f"{FRONT}week", "2027-01-01T00:00:00Z", None))
             self.assertEqual(coded, zogwedu.Entry("2027-01-01T00:00:00Z", None))
+
+
+class Indexes(unittest.TestCase):
+    """`cdxj` over a package: each line leads to its member in the file of the package."""
+
+    def index(self, data: bytes) -> Tuple[List[bytes], int]:
+        """The members to which the lines lead, and the exit status."""
+        with written(data) as path:
+            status, out, said = run("cdxj", path)
+            found = []
+            for line in out.splitlines():
+                fields = json.loads(line.split(b" ", 2)[2])
+                begin = int(fields["offset"])
+                found.append(gzip.decompress(data[begin : begin + int(fields["length"])]))
+                self.assertEqual(fields["filename"], "a.wacz")
+        self.assertEqual(b"captures without" in said, status == 1)
+        return sorted(found), status
+
+    def test_members(self) -> None:
+        members = [gzip.compress(record(number)) for number in range(5)]
+        whole = {"b.warc.gz": b"".join(members[:3]), "a.warc.gz": members[3] + gzip.compress(b"") + members[4]}
+        self.assertEqual(self.index(wacz_of(whole, PAGES)), ([record(number) for number in range(5)], 0))
+
+    def test_records_without_a_member(self) -> None:
+        """They are in an archive that isn't compressed, or that the package compressed once more."""
+        member = gzip.compress(record(1))
+        items = [Item(b"archive/a.warc", record(0)), Item(b"archive/b.warc.gz", member)]
+        items.append(Item(b"archive/c.warc.gz", gzip.compress(record(2)), DEFLATED))
+        self.assertEqual(self.index(zip_of(items)), ([record(1)], 1))
 
 
 if __name__ == "__main__":

@@ -20,6 +20,7 @@ from rooms import HTTP, PROFILE
 sys.path.insert(0, os.path.join(TOP, "tests", "reference"))
 import warc_reference  # noqa: E402
 import zogwedu  # noqa: E402
+from packages import DEFLATED, STORED, Item, zip_of  # noqa: E402
 from zogwedu_collection import job, needed, replay, sample  # noqa: E402
 from zogwedu_collection.captures import Capture, captures_where  # noqa: E402
 from zogwedu_collection.catalogue import OF_A_FILE, Catalogue, Known  # noqa: E402
@@ -117,11 +118,22 @@ def random_files(numbers: random.Random) -> List[List[bytes]]:
     return [own for own in files if own]
 
 
+def in_package(numbers: random.Random, records: List[bytes]) -> bytes:
+    """Records as two archives of a package: in members of their own, but for some archives."""
+    place, items = numbers.randrange(len(records) + 1), []
+    for number, own in enumerate((records[:place], records[place:])):
+        data = b"".join(own if numbers.random() < 0.1 else map(gzip.compress, own))
+        items.append(Item(b"archive/%d.warc.gz" % number, data, DEFLATED if numbers.random() < 0.1 else STORED))
+    return zip_of(items)
+
+
 def packed(numbers: random.Random, records: List[bytes]) -> bytes:
-    """Records as a file: in members of their own, but for some, or not compressed."""
+    """Records as a file: in members of their own, but for some, or not compressed, or in a package."""
     whole, way = b"".join(records), numbers.random()
     if way < 0.2:
         return whole
+    if way < 0.3:
+        return in_package(numbers, records)
     members: List[bytes] = []
     for at, it in enumerate(records):
         if way > 0.6 and numbers.random() < 0.2:  # it is cut

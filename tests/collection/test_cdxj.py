@@ -5,12 +5,16 @@ import gzip
 import json
 import os
 import random
+import sys
 import zlib
 from typing import Any, Dict, List, Tuple
 
 import pytest
-from conftest import PACKAGE, Collection, Done, put, record, script
+from conftest import PACKAGE, TOP as PROJECT, Collection, Done, put, record, script
 from rooms import HTTP, ID, new_collection, read, response, revisit
+
+sys.path.insert(0, os.path.join(PROJECT, "tests", "reference"))
+from packages import DEFLATED, Item, zip_of  # noqa: E402
 
 FIRST, SECOND = "2020-01-01T00:00:00Z", "2021-06-01T12:30:00.5Z"
 TOP, PAGE = "http://www.a.example/", "https://a.example/Page?b=2&a=1"
@@ -44,12 +48,12 @@ def parsed(done: Done[bytes]) -> List[Tuple[str, str, Dict[str, str]]]:
     return [(key, time, json.loads(fields)) for key, time, fields in found]
 
 
-def record_of(path: str, offset: int, length: int) -> bytes:
+def record_of(path: str, offset: int, length: int, is_of_members: bool = False) -> bytes:
     """What an index says is a record."""
     with open(path, "rb") as file:
         file.seek(offset)
         data = file.read(length)
-    if not path.endswith(".gz"):
+    if not path.endswith(".gz") and not is_of_members:
         return data + b"\r\n\r\n"
     member = zlib.decompressobj(zlib.MAX_WBITS | 16)
     whole = member.decompress(data)
@@ -162,6 +166,26 @@ def test_what_is_withheld(three: List[Collection]) -> None:
     assert len(parsed(index(moved))) == 2
     rules = put(collection.path("rules"), b"block a.example\n")
     assert index(moved, "--access", rules).stdout == b""
+
+
+def test_packages(collection: Collection) -> None:
+    """A line leads to its member in the file of the package. Archives that aren't compressed, or that the package
+    compressed once more, have none."""
+    items = [Item(b"archive/b.warc.gz", in_members(RECORDS[:6])), Item(b"archive/c.warc.gz", in_members(RECORDS[6:]))]
+    collection.put("disk/a.wacz", zip_of([Item(b"other", b"bytes"), *items]))
+    read(collection)
+    done = index(collection)
+    assert (done.returncode, done.stderr, len(parsed(done))) == (0, b"", 8)
+    path = collection.path("disk/a.wacz")
+    for _, _, fields in parsed(done):
+        assert record_of(path, int(fields["offset"]), int(fields["length"]), True) in RECORDS
+        assert fields["filename"] == "a.wacz"
+    odd = [items[0]._replace(method=DEFLATED), Item(b"archive/a.warc", b"".join(RECORDS[6:8])), items[1]]
+    collection.put("disk/b.wacz", zip_of(odd))
+    read(collection)
+    done = index(collection)
+    assert (done.returncode, len(parsed(done))) == (1, 8 + 4), done.stderr
+    assert b"not in the index: 6 captures without a known member" in done.stderr
 
 
 def test_names(collection: Collection) -> None:

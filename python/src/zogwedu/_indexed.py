@@ -1,11 +1,13 @@
 """The captures of a file, for an index: where each is in the file, and what its heads say. No part is proved."""
 import os
-from typing import Dict, Iterator, List, NamedTuple, Optional, Tuple
+from typing import IO, Dict, Iterator, List, NamedTuple, Optional, Tuple
 
 from ._archive import Archive, Record
 from ._cdxj import Entry, facts_of
-from ._members import GZIP, Damaged, Members
+from ._members import GZIP, Damaged, Members, Note
 from ._problems import CompressedError
+from ._wacz import Package, Unpacked
+from ._zip import BadZip
 
 PIECE = 1 << 20
 CAPTURES = ("response", "resource", "revisit")
@@ -15,7 +17,8 @@ TAIL = 4
 
 class Indexed(NamedTuple):
     """Captures of a file, and how many have no place of their own in it, since they share a member of gzip with another
-    record, or are in several, or in frames of zstd."""
+    record, or are in several, or in frames of zstd; or in an archive of a package that has no members, or that the
+    package compressed once more."""
 
     entries: List[Entry]
     left_out: int
@@ -25,20 +28,42 @@ class Indexed(NamedTuple):
 Places = Dict[int, Tuple[int, int, int]]
 
 
-def places_of(path: str) -> Places:
-    """Where the members of a file lie that gzip wrote."""
-    found: Places = {}
+def places_of(path: str, kind: Optional[str]) -> Places:
+    """Where the members of a file lie that gzip wrote, or those in a package."""
+    if kind not in ("gzip", "wacz"):
+        return {}
+    try:
+        with open(path, "rb") as file:
+            return places_in_package(file) if kind == "wacz" else places_in(file)
+    except Damaged as damaged:
+        raise CompressedError("the file changed while it was read", damaged.offset) from damaged
+    except BadZip as bad:
+        raise CompressedError("the file changed while it was read", bad.offset) from bad
+
+
+def noting(found: Places, before: int = 0) -> Note:
+    """Notes members before whose archive others hold some bytes."""
 
     def note(offset: int, end: int, begin: int, stop: int) -> None:
         if begin < stop:
-            found[begin] = stop, offset, end - offset
+            found[before + begin] = before + stop, offset, end - offset
 
-    with open(path, "rb") as file:
-        try:
-            for _ in Members(iter(lambda: file.read(PIECE), b""), GZIP, note):
-                pass
-        except Damaged as damaged:
-            raise CompressedError("the file changed while it was read", damaged.offset) from damaged
+    return note
+
+
+def places_in(file: IO[bytes]) -> Places:
+    found: Places = {}
+    for _ in Members(iter(lambda: file.read(PIECE), b""), GZIP, noting(found)):
+        pass
+    return found
+
+
+def places_in_package(file: IO[bytes]) -> Places:
+    found: Places = {}
+    before = 0
+    package = Package(lambda count, offset: os.pread(file.fileno(), count, offset), os.fstat(file.fileno()).st_size)
+    for entry in package.archives:
+        before += sum(map(len, Unpacked(package.read, entry, noting(found, before))))
     return found
 
 
@@ -57,7 +82,7 @@ def indexed(path: str) -> Indexed:
     """The captures of a file that have targets."""
     entries, left_out, name = [], 0, os.path.basename(path)
     with Archive.open(path) as archive:
-        places = places_of(path) if archive.compressed == "gzip" else {}
+        places = places_of(path, archive.compressed)
         for record, begin, end in spans_in(archive):
             if record.type.lower() not in CAPTURES or record.target is None:
                 continue

@@ -9,7 +9,7 @@ import re
 from datetime import datetime, timedelta, timezone
 from typing import Any, Dict, Iterator, List, NamedTuple, Optional, Sequence, Tuple
 
-from ._members import GZIP, Damaged, Members, Read
+from ._members import GZIP, Damaged, Members, Note, Read
 from ._zip import MOST_ENTRIES, STORED, BadEntry, BadZip, Entry, content_of, entries_of, part_of, shown
 
 ARCHIVE = re.compile(r"archive/[^/]+\.warc(\.gz|\.zst)?", re.DOTALL)
@@ -216,12 +216,14 @@ def _compared(digits: str, wanted: str) -> str:
 class Unpacked:
     """Gives what an archive holds, in pieces. Raises Damaged, with an offset in the file of the package.
 
-    `whole` is how many bytes are known to be good: those of whole members of gzip, or else all or none.
+    `whole` is how many bytes are known to be good: those of whole members of gzip, or else all or none. `note` hears of
+    each good member, where it is in the file of the package, unless that compressed the archive once more.
     """
 
-    def __init__(self, read: Read, entry: Entry) -> None:
+    def __init__(self, read: Read, entry: Entry, note: Note = lambda *_places: None) -> None:
         self._read = read
         self._entry = entry
+        self._note = note
         self.whole = 0
 
     def __iter__(self) -> Iterator[bytes]:
@@ -231,10 +233,15 @@ class Unpacked:
             raise Damaged(self._entry.offset, ValueError("compressed by zstd, which isn't read in a package"))
         pieces = _again(first, source)
         if first.startswith(OF_GZIP):
-            yield from self._members(Members(pieces, GZIP))
+            yield from self._members(Members(pieces, GZIP, self._noted))
             return
         yield from pieces
         self.whole = self._entry.size
+
+    def _noted(self, offset: int, end: int, begin: int, stop: int) -> None:
+        """Passes on where a member is."""
+        if self._entry.method == STORED:
+            self._note(self._entry.begin + offset, self._entry.begin + end, begin, stop)
 
     def _members(self, members: Members) -> Iterator[bytes]:
         """What members of gzip hold."""
