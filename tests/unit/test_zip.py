@@ -3,6 +3,7 @@ the heads that is changed, unless what comes out is the same."""
 from __future__ import annotations
 
 import io
+import itertools
 import os
 import random
 import struct
@@ -263,14 +264,22 @@ def test_a_bomb_ends_at_its_size() -> None:
     assert given <= 1000
 
 
+def shrinking(data: bytes, size: int, first: int) -> Callable[[int, int], bytes]:
+    """Reads bytes in memory, of which there are fewer after some reads."""
+    sizes = itertools.chain(itertools.repeat(len(data), first), itertools.repeat(size))
+    return lambda count, at: data[at : min(at + count, next(sizes))]
+
+
 def test_a_file_that_becomes_shorter() -> None:
-    data = zip_of([ONE, TWO])
-    for size in range(0, len(data), 97):
-        try:
-            entries = _zip.entries_of(reading(data, size), len(data))
-            assert [list(_zip.content_of(reading(data), it)) for it in entries]
-        except (_zip.BadZip, _zip.BadEntry):
-            pass
+    """Whenever it does, it is refused, or its entries are."""
+    data, whole = zip_of([ONE, TWO]), list(GOOD.values())
+    for size, first in itertools.product(range(0, len(data), 97), range(8)):
+        read = shrinking(data, size, first)
+        with pytest.raises((_zip.BadZip, _zip.BadEntry)) as raised:
+            found = [b"".join(_zip.content_of(read, it)) for it in _zip.entries_of(read, len(data))]
+            assert found == whole
+            raise _zip.BadZip("", "it was read before that", 0)
+        assert raised.value.args
 
 
 def test_each_changed_byte() -> None:
