@@ -928,6 +928,8 @@ def survey_command(archive: Archive) -> Answer:
     for name in SURVEYED:
         out, _, _ = run_on(archive, name, ())
         parts.append(b"# %s\n" % name.encode() + out)
+    out, _, _ = run_on(archive, "fixity", (b"--payload",))
+    parts.append(b"# payloads\n" + out)
     return b"".join(parts), b"", 0
 
 
@@ -987,7 +989,7 @@ COMMANDS: Dict[str, Callable[..., Answer]] = {
     "summary": summary_command,
     "survey": survey_command,
 }
-# The commands of a survey, in its order.
+# The commands of a survey, in its order. `fixity --payload` is its last part.
 SURVEYED = ("list", "fixity", "check", "summary", "captures")
 
 

@@ -5,6 +5,7 @@ pub mod DateLemmas
 pub mod FrontLemmas
 pub mod JoinedPartLemmas
 pub mod KeptLemmas
+pub mod KnownPayloadLemmas
 pub mod LawLemmas
 pub mod MigrationLemmas
 pub mod NeedLemmas

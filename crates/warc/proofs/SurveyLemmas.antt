@@ -1,5 +1,5 @@
 -- The parts of a survey, and the verdicts by the digests that are wanted.
-use Rattle.std.proofs.Common.{◌≡◌, ◌≢◌, ◌==◌, ℕ, suc, ◌+◌, ◌<◌, ◌≤◌, Bool, true, false, true≢false, List, [], ◌∷◌, ◌++◌, length, map, take, codes, append_assoc, Option, Some, None, option_and_then, Result, Ok, Err, IfErr, if◌then◌else◌, refl, sym, ap, ap₂, subst, ◌∙◌, arith}
+use Rattle.std.proofs.Common.{◌≡◌, ◌≢◌, ◌==◌, ℕ, suc, ◌+◌, ◌<◌, ◌≤◌, Bool, true, false, true≢false, List, [], ◌∷◌, ◌++◌, length, map, take, codes, append_assoc, Option, Some, None, option_and_then, Result, Ok, Err, if◌then◌else◌, refl, sym, ap, ap₂, subst, ◌∙◌, arith}
 use Rattle.std.proofs.lemmas.List.{length-map, take_all}
 use Rattle.std.proofs.lemmas.List.Elements.{All-append, All-cons, All-contains, All-nil}
 use Rattle.std.proofs.lemmas.Result.{IfErr-weaker, on_ok_weaker}
@@ -21,7 +21,7 @@ use Rattle.warc_frame.specs.Failing.{HasFailedBy, MayHaveFailedBy, failed_by, is
 use Rattle.warc_frame.specs.Names.{warc_block_digest}
 use Rattle.warc_frame.specs.Record.{Record}
 use Rattle.warc_frame.specs.Seen.{Seen, SeenSource}
-use Rattle.warc_frame.specs.Send.{WentOut}
+use Rattle.warc_frame.specs.Send.{WentOut, sent_of}
 use Rattle.warc_frame.specs.declared.fault.OutFault.{OutFault}
 use Rattle.warc_frame.specs.declared.fault.OutFault.TheVariants.{Read, Write, Memory}
 use Rattle.warc_frame.specs.declared.send.SendFault.{SendFault}
@@ -29,6 +29,9 @@ use Rattle.warc_frame.proofs.LawLemmas.{longer, same_out, same_staged}
 use Rattle.warc_record.specs.Kinds.{kind_named}
 use Rattle.warc_record.specs.Readings.{unless_empty}
 use Rattle.warc_index.specs.Captures.{is_capture}
+use Rattle.warc_answer.specs.Seen.{IsEarly}
+use Rattle.warc_answer.specs.declared.answer.ReplayFault.TheVariants.{Out}
+use Rattle.warc_answer.proofs.GiveLemmas.{none_out}
 use Rattle.warc_index.specs.Orders.{Indexes}
 use Rattle.warc_segment.specs.Kept.{Kept as Parts}
 use Rattle.warc_reading.specs.Archive.{IsArchiveOf, contents}
@@ -43,6 +46,9 @@ use Rattle.warc_replay.specs.Capturing.{AreFirstOutcomes, AreKnownBlocks, AreOut
 use Rattle.warc_judged.specs.Fixity.{Judgements, fixity_text, stated_on}
 use Rattle.warc_judged.specs.Listing.{listing}
 use Rattle.warc_replay.specs.Outcomes.{CaptureSeen}
+use Rattle.warc_replay.specs.PayloadText.{payloads_text}
+use Rattle.warc_replay.specs.PayloadVerdicts.{AreJudgedPayloads, PayloadJudgements}
+use Rattle.warc_replay.proofs.ComparedLemmas.{none_judged}
 use Rattle.warc_judged.specs.Summary.{IsSummaryOf, flags_with, summary_text}
 use Rattle.warc.specs.Survey.{IsSurveyFront, IsSurveyKept, IsSurveyOf, IsSurveyOut, PutsPart, SurveyKept, WritesSurvey, known_text, part_name, survey_text}
 use Rattle.warc_judged.specs.Claims.{claimed, claimed_on, settled_claim, settled_claims}
@@ -88,17 +94,21 @@ part_cut puts = record { out = λ start output is. tt; cut = puts.cut }
 
 -- ---- the whole text
 
-ten : (a b c d e f g h i j : List ℕ)
-    → (((a ++ b) ++ (c ++ d)) ++ ((e ++ f) ++ ((g ++ h) ++ i))) ++ j ≡ a ++ b ++ c ++ d ++ e ++ f ++ g ++ h ++ i ++ j
-ten a b c d e f g h i j = simp append_assoc
+twelve : (a b c d e f g h i j k l : List ℕ)
+    → ((((a ++ b) ++ (c ++ d)) ++ ((e ++ f) ++ ((g ++ h) ++ i))) ++ j) ++ (k ++ l) ≡ a ++ b ++ c ++ d ++ e ++ f ++ g ++ h ++ i ++ j ++ k ++ l
+twelve a b c d e f g h i j k l = simp append_assoc
 
-pub survey_whole : (rows : List Row) (judged : Judgements) (records : List Record) (summary : Summary) (captures : List CaptureSeen)
-    → known_text rows judged records summary ++ captures_text rows captures
-    ≡ survey_text (record { rows = rows; judged = judged; records = records; summary = summary; captures = captures })
+-- what a survey says of payloads
+abbrev pub payloads_part : List Row → PayloadJudgements → List ℕ
+payloads_part rows payloads = part_name (codes "payloads") ++ payloads_text rows payloads
+
+pub survey_whole : (rows : List Row) (judged : Judgements) (records : List Record) (summary : Summary) (captures : List CaptureSeen) (payloads : PayloadJudgements)
+    → (known_text rows judged records summary ++ captures_text rows captures) ++ payloads_part rows payloads
+    ≡ survey_text (record { rows = rows; judged = judged; records = records; summary = summary; captures = captures; payloads = payloads })
 unfolding survey_text
-survey_whole rows judged records summary captures =
-    ten (part_name (codes "list")) (listing rows) (part_name (codes "fixity")) (fixity_text rows judged) (part_name (codes "check")) (check_text records)
-    (part_name (codes "summary")) (summary_text summary) (part_name (codes "captures")) (captures_text rows captures)
+survey_whole rows judged records summary captures payloads =
+    twelve (part_name (codes "list")) (listing rows) (part_name (codes "fixity")) (fixity_text rows judged) (part_name (codes "check")) (check_text records)
+    (part_name (codes "summary")) (summary_text summary) (part_name (codes "captures")) (captures_text rows captures) (part_name (codes "payloads")) (payloads_text rows payloads)
 
 -- ---- what is kept
 
@@ -112,16 +122,29 @@ unread_has (Read sent) n is = absurd (true≢false is)
 unread_has (Write sent) n is = refl
 unread_has (Memory sent) n is = refl
 
+-- a fault before anything was written
+none_sent : (e : OutFault) → IsEarly (Out e) → sent_of e ≡ 0
+none_sent (Read sent) early = early
+none_sent (Write sent) early = absurd early
+none_sent (Memory sent) early = early
+
+-- isn't that of a sink
+pub early_failed : (e : OutFault) (n m : ℕ) → IsEarly (Out e) → n ≡ m → n ≡ failed_by {X = Unit {0}} (Err e) m
+early_failed (Read sent) n m early same = same
+early_failed (Write sent) n m early same = absurd early
+early_failed (Memory sent) n m early same = same
+
 -- how often a sink has failed, after calls of which none failed
 pub failed_on : (e : OutFault) {n m : ℕ} → n ≡ m → failed_by {X = Unit {0}} (Err e) n ≡ failed_by {X = Unit {0}} (Err e) m
 failed_on e same = ap (λ k. failed_by {X = Unit {0}} (Err e) k) same
 
--- the survey of the archive that bytes are, with the captures at these positions
+-- the survey of the archive that bytes are, with the captures at these positions, and these verdicts on payloads
 pub survey_is : (bytes : List ℕ) (rows : List Row) (kept : SurveyKept) (is : IsArchiveOf bytes rows) → IsSurveyKept is.are.records kept
     → (summary : Summary) → IsSummaryOf rows (flags_with kept.segmented kept.judged.verdicts) summary
     → (positions : List ℕ) (captures : List CaptureSeen) → AreOutcomes (contents is.are.records) positions captures
-    → IsSurveyOf bytes positions (record { rows = rows; judged = kept.judged; records = contents is.are.records; summary = summary; captures = captures })
-survey_is bytes rows kept is has summary counted positions captures outcomes = record {
+    → (n : ℕ) (payloads : PayloadJudgements) → AreJudgedPayloads (contents is.are.records) n payloads
+    → IsSurveyOf bytes positions n (record { rows = rows; judged = kept.judged; records = contents is.are.records; summary = summary; captures = captures; payloads = payloads })
+survey_is bytes rows kept is has summary counted positions captures outcomes n payloads found = record {
   listed = is;
   digested = record { listed = is; verdicts_are = has.verdicts_are; digests_are = has.digests_are };
   records_are = refl;
@@ -129,6 +152,7 @@ survey_is bytes rows kept is has summary counted positions captures outcomes = r
   flagged = record { listed = is; segmented_are = has.segmented_are; verdicts_are = has.verdicts_are };
   summary_is = counted;
   outcomes = outcomes;
+  payloads_are = found;
 }
 
 -- ---- verdicts
@@ -217,31 +241,58 @@ module _ (bytes : List ℕ) (rows : List Row) (kept : SurveyKept) (is : IsArchiv
   pub survey_known : AreKnownBlocks kept.wanted is.are.records
   survey_known = known_as kept.wanted is.are.records has.wanted_are
 
-  -- a front of the survey went out
-  pub survey_front : (before after : Seen) (count sent : ℕ) (captures : List CaptureSeen) → AreOutcomes (contents is.are.records) (take count (capture_positions rows)) captures
-      → WentOut before.reports (known_text rows kept.judged (contents is.are.records) summary ++ captures_text rows captures) after.reports sent → IsSurveyFront bytes sent before after
-  survey_front before after count sent captures outcomes front = record {
-    survey = record { rows = rows; judged = kept.judged; records = contents is.are.records; summary = summary; captures = captures };
-    count = count;
-    is = survey_is bytes rows kept is has summary counted (take count (capture_positions rows)) captures outcomes;
-    front = same_out (survey_whole rows kept.judged (contents is.are.records) summary captures) front;
-  }
-
-  -- a front of what comes before the captures
-  pub survey_begun : (before after : Seen) (sent : ℕ) → WentOut before.reports (known_text rows kept.judged (contents is.are.records) summary) after.reports sent
-      → IsSurveyFront bytes sent before after
-  survey_begun before after sent front =
-      survey_front before after 0 sent [] (record { chosen = refl; each = tt }) (longer (captures_text rows []) front)
-
-  -- all of it went out
-  pub survey_out : (before after : Seen) (captures : List CaptureSeen) → AreFirstOutcomes (contents is.are.records) (capture_positions rows) captures
-      → length captures ≡ length (capture_positions rows)
-      → after.reports ≡ append_known before.reports (known_text rows kept.judged (contents is.are.records) summary ++ captures_text rows captures) → IsSurveyOut bytes before after
-  survey_out before after captures outcomes all reported =
-      let positions = capture_positions rows in
-      let whole = subst (λ (l : List ℕ). AreOutcomes (contents is.are.records) l captures) (ap (λ n. take n positions) all ∙ take_all (length positions) positions (omega arith)) outcomes in
+  -- before payloads were judged, nothing went out
+  pub survey_none : (before after : Seen) (e : OutFault) → IsEarly (Out e) → after ≡ before → IsSurveyFront bytes (sent_of e) before after
+  survey_none before after e early same =
+      let none : PayloadJudgements = record { verdicts = []; digests = [] } in
+      let text = survey_text (record { rows = rows; judged = kept.judged; records = contents is.are.records; summary = summary; captures = []; payloads = none }) in
       record {
-        survey = record { rows = rows; judged = kept.judged; records = contents is.are.records; summary = summary; captures = captures };
-        is = survey_is bytes rows kept is has summary counted positions captures whole;
-        reported = reported ∙ ap (append_known before.reports) (survey_whole rows kept.judged (contents is.are.records) summary captures);
+        survey = record { rows = rows; judged = kept.judged; records = contents is.are.records; summary = summary; captures = []; payloads = none };
+        count = 0;
+        judged = 0;
+        is = survey_is bytes rows kept is has summary counted [] [] (record { chosen = refl; each = tt }) 0 none (none_judged (contents is.are.records) none refl refl);
+        front = subst (λ (n : ℕ). WentOut before.reports text after.reports n) (sym (none_sent e early))
+            (subst (λ (s : Seen). WentOut before.reports text s.reports 0) (sym same) (none_out before.reports text));
       }
+
+  module _ (payloads : PayloadJudgements) (found : AreJudgedPayloads (contents is.are.records) (length rows) payloads) where
+    -- a front of the survey went out
+    pub survey_front : (before after : Seen) (count sent : ℕ) (captures : List CaptureSeen) → AreOutcomes (contents is.are.records) (take count (capture_positions rows)) captures
+        → WentOut before.reports ((known_text rows kept.judged (contents is.are.records) summary ++ captures_text rows captures) ++ payloads_part rows payloads) after.reports sent
+        → IsSurveyFront bytes sent before after
+    survey_front before after count sent captures outcomes front = record {
+      survey = record { rows = rows; judged = kept.judged; records = contents is.are.records; summary = summary; captures = captures; payloads = payloads };
+      count = count;
+      judged = length rows;
+      is = survey_is bytes rows kept is has summary counted (take count (capture_positions rows)) captures outcomes (length rows) payloads found;
+      front = same_out (survey_whole rows kept.judged (contents is.are.records) summary captures payloads) front;
+    }
+
+    -- a front of what comes before the payloads
+    pub survey_listed : (before after : Seen) (count sent : ℕ) (captures : List CaptureSeen) → AreOutcomes (contents is.are.records) (take count (capture_positions rows)) captures
+        → WentOut before.reports (known_text rows kept.judged (contents is.are.records) summary ++ captures_text rows captures) after.reports sent → IsSurveyFront bytes sent before after
+    survey_listed before after count sent captures outcomes front = survey_front before after count sent captures outcomes (longer (payloads_part rows payloads) front)
+
+    -- a front of what comes before the captures
+    pub survey_begun : (before after : Seen) (sent : ℕ) → WentOut before.reports (known_text rows kept.judged (contents is.are.records) summary) after.reports sent
+        → IsSurveyFront bytes sent before after
+    survey_begun before after sent front =
+        survey_listed before after 0 sent [] (record { chosen = refl; each = tt }) (longer (captures_text rows []) front)
+
+    -- all captures are there
+    all_captures : (captures : List CaptureSeen) → AreFirstOutcomes (contents is.are.records) (capture_positions rows) captures
+        → length captures ≡ length (capture_positions rows) → AreOutcomes (contents is.are.records) (capture_positions rows) captures
+    all_captures captures outcomes all =
+        let positions = capture_positions rows in
+        subst (λ (l : List ℕ). AreOutcomes (contents is.are.records) l captures) (ap (λ n. take n positions) all ∙ take_all (length positions) positions (omega arith)) outcomes
+
+    -- all of it went out
+    pub survey_out : (before after : Seen) (captures : List CaptureSeen) → AreFirstOutcomes (contents is.are.records) (capture_positions rows) captures
+        → length captures ≡ length (capture_positions rows)
+        → after.reports ≡ append_known before.reports ((known_text rows kept.judged (contents is.are.records) summary ++ captures_text rows captures) ++ payloads_part rows payloads)
+        → IsSurveyOut bytes before after
+    survey_out before after captures outcomes all reported = record {
+      survey = record { rows = rows; judged = kept.judged; records = contents is.are.records; summary = summary; captures = captures; payloads = payloads };
+      is = survey_is bytes rows kept is has summary counted (capture_positions rows) captures (all_captures captures outcomes all) (length rows) payloads found;
+      reported = reported ∙ ap (append_known before.reports) (survey_whole rows kept.judged (contents is.are.records) summary captures payloads);
+    }

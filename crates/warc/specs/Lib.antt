@@ -2,5 +2,6 @@ pub mod Bounds
 pub mod ClosedLaws
 pub mod Front
 pub mod Keeping
+pub mod KnownPayloads
 pub mod Laws
 pub mod Survey

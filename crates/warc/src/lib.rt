@@ -4,8 +4,8 @@
 //! instant, which [`read_date`] reads. To list records, open a [`Listing`] and go over its `rows`; to write them anew,
 //! in segments or in part, call its `write_as`, `split` or `select`. To find what is wrong with records, open a
 //! [`Checked`] and call `check`. To compare blocks with the digests that their heads state, open a [`Fixity`]; for
-//! payloads call `payloads` of an `Archive`. To list captures, open a [`Captures`]. To know how many records there are,
-//! and of which kinds, open a [`Summarized`]. To write all that these say, open a [`Surveyed`].
+//! payloads a [`PayloadFixity`]. To list captures, open a [`Captures`]. To know how many records there are, and of
+//! which kinds, open a [`Summarized`]. To write all that these say, open a [`Surveyed`].
 //!
 //! A [`Source`] gives bytes at any offset, and a [`Sink`] takes bytes. No block is kept in memory. The file CALLING.md
 //! has a whole proved caller and each contract.
@@ -24,6 +24,7 @@ pub use opened::captures::Captures;
 pub use opened::checked::Checked;
 pub use opened::fixity::Fixity;
 pub use opened::listing::{Listing, open_front};
+pub use opened::payload_fixity::PayloadFixity;
 pub use opened::payloads::Payloads;
 pub use opened::summarized::Summarized;
 pub use opened::surveyed::Surveyed;

@@ -282,11 +282,12 @@ Exit status: 0 written; 2 the archive is refused, and nothing was written;
 Example: warc summary examples/crawl.warc";
 
 const SURVEY_NOTES: &str =
-    "What 'list', 'fixity', 'check', 'summary' and 'captures' write, in this order,
-each after a line with its name: '# list', '# fixity', '# check', '# summary'
-and '# captures'. No line of theirs begins with '#'. The archive is read once
-for the first four; then 'captures' reads HTTP heads again, and the blocks of
-records in several segments. What is found changes no status.
+    "What 'list', 'fixity', 'check', 'summary', 'captures' and 'fixity --payload'
+write, in this order, each after a line with its name: '# list', '# fixity',
+'# check', '# summary', '# captures' and '# payloads'. No line of theirs begins
+with '#'. The archive is read once; then 'captures' reads HTTP heads again, and
+the blocks of records in several segments, and 'fixity --payload' the records
+that it reads again. What is found changes no status.
 
 Exit status: 0 written; 2 the archive is refused, and nothing was written;
 3 see 'warc --help'. There is no status 1.

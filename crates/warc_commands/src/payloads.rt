@@ -7,7 +7,7 @@ ghost use Rattle.warc_commands.specs.Reads.{AsksNear};
 use crate::fixity::UNCHECKED;
 use crate::program::{DONE, FOUND, report_cut, report_refusal};
 use std::alloc::Allocator;
-use warc::{Archive, Payloads};
+use warc::{PayloadFixity, Payloads};
 use warc_frame::{OutFault, Sink, Source};
 
 /// Writes a line for each payload that isn't good, and the counts.
@@ -24,11 +24,11 @@ where
     ensures kept { (S.seen result.1).holds ≡ (S.seen source).holds }
     ensures reads { AsksNear (S.seen source) (S.seen result.1) }
 {
-    let mut archive = match Archive::open(alloc, source) {
+    let mut archive = match PayloadFixity::open(alloc, source) {
         Ok(archive) => archive,
         Err((fault, source)) => return (report_refusal(fault, err), source),
     };
-    let judged = archive.payloads();
+    let judged = archive.judge();
     (
         report_payloads(&archive, &judged, out, err),
         archive.into_source(),
@@ -37,7 +37,7 @@ where
 
 /// Writes the lines of payloads, or reports why there are none, and answers the exit status.
 fn report_payloads<A, S, W, E>(
-    archive: &Archive<S, A>,
+    archive: &PayloadFixity<S, A>,
     payloads: &Result<Payloads<A>, OutFault>,
     out: &mut W,
     err: &mut E,
@@ -47,7 +47,7 @@ where
     S: Source,
     W: Sink,
     E: Sink,
-    ensures { PayloadsListed archive.now.listing.rows payloads.now (W.seen out.old) (W.seen out.new)
+    ensures { PayloadsListed archive.now.archive.listing.rows payloads.now (W.seen out.old) (W.seen out.new)
         (E.seen err.old) (E.seen err.new) result }
 {
     match payloads {
@@ -58,7 +58,7 @@ where
 
 /// Writes the lines of payloads.
 fn report_judged<A, S, W, E>(
-    archive: &Archive<S, A>,
+    archive: &PayloadFixity<S, A>,
     payloads: &Payloads<A>,
     out: &mut W,
     err: &mut E,
@@ -68,10 +68,10 @@ where
     S: Source,
     W: Sink,
     E: Sink,
-    ensures { PayloadLinesEnd archive.now.listing.rows payloads.now (W.seen out.old) (W.seen out.new)
+    ensures { PayloadLinesEnd archive.now.archive.listing.rows payloads.now (W.seen out.old) (W.seen out.new)
         (E.seen err.old) (E.seen err.new) result }
 {
-    match archive.list_payloads(payloads, out) {
+    match archive.list(payloads, out) {
         Ok(()) => status_of(payloads),
         Err(fault) => report_cut(fault, err),
     }

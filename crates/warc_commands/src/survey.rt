@@ -1,4 +1,4 @@
-//! The command that writes what `list`, `fixity`, `check`, `summary` and `captures` write.
+//! The command that writes what `list`, `fixity`, `check`, `summary`, `captures` and `fixity --payload` write.
 ghost use Rattle.std.specs.Prelude.{◌≡◌};
 ghost use Rattle.warc_commands.specs.Devices.{devices};
 ghost use Rattle.warc_commands.specs.Reads.{AsksNear};
@@ -9,7 +9,7 @@ use std::alloc::Allocator;
 use warc::Surveyed;
 use warc_frame::{Sink, Source};
 
-/// Writes what the five commands write, each after a line with its name. What they find changes no status.
+/// Writes what the six commands write, each after a line with its name. What they find changes no status.
 pub(crate) fn survey<A, S, W, E>(alloc: A, source: S, out: &mut W, err: &mut E) -> (u8, S)
 where
     A: Allocator + Copy,

@@ -26,7 +26,7 @@ ghost use Rattle.warc_replay.specs.Judged.{GivesStated, GivesVerdict};
 ghost use Rattle.warc_rewrite.specs.Selecting.{AreOthers, ArePositions, Selects, selected_text};
 ghost use Rattle.warc_replay.specs.Taking.{GivesRecord};
 
-use crate::opened::payloads::{Payloads, judge_payloads, list_payloads};
+use crate::opened::payloads::{Payloads, judge_all_payloads, list_payloads};
 use std::alloc::{AllocError, Allocator, Global};
 use std::marker::Model;
 use warc_answer::{Answer, Located, Path, ReplayFault};
@@ -387,7 +387,7 @@ impl<S: Source, A: Allocator + Copy> Archive<S, A> {
     {
         let Opened { source, rows, kept } = &mut self.opened;
         kept.index.follow_chains(rows.allocator());
-        judge_payloads(source, rows, kept)
+        judge_all_payloads(source, rows, kept)
     }
 
     /// Writes a line for each payload that has a digest and isn't good: the position of its record, `bad` or

@@ -1,12 +1,14 @@
 //! How the payloads of an archive compare with the digests that their records' heads state.
-ghost use Rattle.std.specs.Prelude.{◌≡◌, [], ◌∷◌, ◌++◌, is_some, IfErr, OnErr, OnOk};
+ghost use Rattle.std.specs.Prelude.{◌≡◌, ◌<◌, [], ◌∷◌, ◌++◌, length, is_some, IfErr, OnErr, OnOk};
 ghost use Rattle.std.specs.List.{list_all, list_any};
 ghost use Rattle.warc_frame.specs.Effects.{Puts, SendsText};
 ghost use Rattle.warc_judged.specs.Fixity.{digest_at};
 ghost use Rattle.warc_replay.specs.PayloadStates.{JudgesMorePayloads};
 ghost use Rattle.warc_replay.specs.PayloadText.{are_verified, is_payload_verdict, is_verified, payload_counts, payload_line, payload_line_if, payload_tally, payloads_text};
 ghost use Rattle.warc_replay.specs.PayloadVerdicts.{JudgesPayloads, payload_verdict_at, value_shown};
+ghost use Rattle.warc.specs.KnownPayloads.{AreRightFor, JudgesMoreBy, JudgesPayloadsBy};
 
+use crate::opened::known_payloads::KnownPayloads;
 use itoa::Buffer;
 use std::alloc::{AllocError, Allocator, Global};
 use std::marker::Model;
@@ -231,6 +233,27 @@ fn put_payload_if<W: Sink>(
     }
 }
 
+/// Adds a line for each payload that has a digest and isn't good, and a last line with the counts.
+pub(crate) fn put_payloads<W: Sink, A: Allocator>(
+    rows: &Rows<A>,
+    payloads: &Payloads<A>,
+    buffer: &mut OutBuffer,
+    out: &mut W,
+) -> Result<(), SendFault>
+    ensures { Puts (W.seen out.old) (W.seen out.new) buffer.old buffer.new result
+        (payloads_text rows.now payloads.now) }
+{
+    'listing: for position in 0..rows.len() {
+        let Some(row) = rows.get(position) else {
+            unreachable!()
+        };
+        let verdict = payloads.verdict(position);
+        let digest = payloads.at(position);
+        put_payload_if(position as u64, verdict, &row, digest, buffer, out)?;
+    }
+    put_counts(payloads.counts(), buffer, out)
+}
+
 /// Writes a line for each payload that has a digest and isn't good, and a last line with the counts.
 pub(crate) fn list_payloads<W: Sink, A: Allocator>(
     rows: &Rows<A>,
@@ -240,21 +263,13 @@ pub(crate) fn list_payloads<W: Sink, A: Allocator>(
     ensures { SendsText (W.seen out.old) (W.seen out.new) result (payloads_text rows.now payloads.now) }
 {
     let mut buffer = OutBuffer::new();
-    'listing: for position in 0..rows.len() {
-        let Some(row) = rows.get(position) else {
-            unreachable!()
-        };
-        let verdict = payloads.verdict(position);
-        let digest = payloads.at(position);
-        put_payload_if(position as u64, verdict, &row, digest, &mut buffer, out)?;
-    }
-    put_counts(payloads.counts(), &mut buffer, out)?;
+    put_payloads(rows, payloads, &mut buffer, out)?;
     buffer.flush(out)?;
     Ok(())
 }
 
-/// Adds the verdict on the payload of the record at a position, the next one.
-fn judge_next<S: Source, A: Allocator + Copy>(
+/// Adds the verdict on the payload of the record at a position, the next one, which is read again.
+fn judge_again<S: Source, A: Allocator + Copy>(
     source: &mut S,
     rows: &Rows<A>,
     lookup: &Lookup<A>,
@@ -270,15 +285,37 @@ fn judge_next<S: Source, A: Allocator + Copy>(
     payloads.add_or_fail(rows.allocator(), next.verdict, value)
 }
 
-/// The verdicts on the payloads of all records. Each origin is read again once for each algorithm that revisits which
-/// lead to it ask for.
+/// Adds the verdict on the payload of the record at a position, the next one. If it is known, nothing is read.
+fn judge_next<S: Source, A: Allocator + Copy>(
+    source: &mut S,
+    rows: &Rows<A>,
+    lookup: &Lookup<A>,
+    known: &KnownPayloads<A>,
+    position: usize,
+    digested: &mut KnownDigests<A>,
+    payloads: &mut Payloads<A>,
+) -> Result<(), OutFault>
+    requires { position < length rows.now }
+    ensures { JudgesMoreBy (AreRightFor known.now) rows.now lookup.now.index lookup.now.parts position
+        digested.old.known.items digested.new.known.items payloads.old payloads.new (S.seen source.old)
+        (S.seen source.new) result }
+{
+    match known.verdict(position) {
+        Some(verdict) => payloads.add_or_fail(rows.allocator(), verdict, b""),
+        None => judge_again(source, rows, lookup, position, digested, payloads),
+    }
+}
+
+/// The verdicts on the payloads of all records, of which some are known. Each other record is read again, and each
+/// origin of revisits among them once for each algorithm that these revisits ask for.
 pub(crate) fn judge_payloads<S: Source, A: Allocator + Copy>(
     source: &mut S,
     rows: &Rows<A>,
     lookup: &Lookup<A>,
+    known: &KnownPayloads<A>,
 ) -> Result<Payloads<A>, OutFault>
-    ensures { JudgesPayloads rows.now lookup.now.index lookup.now.parts (S.seen source.old) (S.seen source.new)
-        result }
+    ensures { JudgesPayloadsBy (AreRightFor known.now) rows.now lookup.now.index lookup.now.parts
+        (S.seen source.old) (S.seen source.new) result }
 {
     let alloc = rows.allocator();
     let Ok(mut digested) = KnownDigests::with_room(alloc, rows.len()) else {
@@ -286,7 +323,28 @@ pub(crate) fn judge_payloads<S: Source, A: Allocator + Copy>(
     };
     let mut payloads = Payloads::new(alloc);
     'judging: for position in 0..rows.len() {
-        judge_next(source, rows, lookup, position, &mut digested, &mut payloads)?;
+        judge_next(
+            source,
+            rows,
+            lookup,
+            known,
+            position,
+            &mut digested,
+            &mut payloads,
+        )?;
     }
     Ok(payloads)
+}
+
+/// The same where nothing is known of any payload.
+pub(crate) fn judge_all_payloads<S: Source, A: Allocator + Copy>(
+    source: &mut S,
+    rows: &Rows<A>,
+    lookup: &Lookup<A>,
+) -> Result<Payloads<A>, OutFault>
+    ensures { JudgesPayloads rows.now lookup.now.index lookup.now.parts (S.seen source.old) (S.seen source.new)
+        result }
+{
+    let known = KnownPayloads::none(rows.allocator());
+    judge_payloads(source, rows, lookup, &known)
 }

@@ -1,4 +1,5 @@
-//! An archive of which all that a survey says is known once it is read, but for the outcomes of captures.
+//! An archive of which all that a survey says is known once it is read, but for the outcomes of captures and some
+//! payloads.
 ghost use Rattle.std.specs.Prelude.{◌≡◌, ℕ, List, [], ◌++◌, false, IfErr, codes, map};
 ghost use Rattle.warc_frame.specs.Effects.{Puts};
 ghost use Rattle.warc_frame.specs.Failing.{failed_by, is_read};
@@ -10,11 +11,14 @@ ghost use Rattle.warc_checking.specs.Checking.{check_text};
 ghost use Rattle.warc_checking.specs.OwnFindings.{AreJudged, all_of};
 ghost use Rattle.warc_replay.specs.Captures.{capture_positions};
 ghost use Rattle.warc_replay.specs.Capturing.{AreKnownBlocks, PutsCaptures};
+ghost use Rattle.warc_replay.specs.PayloadText.{payloads_text};
 ghost use Rattle.warc_judged.specs.Fixity.{fixity_text};
 ghost use Rattle.warc_judged.specs.Listing.{listing};
 ghost use Rattle.warc_judged.specs.Summary.{summary_text};
 ghost use Rattle.warc.specs.Survey.{AreGathered, IsSurveyKept, IsSurveyed, PutsPart, WritesSurvey, known_text, part_name};
 
+use crate::opened::known_payloads::{KnownPayloads, WaitingPayloads};
+use crate::opened::payloads::{Payloads, judge_payloads, put_payloads};
 use std::alloc::{Allocator, Global};
 use std::marker::Model;
 use warc_checking::{OwnFindings, mark_each, put_findings};
@@ -29,31 +33,39 @@ use warc_reading::{KeptPair, Opened, Rows};
 use warc_replay::{capture_positions, put_captures};
 
 /// What is kept of records for a survey while the source is read: how their blocks compare with the digests that are
-/// stated, marks of their heads, what each alone shows but for N4, and what finds and joins them.
+/// stated, what is known of their payloads, marks of their heads, what each alone shows but for N4, and what finds and
+/// joins them.
 type WaitingSurvey<A> = KeptPair<
     WaitingDigests<A>,
-    KeptPair<HeadMarks<A>, KeptPair<OwnFindings<A>, UnorderedLookup<A>>>,
+    KeptPair<
+        WaitingPayloads<A>,
+        KeptPair<HeadMarks<A>, KeptPair<OwnFindings<A>, UnorderedLookup<A>>>,
+    >,
 >;
 
 /// Of no records.
 fn waiting_survey<A: Allocator + Copy>(alloc: A) -> WaitingSurvey<A>
     ensures { AreGathered [] result.first result.second.first result.second.second.first
-        result.second.second.second.index result.second.second.second.parts }
+        result.second.second.second.first result.second.second.second.second.index
+        result.second.second.second.second.parts }
 {
     KeptPair {
         first: WaitingDigests::new(alloc),
         second: KeptPair {
-            first: HeadMarks::new(alloc),
+            first: WaitingPayloads::new(alloc),
             second: KeptPair {
-                first: OwnFindings::new(alloc),
-                second: UnorderedLookup::new(alloc),
+                first: HeadMarks::new(alloc),
+                second: KeptPair {
+                    first: OwnFindings::new(alloc),
+                    second: UnorderedLookup::new(alloc),
+                },
             },
         },
     }
 }
 
-/// What is kept of records for a survey: what finds them, what each alone shows, which are segments, and the verdicts
-/// by the digests that `check` and replays judge, and by those that are stated.
+/// What is kept of records for a survey: what finds them, what each alone shows, which are segments, the verdicts by
+/// the digests that `check` and replays judge, and by those that are stated, and what is known of payloads.
 #[derive(Drop)]
 struct SurveyParts<A: Allocator> {
     lookup: Lookup<A>,
@@ -61,6 +73,7 @@ struct SurveyParts<A: Allocator> {
     segmented: Vec<bool, A>,
     wanted: Verdicts<A>,
     digests: Digests<A>,
+    known: KnownPayloads<A>,
 }
 
 impl<A: Allocator> Model for SurveyParts<A> {
@@ -77,20 +90,25 @@ impl<A: Allocator> Model for SurveyParts<A> {
       wanted = s.wanted;
       segmented = s.segmented.items;
       findings = map all_of s.findings;
+      known = s.known;
     } };
 }
 
 /// What is kept once all records are read. The blocks that wait are hashed first. It takes no memory.
 fn into_parts<A: Allocator + Copy>(alloc: A, waiting: WaitingSurvey<A>) -> SurveyParts<A>
     ensures { (records : List Placed) → AreGathered records waiting.first waiting.second.first
-        waiting.second.second.first waiting.second.second.second.index waiting.second.second.second.parts →
-        IsSurveyKept records result }
+        waiting.second.second.first waiting.second.second.second.first waiting.second.second.second.second.index
+        waiting.second.second.second.second.parts → IsSurveyKept records result }
 {
     wanted_verdict_is_kept();
     let KeptPair {
         first: digests,
-        second: heads,
+        second: more,
     } = waiting;
+    let KeptPair {
+        first: payloads,
+        second: heads,
+    } = more;
     let KeptPair {
         first: marks,
         second: others,
@@ -112,6 +130,7 @@ fn into_parts<A: Allocator + Copy>(alloc: A, waiting: WaitingSurvey<A>) -> Surve
         segmented,
         wanted,
         digests,
+        known: payloads.into_known(),
     }
 }
 
@@ -238,7 +257,22 @@ fn put_outcomes<S: Source, W: Sink, A: Allocator + Copy>(
     put_captures(source, rows, lookup, wanted, &positions, buffer, out)
 }
 
-/// Writes the survey of the records of an archive, by their rows and what is kept of them.
+/// Adds what `fixity --payload` writes, after its name.
+fn put_judged<W: Sink, A: Allocator>(
+    rows: &Rows<A>,
+    payloads: &Payloads<A>,
+    buffer: &mut OutBuffer,
+    out: &mut W,
+) -> Result<(), SendFault>
+    ensures { Puts (W.seen out.old) (W.seen out.new) buffer.old buffer.new result
+        (part_name (codes "payloads") ++ payloads_text rows.now payloads.now) }
+{
+    put_name("payloads", buffer, out)?;
+    put_payloads(rows, payloads, buffer, out)
+}
+
+/// Writes the survey of the records of an archive, by their rows and what is kept of them. The payloads of which
+/// nothing is known are judged first.
 fn write_survey<S: Source, W: Sink, A: Allocator + Copy>(
     source: &mut S,
     rows: &Rows<A>,
@@ -250,6 +284,7 @@ fn write_survey<S: Source, W: Sink, A: Allocator + Copy>(
 {
     head_of_spelled();
     let summary = summary_of(rows, &parts.segmented, parts.digests.verdicts());
+    let payloads = judge_payloads(source, rows, &parts.lookup, &parts.known)?;
     let mut buffer = OutBuffer::new();
     put_known(
         rows,
@@ -260,6 +295,7 @@ fn write_survey<S: Source, W: Sink, A: Allocator + Copy>(
         out,
     )?;
     put_outcomes(source, rows, &parts.lookup, &parts.wanted, &mut buffer, out)?;
+    put_judged(rows, &payloads, &mut buffer, out)?;
     buffer.flush(out)?;
     Ok(())
 }
@@ -292,7 +328,8 @@ impl<S: Source, A: Allocator> Surveyed<S, A> {
 
 impl<S: Source, A: Allocator + Copy> Surveyed<S, A> {
     /// Reads the source as a listing is read, in larger pieces, and keeps beside the rows all that a survey says but
-    /// for the outcomes of captures. Every block is hashed once.
+    /// for the outcomes of captures, and for payloads that aren't known to be good. Every block is hashed once, and so
+    /// is the payload of a record that was read in place and states its digest.
     pub fn open(alloc: A, source: S) -> Result<Surveyed<S, A>, (Fault, S)>
         ensures { Opens IsSurveyed (S.seen source) (S.seen (source_left (λ a. a.listing.source) result))
             (without_source (λ a. a) result) }
@@ -308,9 +345,10 @@ impl<S: Source, A: Allocator + Copy> Surveyed<S, A> {
         }
     }
 
-    /// Writes what `list`, `fixity`, `check`, `summary` and `captures` write, in this order, each after a line with its
-    /// name. Of an origin the head is read again, and of an HTTP response the head in its block; the blocks of an
-    /// origin in several segments are read whole.
+    /// Writes what `list`, `fixity`, `check`, `summary`, `captures` and `fixity --payload` write, in this order, each
+    /// after a line with its name, the last one `payloads`. Of an origin the head is read again, and of an HTTP
+    /// response the head in its block; the blocks of an origin in several segments are read whole. So is first each
+    /// record that states the digest of its payload, which isn't known to be good.
     ///
     /// A read that fails, or a source that doesn't give what it gave, is `Read`; a write that fails is `Write`, and a
     /// refused growth of the memory `Memory`. Each has the number of bytes that went out, the first of the output.

@@ -1,32 +1,27 @@
-use Rattle.std.proofs.Common.{ap, ◌∙◌}
-use Rattle.std.proofs.lemmas.Result.{err_from_is_err_and}
-use Rattle.warc_frame.proofs.EffectLemmas.{fails_as}
-use Rattle.warc_reading.specs.Archive.{contents}
-use Rattle.warc_replay.specs.PayloadVerdicts.{payload_value}
+use Rattle.std.proofs.Common.{refl, sym, ◌∙◌}
 use Rattle.warc_replay.proofs.CaptureLemmas.{memory_early}
-use Rattle.warc_replay.proofs.ComparedLemmas.{judged_next, next_memory}
+use Rattle.warc_replay.proofs.ComparedLemmas.{next_memory, row_below}
+use Rattle.warc.proofs.KnownPayloadLemmas.{known_next}
 use Rattle.warc.proofs.opened.payloads.judge_next.Goals as goal
 
-pub returns-in_err-next : goal.returns-in_err-next
-returns-in_err-next g c =
-    let p = err_from_is_err_and c.from_residual.result c.from_residual.ensures.1 in
-    rw (p.1, p.2) (record {
-      reported = λ bytes held is are known judged. tt;
-      early = c.in_err-next.ensures.early;
-      inside = c.in_err-next.ensures.inside;
-      keeps = c.in_err-next.ensures.keeps;
-      fails = fails_as _ _ c.in_err-next.ensures.fails;
-    })
+pub returns-in-Some : goal.returns-in-Some
+returns-in-Some g c = record {
+  reported = λ bytes held is are right known judged.
+      known_next c.add_or_fail.result is.are.records c.args.known.now c.args.position _ _ c.in-Some.verdict _ _ (row_below bytes c.args.rows.now c.args.position is c.requires) right
+      (sym c.verdict.ensures ∙ c.in-Some.is) known judged c.add_or_fail.ensures.ok;
+  early = memory_early _ c.add_or_fail.ensures.memory;
+  inside = λ bytes is off. refl;
+  keeps = record { kept = refl; watched = refl };
+  fails = next_memory c.add_or_fail.result c.add_or_fail.ensures.memory refl;
+}
 
-pub returns : goal.returns
-returns g c =
-    let next = c.in_ok-next.ensures in
+pub returns-in-None : goal.returns-in-None
+returns-in-None g c =
+    let again = c.judge_again.ensures in
     record {
-      reported = λ bytes held is are known judged.
-          let (at, knows) = next.reported bytes held is are known in
-          judged_next c.add_or_fail.result (contents is.are.records) c.args.position _ _ c.in_ok-next.next.head c.in_ok-next.next.verdict c.payload_value-value.result.now _ knows judged at (c.payload_value-value.ensures ∙ ap payload_value c.fields.ensures.fields) c.add_or_fail.ensures.ok;
-      early = memory_early _ c.add_or_fail.ensures.memory;
-      inside = next.inside;
-      keeps = next.keeps;
-      fails = next_memory c.add_or_fail.result c.add_or_fail.ensures.memory next.fails.may;
+      reported = λ bytes held is are right known judged. again.reported bytes held is are known judged;
+      early = again.early;
+      inside = again.inside;
+      keeps = again.keeps;
+      fails = again.fails;
     }

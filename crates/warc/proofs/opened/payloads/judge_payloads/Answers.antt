@@ -10,7 +10,7 @@ use Rattle.warc.proofs.opened.payloads.judge_payloads.Goals as goal
 
 pub judging-init : goal.judging-init
 judging-init g c = record {
-  reported = λ bytes held is are. (c.in-Ok.ensures (contents is.are.records), none_judged (contents is.are.records) _ c.new-payloads.ensures.verdicts c.new-payloads.ensures.digests);
+  reported = λ bytes held is are right. (c.in-Ok.ensures (contents is.are.records), none_judged (contents is.are.records) _ c.new-payloads.ensures.verdicts c.new-payloads.ensures.digests);
   within = omega arith;
   inside = λ bytes is off. refl;
   keeps = record { kept = refl; watched = refl };
@@ -22,8 +22,8 @@ judging-preserved g c =
     let old = c.judging.invariant in
     let next = c.in_ok-judge_next.ensures in
     record {
-      reported = λ bytes held is are.
-          let (known, judged) = old.reported bytes held is are in next.reported bytes (old.keeps.kept ∙ held) is are known judged;
+      reported = λ bytes held is are right.
+          let (known, judged) = old.reported bytes held is are right in next.reported bytes (old.keeps.kept ∙ held) is are right known judged;
       within = omega (arith, c.judging-test.true, c.len-position-end.ensures);
       inside = λ bytes is. asks_both (λ q. q < length bytes) (g.S.Source.seen c.args.source.now) (g.S.Source.seen c.judging.source) (g.S.Source.seen c.judge_next.new.source).watched_reads old.keeps.watched (old.inside bytes is) (next.inside bytes is);
       keeps = preserves_both old.keeps next.keeps;
@@ -35,7 +35,7 @@ returns g c =
     let old = c.judging.invariant in
     let all : c.judging.position ≡ length c.args.rows.now = omega (arith, c.judging-test.false, c.len-position-end.ensures, old.within) in
     record {
-      reported = λ bytes held is are. subst (λ n. AreJudgedPayloads (contents is.are.records) n c.judging.payloads) all (old.reported bytes held is are).1;
+      reported = λ bytes held is are right. subst (λ n. AreJudgedPayloads (contents is.are.records) n c.judging.payloads) all (old.reported bytes held is are right).1;
       early = tt;
       inside = old.inside;
       keeps = old.keeps;
@@ -48,7 +48,7 @@ returns-in_err-judge_next g c =
     let old = c.judging.invariant in
     let next = c.in_err-judge_next.ensures in
     rw (p.1, p.2) (record {
-      reported = λ bytes held is are. tt;
+      reported = λ bytes held is are right. tt;
       early = next.early;
       inside = λ bytes is. asks_both (λ q. q < length bytes) (g.S.Source.seen c.args.source.now) (g.S.Source.seen c.judging.source) (g.S.Source.seen c.judge_next.new.source).watched_reads old.keeps.watched (old.inside bytes is) (next.inside bytes is);
       keeps = preserves_both old.keeps next.keeps;

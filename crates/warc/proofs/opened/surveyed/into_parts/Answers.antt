@@ -1,7 +1,8 @@
-use Rattle.std.proofs.Common.{ap, ap₂, ◌∙◌}
+use Rattle.std.proofs.Common.{sym, ap, ap₂, ◌∙◌}
 use Rattle.warc_lookup.proofs.LookupLemmas.{are_of_same}
 use Rattle.warc_judged.specs.Fixity.{Judgements}
 use Rattle.warc_judged.specs.Claims.{SurveyMarks, settled_claims}
+use Rattle.warc.proofs.KnownPayloadLemmas.{known_right}
 use Rattle.warc.proofs.SurveyLemmas.{claims_settled}
 use Rattle.warc.proofs.opened.surveyed.into_parts.Goals as goal
 
@@ -17,4 +18,5 @@ returns g c = λ records is.
       wanted_are = wanted;
       segmented_are = ap (λ (m : SurveyMarks). m.segmented) c.marks.view_is ∙ is.segmented_are;
       findings_are = c.mark_each.ensures records is.found_are (c.as_slice.ensures ∙ wanted);
+      known_are = known_right (sym c.into_known.ensures) is.known_are;
     }

@@ -1,4 +1,3 @@
-use Rattle.std.proofs.Common.{◌∙◌}
 use Rattle.warc_reading.proofs.IndexedLemmas.{opens_with, refuses_with}
 use Rattle.warc.proofs.opened.surveyed.Surveyed.open.Goals as goal
 
@@ -9,10 +8,11 @@ returns-in-Ok g c = opens_with _ _
       kept = c.into_parts-kept.ensures kept.listed.are.records (record {
         verdicts_are = kept.beside.0.0;
         digests_are = kept.beside.0.1;
-        segmented_are = kept.beside.1.0.0;
-        claims_are = kept.beside.1.0.1;
-        found_are = kept.beside.1.1.0;
-        kept = kept.beside.1.1.1;
+        segmented_are = kept.beside.1.1.0.0;
+        claims_are = kept.beside.1.1.0.1;
+        found_are = kept.beside.1.1.1.0;
+        known_are = kept.beside.1.0;
+        kept = kept.beside.1.1.1.1;
       });
     })
     c.in-Ok.ensures

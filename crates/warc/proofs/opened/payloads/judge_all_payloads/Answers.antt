@@ -1,0 +1,12 @@
+use Rattle.warc.proofs.opened.payloads.judge_all_payloads.Goals as goal
+
+pub returns : goal.returns
+returns g c =
+    let judges = c.judge_payloads.ensures in
+    record {
+      reported = λ bytes held is are. judges.reported bytes held is are (c.none-known.ensures is.are.records);
+      early = judges.early;
+      inside = judges.inside;
+      keeps = judges.keeps;
+      fails = judges.fails;
+    }
