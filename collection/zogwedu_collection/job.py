@@ -24,22 +24,13 @@ from .texts import counted
 from .unpack import PIECE, Damaged, Unsupported, unpacked, write_all
 from .wacz import About, Joined, good_of_parts, has_good_parts, is_package, pieces_of
 
-# The words of each command, by the name of what it writes, and the statuses with which it is done.
-COMMANDS = {
-    "list": ("list",),
-    "fixity": ("fixity",),
-    "check": ("check",),
-    "summary": ("summary",),
-    "captures": ("captures",),
-    "payloads": ("fixity", "--payload"),
-}
+# The statuses with which each command is done.
 DONE = {
     "survey": (0,),
     "list": (0,),
     "fixity": (0, 1, 4),
     "check": (0, 1),
     "summary": (0,),
-    "payloads": (0, 1, 4),
 }
 # These read in order, and so also a pipe.
 IN_ORDER = ("list", "fixity", "check", "summary")
@@ -331,18 +322,18 @@ class Job:
         return "refused", words and "; of the good records: " + words
 
     def run_commands(self, source: Source) -> Tuple[str, str]:
-        """Runs the survey and the command for payloads, or over a pipe the commands that read in order, up to one that
-        fails. All that they write is one stream."""
+        """Runs the survey, or over a pipe the commands that read in order, up to one that fails. All that they write is
+        one stream."""
         with open(self.path, "wb+", buffering=0) as out:
             if source.seekable is None:
                 return self.run_each(source, out, IN_ORDER) or self.verdict(source, out, IN_ORDER)
-            return self.run_survey(source, out) or self.verdict(source, out, (*SURVEY, "payloads"))
+            return self.run_survey(source, out) or self.verdict(source, out, SURVEY)
 
     def run_each(self, source: Source, out: IO[bytes], commands: Sequence[str]) -> Optional[Tuple[str, str]]:
         """Runs commands, up to one that fails. Returns the state and the words of a failure."""
         for command in commands:
             out.write(b"# %s\n" % command.encode("ascii"))
-            status, message = source.run([self.settings.warc, *COMMANDS[command], "-"], out)
+            status, message = source.run([self.settings.warc, command, "-"], out)
             self.outcome.statuses[command] = status
             stopped = failure_of(command, status, message)
             if stopped:
@@ -350,14 +341,14 @@ class Job:
         return None
 
     def run_survey(self, source: Source, out: IO[bytes]) -> Optional[Tuple[str, str]]:
-        """Runs `survey`, and then what it doesn't do. If it fails, `list`, its first part, gets its status."""
+        """Runs `survey`. If it fails, `list`, its first part, gets its status."""
         status, message = source.run([self.settings.warc, "survey", "-"], out)
         if status:
             self.outcome.statuses["list"] = status
             return failure_of("survey", status, message)
         if out.seek(0, os.SEEK_END) and os.pread(out.fileno(), 1, out.tell() - 1) != b"\n":
             return "failed", "survey: a line without an end"
-        return self.run_each(source, out, ("payloads",))
+        return None
 
     def part_statuses(self, tally: Tally) -> Dict[str, int]:
         """The status with which each command of the survey ends by itself."""
@@ -365,7 +356,9 @@ class Job:
         lines = {name: tally.places[name][0] < tally.places[name][1] for name in ("check", "captures")}
         digests = 1 if int(found["bad"]) else 4 if int(found["unchecked"]) else 0
         captures = 0 if lines["captures"] else 1
-        return {"list": 0, "fixity": digests, "check": int(lines["check"]), "summary": 0, "captures": captures}
+        payloads = 1 if tally.bad_payloads else 4 if tally.unchecked_payloads or not tally.states_payloads else 0
+        statuses = {"list": 0, "fixity": digests, "check": int(lines["check"]), "summary": 0, "captures": captures}
+        return {**statuses, "payloads": payloads}
 
     def verdict(self, source: Source, out: IO[bytes], parts: Sequence[str]) -> Tuple[str, str]:
         """The state of a file that could be read, and why it isn't better."""
@@ -425,7 +418,8 @@ class Job:
             ("bad", it.bad and counted(it.bad, "block doesn't have its digest", "blocks don't have their digests")),
             (
                 "bad",
-                it.payloads and counted(it.payloads, "payload doesn't have its digest", "payloads don't have theirs"),
+                it.bad_payloads
+                and counted(it.bad_payloads, "payload doesn't have its digest", "payloads don't have theirs"),
             ),
             ("unchecked", it.unchecked and counted(it.unchecked, "block") + " can't be checked"),
             ("findings", it.findings and counted(it.findings, "finding")),

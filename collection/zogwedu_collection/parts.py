@@ -12,7 +12,7 @@ if TYPE_CHECKING:
     from .members import Noted
 
 # The commands of a survey, in the order of their parts.
-SURVEY = ("list", "fixity", "check", "summary", "captures")
+SURVEY = ("list", "fixity", "check", "summary", "captures", "payloads")
 # The digest of no bytes, which wget states in each revisit, though the revisit has a block.
 OF_NO_BYTES = b"sha1:3I42H3S6NNFQ2MSVX7XZKYAYSCX5QBYJ"
 # The most bytes of a head that are hashed, and how much of the SHA-256 is kept.
@@ -69,9 +69,11 @@ class Parts:
         return {name: value for name, value in pairs}
 
 
-def is_of_bad_payload(line: bytes) -> bool:
-    """Whether a line of `fixity --payload` is that of a payload with another digest."""
-    return line.split(b"\t", 2)[1:2] == [b"bad"]
+def payload_verdict(line: bytes) -> bytes:
+    """The verdict on a payload that isn't good, as `fixity --payload` writes it; none for a request's, which is never
+    judged, and for the last line, which counts."""
+    columns = line.split(b"\t", 4)
+    return columns[1] if len(columns) == 5 and columns[3] != b"request" else b""
 
 
 class Tally:
@@ -89,7 +91,8 @@ class Tally:
         self.waiting: Optional[List[bytes]] = None
         self.begins: Set[int] = set()  # where a record has to begin that wasn't seen yet
         self.revisits: Set[int] = set()
-        self.bad = self.unchecked = self.findings = self.payloads = 0
+        self.bad = self.unchecked = self.findings = self.bad_payloads = self.unchecked_payloads = 0
+        self.states_payloads = False  # whether any record states the digest of its payload
         self.empty: Set[int] = set()
         self.ignored: Set[bytes] = set()
         self.part = ""
@@ -178,4 +181,8 @@ class Tally:
         self.findings += line not in self.ignored
 
     def of_payloads(self, line: bytes) -> None:
-        self.payloads += is_of_bad_payload(line)
+        """The last line counts the digests that are stated."""
+        verdict = payload_verdict(line)
+        self.bad_payloads += verdict == b"bad"
+        self.unchecked_payloads += verdict == b"unchecked"
+        self.states_payloads = not line.startswith(b"records 0 ")

@@ -13,14 +13,14 @@ from .alarm import log_state
 from .catalogue import OF_A_FILE, Catalogue
 from .compared import UNACCEPTED, compare, drop_beside
 from .disk import Stamp
-from .job import COMMANDS, Outcome, outcome_of
+from .job import Outcome, outcome_of
 from .jobs import all_files, files_of
 from .job_folders import drop_folders, folders_of, names_in
 from .keys import SPELL
 from .lines import RecordRow, Sums, capture_rows, digest_rows, finding_rows, payload_rows, payloads_of, record_rows
 from .manifest import compare_stated
 from .moves import settle_moves
-from .parts import Parts
+from .parts import SURVEY, Parts
 from .search_index import take_in_texts
 from .states import ABOUT_BYTES, as_list
 from .texts import decoded, now, say, shown, stored_path
@@ -260,7 +260,7 @@ def load_file(catalogue: Catalogue, run: int, outcome: Outcome, parts: Parts) ->
 
 def put_check(catalogue: Catalogue, run: int, file: int, outcome: Outcome) -> None:
     """Notes what a run found of a file."""
-    statuses = [outcome.statuses.get(command) for command in COMMANDS]
+    statuses = [outcome.statuses.get(command) for command in SURVEY]
     size_and_time = (None, None) if outcome.stamp is None else (outcome.stamp.size, outcome.stamp.modified)
     pieces = (None,) * 4 if outcome.pieces is None else dataclasses.astuple(outcome.pieces)
     catalogue.base.execute(

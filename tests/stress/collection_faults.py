@@ -1475,12 +1475,12 @@ def payloads_without_room(trial: Trial) -> None:
 
 
 def program_without_payloads(trial: Trial) -> None:
-    """A program that doesn't know `--payload` makes a file failed, and its rows stay."""
+    """A program whose survey has no payloads makes a file failed, and its rows stay."""
     put(trial.path("archives", "a.warc"), with_payload(1, ABC))
     trial.run("c", "run", trial.path("archives"))
-    old = '[ "$2" = --payload ] && { echo "unknown option" >&2; exit 3; }\nexec %s "$@"\n' % trial.warc
+    old = '[ "$1" = survey ] || exec %s "$@"\n%s "$@" | sed "/^# payloads/,\\$d"\n' % (trial.warc, trial.warc)
     done = trial.run("c", "run", "--all", "--warc", put_script(trial.path("old-warc"), old))
-    is_right = trial.states("c") == {"a.warc": "failed"} and "payloads: unknown option" in trial.detail("c")
+    is_right = trial.states("c") == {"a.warc": "failed"} and "no line '# payloads'" in trial.detail("c")
     trial.judge(is_right and done.returncode == 1, "the state", trial.detail("c"))
     rows = trial.ask("c", "SELECT payloads_good FROM readings")
     trial.judge(rows == [(1,)] and trial.count("c", "records") == 1, "its rows", rows)

@@ -118,7 +118,22 @@ def test_lines_of_payloads_come_back(position: int, verdict: bytes, name: bytes,
     columns = [b"%d" % position, verdict, name, reason, digest]
     line = b"\t".join(columns)
     assert lines.payload_columns(line) == columns
-    assert parts.is_of_bad_payload(line) == (verdict == b"bad")
+    assert parts.payload_verdict(line) == (b"" if reason == b"request" else verdict)
+
+
+@pytest.mark.parametrize(
+    "lines, wanted",
+    [
+        (b"records 0 good 0 bad 0 unchecked 0\n", (0, 0, False)),
+        (b"records 1 good 1 bad 0 unchecked 0\n", (0, 0, True)),
+        (b"0\tunchecked\tx\trequest\ty\nrecords 1 good 0 bad 0 unchecked 1\n", (0, 0, True)),
+        (b"0\tbad\tx\t-\ty\tz\n1\tunchecked\tx\tcoded\ty\nrecords 2 good 0 bad 1 unchecked 1\n", (1, 1, True)),
+    ],
+)
+def test_payloads_are_tallied(lines: bytes, wanted: Tuple[int, int, bool]) -> None:
+    tally = parts.Tally(None)
+    tally.read(io.BytesIO(b"# payloads\n" + lines), ("payloads",))
+    assert (tally.bad_payloads, tally.unchecked_payloads, tally.states_payloads) == wanted
 
 
 @SLOW

@@ -150,6 +150,8 @@ def main(words: List[str]) -> int:
         for name, part in PARTS.items():
             put(b"# %s\n" % name.encode())
             part(good)
+        put(b"# payloads\n")
+        fixity(good, b"WARC-Payload-Digest", True)
     elif words[0] in ("body", "head"):
         place = int(words[2])
         put(good[place].block if words[0] == "body" else good[place].head)
