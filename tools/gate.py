@@ -17,8 +17,8 @@ from collections.abc import Sequence
 import proofs
 from shared import TOP
 
-FIRST = """Checks the tree as it is, proves each crate, tries planted bugs, and tests what people touch. Where nothing
-was proved on this machine before, that takes some two hours on four processors; where all was, a quarter of an hour."""
+FIRST = """Checks the tree as it is, proves each crate, tries planted bugs, and tests what people touch. That takes some
+two hours on four processors. Where the kit kept the proofs of all of it, it takes a quarter of an hour."""
 COUNTS = re.compile(r"^(\d+) passed, (\d+) failed$")
 # What runs alone, in this order; none begins where one before it failed.
 CHECKS = (
