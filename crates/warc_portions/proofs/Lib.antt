@@ -1,0 +1,4 @@
+mod CutLemmas
+mod MadeLemmas
+mod OutputLemmas
+mod PortionLemmas
