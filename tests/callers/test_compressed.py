@@ -425,9 +425,10 @@ class GoodMembers(InFolder):
         words[-2:] = [CRAWL, f"{self.folder}/good.warc"]
         self.assertEqual(subprocess.run(words, capture_output=True, check=False).returncode, 0)
         words[-2:] = [self.file(data), "-"]
-        done = subprocess.run(words, capture_output=True, text=True, check=False)
-        self.assertEqual((done.returncode, done.stdout.encode()), (2, contents(CRAWL)))
-        self.assertEqual(done.stderr, f"{said}zogwedu: salvaged 18 records, {len(contents(CRAWL))} bytes\n")
+        written = subprocess.run(words, capture_output=True, check=False)
+        self.assertEqual((written.returncode, written.stdout), (2, contents(CRAWL)))
+        counts = f"zogwedu: salvaged 18 records, {len(contents(CRAWL))} bytes\n"
+        self.assertEqual(written.stderr.decode(), said + counts)
         rest = len(contents(CRAWL)) - begin
         rows = f"records\t0\t{begin}\t2\n{said[9:].replace(' ', '@', 3)}records\t{begin}\t{rest}\t16\n"
         done = subprocess.run([*words[:3], "pieces", words[4]], capture_output=True, text=True, check=False)

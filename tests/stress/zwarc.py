@@ -339,7 +339,7 @@ def good_parts(trials: Trials, path: str, data: bytes) -> None:
     seen = trials.run(["zwarc", "pieces", path])
     rows = [line.split(b"\t") for line in seen.out.splitlines()]
     runs = [row for row in rows if row[0] == b"records"]
-    is_right = sum(int(row[3]) for row in runs) == len(good) and b" compressed bytes" in b"".join(rows[-1] + rows[0])
+    is_right = sum(int(row[3]) for row in runs) == len(good) and b" compressed bytes\n" in seen.out
     trials.judge(is_right and len(runs) < len(rows) and seen.status == 2, ["pieces", path], seen)
     for command in (["pieces", "-"], ["salvage", "--all", "-"]):
         seen = trials.run(["zwarc", *command], piped=data)
