@@ -42,6 +42,14 @@ def command(*words: str) -> Callable[[], Outcome]:
     return step
 
 
+def tests(folder: str) -> Callable[[], Outcome]:
+    """A step that runs the tests of a folder, in a process for each processor if Debian's python3-pytest-xdist is
+    there."""
+    has_processes = subprocess.run([PYTHON, "-c", "import xdist"], capture_output=True, check=False).returncode == 0
+    processes = ("-n", str(os.cpu_count() or 1), "--dist=loadgroup") if has_processes else ()
+    return command(PYTHON, "-m", "pytest", "-q", *processes, folder)
+
+
 def suite(name: str) -> Callable[[], Outcome]:
     """A step that runs a suite as `rt try` does, and passes if it writes its report."""
     folder = f"{TOP}/crates/{name}"
@@ -71,8 +79,8 @@ def steps() -> dict[str, Callable[[], Outcome]]:
         **suites(),
         "cases of commands": command(PYTHON, "tests/cases/unproved.py"),
         "code that isn't proved": command(sys.executable, "tools/lint_code.py"),
-        "collection": command(PYTHON, "-m", "pytest", "-q", "tests/collection"),
-        "unit tests": command(PYTHON, "-m", "pytest", "-q", "tests/unit"),
+        "collection": tests("tests/collection"),
+        "unit tests": tests("tests/unit"),
         "pages": command(sys.executable, "tools/lint_docs.py"),
         "text": command(sys.executable, "tools/lint.py"),
     }
