@@ -36,8 +36,8 @@ fn after_record(cursor: Cursor) -> Cursor
     }
 }
 
-/// The next portion of an archive's records in a form, and the cursor after it. The row is that of the record at the
-/// cursor's place, and these are the archive's bytes. `Read`: they are others.
+/// The next portion of an archive's records in a form, and the cursor after it. The record at the cursor's place has
+/// this row, and these are the archive's bytes. `Read`: they are others.
 pub fn next_as<A: Allocator + Copy>(
     alloc: A,
     form: Form,
@@ -94,7 +94,7 @@ pub fn next_split<A: Allocator + Copy>(
 }
 
 /// The place of the next of the records at positions of an archive, and the cursor after it: its offset, and its
-/// length with the two line ends after its block. The row is that of the record at the position at the cursor's place.
+/// length with the two line ends after its block. The record at the position at the cursor's place has this row.
 pub fn next_selected(row: &Row<'_>, cursor: Cursor) -> (u64, u64, Cursor)
     requires { cursor.place + 1 < 2 ^ 64 }
     ensures place { (bytes : List ℕ) (rows : List Seen) (position : ℕ) → IsArchiveOf bytes rows →
