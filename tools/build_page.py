@@ -42,7 +42,8 @@ SCRIPTS = (
 )
 WORKER_SCRIPTS = (
     *("shared.js", "members.js", "search.js", "zip.js", "wacz.js", "unpack.js", "heads.js", "stored.js"),
-    *("text_scan.js", "text_words.js", "text_query.js", "text_reader.js", "worker.js"),
+    *("text_scan.js", "text_words.js", "text_query.js", "text_reader.js"),
+    *("instance.js", "keeper.js", "helpers.js", "segments.js", "archive.js", "worker.js"),
 )
 POLICY = (
     "default-src 'none'; script-src '{hash}' 'wasm-unsafe-eval'; worker-src blob:; style-src 'unsafe-inline'; "

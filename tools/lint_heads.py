@@ -51,14 +51,14 @@ NAMED: dict[str, dict[str, str]] = {
     "page/body.js": {"WARC-Block-Digest": BY_NAME},
     "page/elements.js": {r"\r\n": "a head that is shown whole, with the line ends of a page"},
     "page/record.js": {"WARC-Block-Digest": BY_NAME},
+    "page/segments.js": {
+        r"\r\n\r\n${RECORD}1.": "a guess where a record begins, to divide a file; the library says whether one does"
+    },
     "page/style.js": {r"\r\n?|\f": "line ends of a style, as browsers read them"},
     "page/wacz.js": {
         r"WARC/1.1\r\nWARC-Type: metadata\r\nWARC-Date: 2020-01-01\r\n": MADE,
         r"WARC-Record-ID: <urn:uuid:00000000-0000-4000-8000-000000000001>\r\n": MADE,
         r"WARC-Block-Digest: ${algorithm}:${digits}\r\nContent-Length: ${entry.size}\r\n\r\n": MADE,
-    },
-    "page/worker.js": {
-        r"\r\n\r\n${RECORD}1.": "a guess where a record begins, to divide a file; the library says whether one does"
     },
     "python/src/zogwedu/__main__.py": {"WARC-Segment-Number": BY_NAME},
     "python/src/zogwedu/_archive.py": {"WARC-Segment-Number": BY_NAME},

@@ -9,7 +9,7 @@ import build_page
 
 from .in_node import in_node, without
 
-SCRIPTS = ("shared.js", "members.js", "search.js", "heads.js", "worker.js")
+SCRIPTS = ("shared.js", "members.js", "search.js", "heads.js", "instance.js", "keeper.js", "helpers.js", "worker.js")
 # A module that puts the fields `1=22` and `=4` of a head that begins with `+`, and of HTTP also the status 299 and a
 # body at 9. It has too little memory at first, and puts what it doesn't say there after each.
 MODULE = """

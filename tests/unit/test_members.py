@@ -261,7 +261,7 @@ BETWEEN = """(sides) => {
 
 def test_pieces_between_gaps() -> None:
     """Each side of a gap is asked for alone. A gap is a damage of its own, also where nothing is between two."""
-    scripts = ("shared.js", "elements.js", "library.js", "members.js", "search.js", "heads.js", "worker.js")
+    scripts = ("shared.js", "elements.js", "library.js", "members.js", "instance.js", "keeper.js")
     if not os.path.exists(build_page.INFLATER):
         without("node-pako")
     before = build_page.inflater() + "globalThis.navigator ??= {};\n"
