@@ -3,8 +3,9 @@ from __future__ import annotations
 
 import dataclasses
 import http
+import json
 import re
-from typing import Callable, Iterable, List, Tuple
+from typing import Any, Callable, Dict, Iterable, List, Tuple
 
 FORBIDS_ALL = "sandbox; default-src 'none'"
 VISIBLE = re.compile(r"[\x20-\x7e]*")
@@ -74,3 +75,20 @@ def phrase(status: int) -> str:
 def moved(status: int, path: str, *headers: Tuple[str, str]) -> Response:
     """Leads to another path of this server."""
     return plain(status, path, ("Location", path), *headers)
+
+
+def with_details(lines: Iterable[str], details: Iterable[str]) -> str:
+    """What is said to a reader, and after an empty line what an operator needs."""
+    more = list(details)
+    return "\n".join([*lines, *([""] if more else []), *more])
+
+
+def as_json(value: Dict[str, Any], status: int = 200) -> Response:
+    """An answer to a script."""
+    return dataclasses.replace(in_memory("application/json", json.dumps(value).encode("ascii")), status=status)
+
+
+def in_memory(media: str, body: bytes) -> Response:
+    """An answer that nobody captured."""
+    headers = [("Content-Type", media), ("Content-Length", str(len(body)))]
+    return Response(200, [*headers, ("Content-Security-Policy", FORBIDS_ALL)], [body])
