@@ -101,6 +101,7 @@ TRIALS = (
     *("--follow-imports=skip", "--ignore-missing-imports"),
 )
 AROUND = (
+    "tests/plain_reports.py",
     *("tests/page/test_page.py", "tests/page/test_served.py", "tests/page/listener.py", "tests/page/pieces.py"),
     *("tests/stress/zwarc.py", PACKAGES),
     *("tests/stress/collection_faults.py", "tests/stress/serve.py", "tests/stress/collection_trial.py"),

@@ -46,6 +46,7 @@ class Lane:
     def words(self, more: list[str]) -> list[str]:
         """The command."""
         words = [PYTHON, "-m", "pytest", "-q", "-rfEs", "--durations=12", f"--junitxml={OUT}/{self.name}.xml"]
+        words += ["-p", "tests.plain_reports"]
         words += ["-o", f"cache_dir={OUT}/cache-{self.name}", "--continue-on-collection-errors", "--tb=short"]
         return [*words, "-n", str(self.processes), "--dist=loadgroup", *more, *self.paths]
 
