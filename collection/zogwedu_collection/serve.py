@@ -138,6 +138,7 @@ class Server(TcpWSGIServer):  # type: ignore[misc]
                 self.turns.touch(self._fileno)  # it does what is due from time to time
                 self.turns.turn()
         except (SystemExit, KeyboardInterrupt):
+            end_once()
             self.task_dispatcher.shutdown()
 
     def handle_accept(self) -> None:
@@ -293,6 +294,7 @@ def served(place: Place, listener: socket.socket) -> int:
     try:
         status = os.waitpid(child, 0)[1]
     except KeyboardInterrupt:
+        end_once()
         os.kill(child, signal.SIGTERM)
         os.waitpid(child, 0)
         return 0
@@ -300,6 +302,13 @@ def served(place: Place, listener: socket.socket) -> int:
         signal.signal(signal.SIGHUP, signal.SIG_IGN)
         os.close(end)
     return -os.WTERMSIG(status) if os.WIFSIGNALED(status) else os.WEXITSTATUS(status)
+
+
+def end_once() -> None:
+    """Passes over all that asks again to end. systemd asks both processes, and one of them asks the other too."""
+    if threading.current_thread() is threading.main_thread():
+        for ending in (signal.SIGINT, signal.SIGTERM):
+            signal.signal(ending, signal.SIG_IGN)
 
 
 def end_with(alive: int) -> None:

@@ -357,6 +357,17 @@ def test_a_socket_of_systemd(served: Collection) -> None:
         assert status_of(child.port, MEMENTO) == 200
 
 
+def test_it_is_asked_to_end_again(served: Collection) -> None:
+    """systemd asks each process, and so the server twice. The second time breaks off nothing."""
+    with program_running(served) as child:
+        assert status_of(child.port, MEMENTO) == 200
+        for _ in range(50):
+            with contextlib.suppress(ProcessLookupError):
+                os.killpg(child.pid, signal.SIGTERM)
+            time.sleep(0.002)
+        assert child.wait(30) == 0
+
+
 @pytest.mark.parametrize(
     "words, status, text",
     [
