@@ -4,6 +4,7 @@ pub mod CaptureLineLemmas
 pub mod ComparedLemmas
 pub mod DigestLemmas
 pub mod ExtractLemmas
+pub mod GapLemmas
 pub mod HeadingLemmas
 pub mod JoinedLemmas
 pub mod JudgedLemmas

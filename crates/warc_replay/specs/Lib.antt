@@ -6,6 +6,7 @@ pub mod Extracting
 pub mod Finding
 pub mod Heading
 pub mod Judged
+pub mod KnownGaps
 pub mod Locating
 pub mod Looking
 pub mod Origins

@@ -5,6 +5,7 @@ pub(crate) mod body;
 pub(crate) mod capture_line;
 pub(crate) mod capture_lines;
 pub(crate) mod captures;
+pub(crate) mod known_gaps;
 pub(crate) mod location;
 pub(crate) mod origin;
 pub(crate) mod outcome;

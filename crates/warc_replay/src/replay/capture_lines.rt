@@ -2,9 +2,11 @@
 ghost use Rattle.std.specs.Prelude.{◌≡◌, ◌∷◌, [], ⊤};
 ghost use Rattle.warc_replay.specs.Captured.{AreVerdictsOf};
 ghost use Rattle.warc_replay.specs.Capturing.{AreFound, AreKnownBlocks, PutsCaptures, RemembersNext, SendsCaptures, ended_after};
+ghost use Rattle.warc_replay.specs.KnownGaps.{AreKnownGaps};
 
 use crate::replay::capture_line::put_line;
-use crate::replay::captures::outcome_once;
+use crate::replay::captures::{Remembered, outcome_once};
+use crate::replay::known_gaps::KnownGaps;
 use std::alloc::Allocator;
 use warc_frame::{OutBuffer, OutFault, Sink, Source};
 use warc_judged::Verdicts;
@@ -30,17 +32,19 @@ fn put_next<S: Source, W: Sink, A: Allocator + Copy>(
     lookup: &Lookup<A>,
     position: usize,
     known: &Verdicts<A>,
-    found: &mut Verdicts<A>,
+    remembered: &mut Remembered<A>,
     buffer: &mut OutBuffer,
     out: &mut W,
 ) -> Result<(), OutFault>
-    ensures puts { PutsCaptures (AreFound known.now found.old) rows.now lookup.now.index lookup.now.parts
+    requires { AreKnownGaps lookup.now.parts remembered.old.gaps.table }
+    ensures puts { PutsCaptures (AreFound known.now remembered.old.found) rows.now lookup.now.index lookup.now.parts
         (position ∷ []) (S.seen source.old) (S.seen source.new) (W.seen out.old) (W.seen out.new) buffer.old buffer.new
         result }
-    ensures remembers { RemembersNext rows.now lookup.now.index lookup.now.parts known.now found.old found.new
-        (S.seen source.old) }
+    ensures remembers { RemembersNext rows.now lookup.now.index lookup.now.parts known.now remembered.old.found
+        remembered.new.found (S.seen source.old) }
+    ensures known { AreKnownGaps lookup.now.parts remembered.new.gaps.table }
 {
-    let outcome = match outcome_once(source, rows, lookup, position, known, found) {
+    let outcome = match outcome_once(source, rows, lookup, position, known, remembered) {
         Ok(outcome) => outcome,
         Err(fault) => return Err(after(fault, buffer.sent())),
     };
@@ -61,12 +65,21 @@ pub fn put_captures<S: Source, W: Sink, A: Allocator + Copy>(
     ensures { PutsCaptures (AreKnownBlocks known.now) rows.now lookup.now.index lookup.now.parts positions.now
         (S.seen source.old) (S.seen source.new) (W.seen out.old) (W.seen out.new) buffer.old buffer.new result }
 {
-    let Ok(mut found) = Verdicts::unknown(rows.allocator(), rows.len()) else {
+    let Ok(found) = Verdicts::unknown(rows.allocator(), rows.len()) else {
         return Err(OutFault::Memory(buffer.sent()));
     };
+    let gaps = KnownGaps::new(rows.allocator());
+    let mut remembered = Remembered { found, gaps };
     'listing: for position in positions {
         put_next(
-            source, rows, lookup, *position, known, &mut found, buffer, out,
+            source,
+            rows,
+            lookup,
+            *position,
+            known,
+            &mut remembered,
+            buffer,
+            out,
         )?;
     }
     Ok(())

@@ -5,9 +5,11 @@ ghost use Rattle.warc_record.specs.Kinds.{kind_named};
 ghost use Rattle.warc_answer.specs.Stored.{IsStoredAt};
 ghost use Rattle.warc_replay.specs.Captures.{capture_positions, position_if};
 ghost use Rattle.warc_replay.specs.Capturing.{IsJoinedVerdict, JudgesAll, JudgesEach, JudgesNext, JudgesOne};
+ghost use Rattle.warc_replay.specs.KnownGaps.{AreKnownGaps};
 ghost use Rattle.warc_replay.specs.Outcomes.{judged_seen};
 
 use crate::replay::answer::path_from;
+use crate::replay::known_gaps::KnownGaps;
 use crate::replay::outcome::Outcome;
 use crate::replay::stored::judge_by;
 use std::alloc::{AllocError, Allocator};
@@ -71,6 +73,13 @@ fn verdict_by<A: Allocator>(judged: &Result<Stored<A>, Reason>) -> Verdict
     }
 }
 
+/// What was found so far: of the blocks that are joined to each record, and of the series that don't join.
+#[derive(Drop)]
+pub(crate) struct Remembered<A: Allocator> {
+    pub(crate) found: Verdicts<A>,
+    pub(crate) gaps: KnownGaps<A>,
+}
+
 /// What is stored of an origin, by what is known of each record's block, and what was found of the blocks that are
 /// joined to it. What is found of these now is remembered.
 fn stored_once<S: Source, A: Allocator + Copy>(
@@ -79,20 +88,25 @@ fn stored_once<S: Source, A: Allocator + Copy>(
     lookup: &Lookup<A>,
     origin: usize,
     known: &Verdicts<A>,
-    found: &mut Verdicts<A>,
+    remembered: &mut Remembered<A>,
 ) -> Result<Result<Stored<A>, Reason>, OutFault>
-    ensures { JudgesOne rows.now lookup.now.parts origin known.now found.old found.new (S.seen source.old)
-        (S.seen source.new) result }
+    requires { AreKnownGaps lookup.now.parts remembered.old.gaps.table }
+    ensures judges { JudgesOne rows.now lookup.now.parts origin known.now remembered.old.found
+        remembered.new.found (S.seen source.old) (S.seen source.new) result }
+    ensures known { AreKnownGaps lookup.now.parts remembered.new.gaps.table }
 {
+    let own = known.at(origin);
+    let joined = remembered.found.at(origin);
     let judged = judge_by(
         source,
         rows,
         lookup,
+        &mut remembered.gaps,
         origin,
-        known.at(origin),
-        found.at(origin),
+        own,
+        joined,
     )?;
-    found.set(origin, verdict_by(&judged));
+    remembered.found.set(origin, verdict_by(&judged));
     Ok(judged)
 }
 
@@ -104,14 +118,16 @@ pub(crate) fn outcome_once<S: Source, A: Allocator + Copy>(
     lookup: &Lookup<A>,
     position: usize,
     known: &Verdicts<A>,
-    found: &mut Verdicts<A>,
+    remembered: &mut Remembered<A>,
 ) -> Result<Outcome<A>, OutFault>
-    ensures { JudgesNext rows.now lookup.now.index lookup.now.parts position known.now found.old found.new
-        (S.seen source.old) (S.seen source.new) result }
+    requires { AreKnownGaps lookup.now.parts remembered.old.gaps.table }
+    ensures judges { JudgesNext rows.now lookup.now.index lookup.now.parts position known.now
+        remembered.old.found remembered.new.found (S.seen source.old) (S.seen source.new) result }
+    ensures known { AreKnownGaps lookup.now.parts remembered.new.gaps.table }
 {
     paths_end_inside();
     match path_from(lookup, position) {
-        Ok(path) => match stored_once(source, rows, lookup, path.given, known, found) {
+        Ok(path) => match stored_once(source, rows, lookup, path.given, known, remembered) {
             Ok(stored) => Ok(Outcome {
                 chosen: position,
                 given: Some(path.given),
@@ -151,12 +167,14 @@ fn judge_each<S: Source, A: Allocator + Copy>(
         (S.seen source.new) result }
 {
     let alloc = rows.allocator();
-    let Ok(mut found) = Verdicts::unknown(alloc, rows.len()) else {
+    let Ok(found) = Verdicts::unknown(alloc, rows.len()) else {
         return Err(OutFault::Memory(0));
     };
+    let gaps = KnownGaps::new(alloc);
+    let mut remembered = Remembered { found, gaps };
     let mut outcomes = Vec::new(alloc);
     'judging: for position in positions {
-        let outcome = outcome_once(source, rows, lookup, *position, known, &mut found)?;
+        let outcome = outcome_once(source, rows, lookup, *position, known, &mut remembered)?;
         let Ok(()) = push_outcome(&mut outcomes, outcome) else {
             return Err(OutFault::Memory(0));
         };

@@ -11,8 +11,10 @@ ghost use Rattle.warc_record.specs.Heads.{head_fault};
 ghost use Rattle.warc_record.specs.Seen.{said};
 ghost use Rattle.warc_segment.specs.Joined.{PlacedRecord};
 ghost use Rattle.warc_segment.specs.Kept.{kept_in};
+ghost use Rattle.warc_replay.specs.KnownGaps.{AreKnownGaps};
 ghost use Rattle.warc_replay.specs.Origins.{FindsOrigin, IsOriginBy, IsOriginOf, IsPlacedBy, IsUnjoined, place_in};
 
+use crate::replay::known_gaps::{KnownGaps, join_once};
 use std::alloc::Allocator;
 use warc_answer::{Reason, ReplayFault, is_http_response};
 use warc_field::Fields;
@@ -61,19 +63,22 @@ fn place_in(row: &Row<'_>, wanted: Wanted) -> Place
 fn origin_by<A: Allocator + Copy>(
     alloc: A,
     parts: &Parts<A>,
+    gaps: &mut KnownGaps<A>,
     row: &Row<'_>,
     typed: &Typed<'_>,
     content_type: &[u8],
 ) -> Result<Origin<A>, ReplayFault>
+    requires known { AreKnownGaps parts.now gaps.old.table }
     ensures made { (all : List PlacedRecord) → parts.now ≡ kept_in all →
         IsOriginBy all row.now (said typed.now) content_type.now result }
     ensures fault { IfErr result IsUnjoined }
+    ensures known { AreKnownGaps parts.now gaps.new.table }
 {
     let Ok(content_type) = Vec::from_slice(alloc, content_type) else {
         return Err(ReplayFault::Out(OutFault::Memory(0)));
     };
     let http = is_http_response(typed);
-    match parts.join(typed, place_in(row, typed.wanted())) {
+    match join_once(parts, gaps, typed, place_in(row, typed.wanted())) {
         Ok(places) => Ok(Origin {
             http,
             content_type,
@@ -88,40 +93,53 @@ fn origin_by<A: Allocator + Copy>(
 fn origin_by_fields<A: Allocator + Copy>(
     alloc: A,
     parts: &Parts<A>,
+    gaps: &mut KnownGaps<A>,
     row: &Row<'_>,
     text: &[u8],
 ) -> Result<Origin<A>, ReplayFault>
+    requires known { AreKnownGaps parts.now gaps.old.table }
     ensures made { (r : Record) → IsHeadText r row.now text.now → head_fault r.fields ≡ None →
         (all : List PlacedRecord) → parts.now ≡ kept_in all → IsOriginOf all row.now r.fields result }
     ensures placed { (all : List PlacedRecord) → parts.now ≡ kept_in all → IfOk result (IsPlacedBy all row.now) }
     ensures fault { (r : Record) → IsHeadText r row.now text.now → head_fault r.fields ≡ None →
         IfErr result IsUnjoined }
     ensures early { IfErr result IsEarly }
+    ensures known { AreKnownGaps parts.now gaps.new.table }
 {
     let head = match good_head_in(alloc, text, row.block_len) {
         Ok(head) => head,
         Err(fault) => return Err(ReplayFault::Out(fault.after(0))),
     };
-    origin_by(alloc, parts, row, &head.typed(), own_type(head.fields()))
+    origin_by(
+        alloc,
+        parts,
+        gaps,
+        row,
+        &head.typed(),
+        own_type(head.fields()),
+    )
 }
 
 /// What is kept of the origin whose head a text is.
 fn origin_in<A: Allocator + Copy>(
     alloc: A,
     parts: &Parts<A>,
+    gaps: &mut KnownGaps<A>,
     row: &Row<'_>,
     text: &[u8],
 ) -> Result<Origin<A>, ReplayFault>
+    requires known { AreKnownGaps parts.now gaps.old.table }
     ensures made { (r : Record) → IsHeadText r row.now text.now → head_fault r.fields ≡ None →
         (all : List PlacedRecord) → parts.now ≡ kept_in all → IsOriginOf all row.now r.fields result }
     ensures placed { (all : List PlacedRecord) → parts.now ≡ kept_in all → IfOk result (IsPlacedBy all row.now) }
     ensures fault { (r : Record) → IsHeadText r row.now text.now → head_fault r.fields ≡ None →
         IfErr result IsUnjoined }
     ensures early { IfErr result IsEarly }
+    ensures known { AreKnownGaps parts.now gaps.new.table }
 {
     match alone_head(text, row.block_len) {
-        Some(head) => origin_by(alloc, parts, row, &head.typed, head.content_type),
-        None => origin_by_fields(alloc, parts, row, text),
+        Some(head) => origin_by(alloc, parts, gaps, row, &head.typed, head.content_type),
+        None => origin_by_fields(alloc, parts, gaps, row, text),
     }
 }
 
@@ -131,10 +149,12 @@ fn origin_through<S: Source, A: Allocator + Copy>(
     alloc: A,
     source: &mut S,
     parts: &Parts<A>,
+    gaps: &mut KnownGaps<A>,
     row: &Row<'_>,
     buf: &mut [u8],
 ) -> Result<Origin<A>, ReplayFault>
-    requires { HasRoomFor row.now buf.old }
+    requires room { HasRoomFor row.now buf.old }
+    requires known { AreKnownGaps parts.now gaps.old.table }
     ensures made { IfHeld (S.seen source.old).holds (λ bytes. (is : HasHeadOf row.now bytes) →
         (all : List PlacedRecord) → parts.now ≡ kept_in all →
         IsOriginOf all row.now is.placed.content.fields result) }
@@ -142,11 +162,36 @@ fn origin_through<S: Source, A: Allocator + Copy>(
     ensures early { IfErr result IsEarly }
     ensures reads { ReadsHeads (row.now ∷ []) (S.seen source.old) (S.seen source.new) }
     ensures fails { FailsBy (HasHeadOf row.now) (out_result result) (S.seen source.old) (S.seen source.new) }
+    ensures known { AreKnownGaps parts.now gaps.new.table }
 {
     match reread_text(source, row, buf) {
-        Ok(len) => origin_in(alloc, parts, row, &buf[..len]),
+        Ok(len) => origin_in(alloc, parts, gaps, row, &buf[..len]),
         Err(fault) => Err(ReplayFault::Out(fault.after(0))),
     }
+}
+
+/// The origin at a position. Its head is read again, and nothing else is. Where the gap of its series is known, the
+/// series isn't put in order again.
+pub(crate) fn origin_once<S: Source, A: Allocator + Copy>(
+    source: &mut S,
+    rows: &Rows<A>,
+    lookup: &Lookup<A>,
+    gaps: &mut KnownGaps<A>,
+    position: usize,
+) -> Result<Origin<A>, ReplayFault>
+    requires { AreKnownGaps lookup.now.parts gaps.old.table }
+    ensures finds { FindsOrigin rows.now lookup.now.parts position (S.seen source.old) (S.seen source.new) result }
+    ensures known { AreKnownGaps lookup.now.parts gaps.new.table }
+{
+    head_of_spelled();
+    let alloc = rows.allocator();
+    let Some(row) = rows.get(position) else {
+        return Err(ReplayFault::Out(OutFault::Read(0)));
+    };
+    let Ok(mut buf) = buffer_for(alloc, &row) else {
+        return Err(ReplayFault::Out(OutFault::Memory(0)));
+    };
+    origin_through(alloc, source, &lookup.parts, gaps, &row, &mut buf)
 }
 
 /// The origin at a position. Its head is read again, and nothing else is.
@@ -158,13 +203,6 @@ pub(crate) fn origin_at<S: Source, A: Allocator + Copy>(
 ) -> Result<Origin<A>, ReplayFault>
     ensures { FindsOrigin rows.now lookup.now.parts position (S.seen source.old) (S.seen source.new) result }
 {
-    head_of_spelled();
-    let alloc = rows.allocator();
-    let Some(row) = rows.get(position) else {
-        return Err(ReplayFault::Out(OutFault::Read(0)));
-    };
-    let Ok(mut buf) = buffer_for(alloc, &row) else {
-        return Err(ReplayFault::Out(OutFault::Memory(0)));
-    };
-    origin_through(alloc, source, &lookup.parts, &row, &mut buf)
+    let mut gaps = KnownGaps::new(rows.allocator());
+    origin_once(source, rows, lookup, &mut gaps, position)
 }

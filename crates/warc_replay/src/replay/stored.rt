@@ -1,9 +1,11 @@
 //! What is stored of an origin, and where: its head is read again, and its segments are joined.
 ghost use Rattle.std.specs.Prelude.{◌≡◌, ◌⊎◌, length};
 ghost use Rattle.warc_replay.specs.Capturing.{JudgesBy, LooksBy};
+ghost use Rattle.warc_replay.specs.KnownGaps.{AreKnownGaps};
 ghost use Rattle.warc_replay.specs.Looking.{Judges, Looks, SendsStored};
 
-use crate::replay::origin::origin_at;
+use crate::replay::known_gaps::KnownGaps;
+use crate::replay::origin::{origin_at, origin_once};
 use std::alloc::Allocator;
 use warc_answer::laws::places_are_as_long;
 use warc_answer::{Reason, ReplayFault, Stored, find_stored, judge_known, send_blocks};
@@ -99,14 +101,18 @@ fn look_by<S: Source, A: Allocator + Copy>(
     source: &mut S,
     rows: &Rows<A>,
     lookup: &Lookup<A>,
+    gaps: &mut KnownGaps<A>,
     position: usize,
     own: Verdict,
     joined: Verdict,
 ) -> Result<Stored<A>, ReplayFault>
-    ensures { LooksBy rows.now lookup.now.parts position own joined (S.seen source.old) (S.seen source.new) result }
+    requires { AreKnownGaps lookup.now.parts gaps.old.table }
+    ensures looks { LooksBy rows.now lookup.now.parts position own joined (S.seen source.old) (S.seen source.new)
+        result }
+    ensures known { AreKnownGaps lookup.now.parts gaps.new.table }
 {
     places_are_of_records();
-    let origin = origin_at(source, rows, lookup, position)?;
+    let origin = origin_once(source, rows, lookup, gaps, position)?;
     judge_known(
         rows.allocator(),
         source,
@@ -122,13 +128,17 @@ pub(crate) fn judge_by<S: Source, A: Allocator + Copy>(
     source: &mut S,
     rows: &Rows<A>,
     lookup: &Lookup<A>,
+    gaps: &mut KnownGaps<A>,
     position: usize,
     own: Verdict,
     joined: Verdict,
 ) -> Result<Result<Stored<A>, Reason>, OutFault>
-    ensures { JudgesBy rows.now lookup.now.parts position own joined (S.seen source.old) (S.seen source.new) result }
+    requires { AreKnownGaps lookup.now.parts gaps.old.table }
+    ensures judges { JudgesBy rows.now lookup.now.parts position own joined (S.seen source.old) (S.seen source.new)
+        result }
+    ensures known { AreKnownGaps lookup.now.parts gaps.new.table }
 {
-    match look_by(source, rows, lookup, position, own, joined) {
+    match look_by(source, rows, lookup, gaps, position, own, joined) {
         Ok(stored) => Ok(Ok(stored)),
         Err(ReplayFault::Reason(reason)) => Ok(Err(reason)),
         Err(ReplayFault::Out(fault)) => Err(fault),

@@ -11,6 +11,7 @@ pub listing-init : goal.listing-init
 listing-init g c = record {
   puts = puts_nothing;
   right = λ bytes held is are known. nothing_found _ _ is.are.records c.in-Ok.ensures known;
+  gaps_known = c.new-gaps.ensures c.args.lookup.now.parts;
 }
 
 pub listing-preserved : goal.listing-preserved
@@ -19,6 +20,7 @@ listing-preserved g c =
     record {
       puts = puts_at c.args.positions.now c.listing.position-index c.listing-test.true (puts_both old.puts c.in_ok-put_next.ensures.puts old.right);
       right = λ bytes held is are known. c.in_ok-put_next.ensures.remembers bytes (old.puts.keeps.kept ∙ held) is are (old.right bytes held is are known);
+      gaps_known = c.in_ok-put_next.ensures.known;
     }
 
 pub returns-in_err-put_next : goal.returns-in_err-put_next

@@ -20,12 +20,13 @@ judging-init g c = record {
   inside = λ bytes is off. refl;
   keeps = record { kept = refl; watched = refl };
   sound = refl;
+  gaps_known = c.new-gaps.ensures c.args.lookup.now.parts;
 }
 
 pub judging-preserved : goal.judging-preserved
 judging-preserved g c =
     let old = c.judging.invariant in
-    let next = c.in_ok-outcome.ensures in
+    let next = c.in_ok-outcome.ensures.judges in
     let added = c.in-Ok-push_outcome.ensures in
     record {
       reported = λ bytes held is are known.
@@ -41,6 +42,7 @@ judging-preserved g c =
       inside = asks_on old.keeps old.inside next;
       keeps = preserves_both old.keeps next.keeps;
       sound = next.fails.may ∙ old.sound;
+      gaps_known = c.in_ok-outcome.ensures.known;
     }
 
 pub returns : goal.returns
@@ -59,7 +61,7 @@ pub returns-in_err-outcome : goal.returns-in_err-outcome
 returns-in_err-outcome g c =
     let p = err_from_is_err_and c.from_residual.result c.from_residual.ensures.1 in
     let old = c.judging.invariant in
-    let next = c.in_err-outcome.ensures in
+    let next = c.in_err-outcome.ensures.judges in
     rw (p.1, p.2) (record {
       reported = λ bytes held is are known. tt;
       early = next.early;
@@ -72,7 +74,7 @@ returns-in_err-outcome g c =
 pub returns-in_default-push_outcome : goal.returns-in_default-push_outcome
 returns-in_default-push_outcome g c =
     let old = c.judging.invariant in
-    let next = c.in_ok-outcome.ensures in
+    let next = c.in_ok-outcome.ensures.judges in
     record {
       reported = λ bytes held is are known. tt;
       early = refl;

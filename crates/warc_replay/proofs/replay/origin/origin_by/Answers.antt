@@ -10,5 +10,5 @@ returns-in-Err-Gap-clause-made g c = λ all are.
     let placed = placed_is c.args.row.now (said c.args.typed.now) c.place_in.result c.wanted.result c.place_in.ensures c.wanted.ensures in (
       c.in-Err-Gap.gap,
       refl,
-      ap (joined_places all) (sym placed) ∙ join_gap c.join.result c.in-Err-Gap.gap _ (c.in-Err-Gap.is ∙ ap Err c.in-Err-Gap.field-0-is) (c.join.ensures all are),
+      ap (joined_places all) (sym placed) ∙ join_gap c.join_once.result c.in-Err-Gap.gap _ (c.in-Err-Gap.is ∙ ap Err c.in-Err-Gap.field-0-is) (c.join_once.ensures.joined all are),
     )

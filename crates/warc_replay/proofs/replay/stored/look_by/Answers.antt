@@ -10,10 +10,10 @@ use Rattle.warc_replay.proofs.OriginLemmas.{preserves_both}
 use Rattle.warc_replay.proofs.ReplayLemmas.{found_as, places_are, then_inside}
 use Rattle.warc_replay.proofs.replay.stored.look_by.Goals as goal
 
-pub returns-in_err-origin : goal.returns-in_err-origin
-returns-in_err-origin g c =
+pub returns-in_err-origin-clause-looks : goal.returns-in_err-origin-clause-looks
+returns-in_err-origin-clause-looks g c =
     let p = err_from_is_err_and c.from_residual.result c.from_residual.ensures.1 in
-    let found = c.in_err-origin.ensures in
+    let found = c.in_err-origin.ensures.finds in
     rw (p.1, p.2) (record {
       reported = λ bytes held is parts one all. gap_found (Unit {0}) (Unit {0}) bytes is.are.records c.args.position c.in_err-origin.field-0.0 is.are.spelled c.places_are_of_records.ensures (found.reported bytes held is parts);
       early = found.early;
@@ -22,9 +22,9 @@ returns-in_err-origin g c =
       fails = fault_fails (Unit {0}) (Unit {0}) c.in_err-origin.field-0.0 found.fails;
     })
 
-pub returns : goal.returns
-returns g c =
-    let found = c.in_ok-origin.ensures in
+pub returns-clause-looks : goal.returns-clause-looks
+returns-clause-looks g c =
+    let found = c.in_ok-origin.ensures.finds in
     let given = c.judge_known.ensures in
     let items = c.in_ok-origin.origin.places.items in
     let path : Path = record { chosen = c.args.position; given = c.args.position } in
@@ -46,7 +46,7 @@ returns g c =
       early = given.early;
       inside = λ bytes is parts.
           let stays = found.inside bytes is parts in
-          then_inside bytes items c.deref-2.result.now (g.S.Source.seen c.args.source.now) (g.S.Source.seen c.origin_at.new.source) (g.S.Source.seen c.judge_known.new.source) found.keeps.watched stays.asks stays.ends c.deref-2.ensures.value given.reads.near;
+          then_inside bytes items c.deref-2.result.now (g.S.Source.seen c.args.source.now) (g.S.Source.seen c.origin_once.new.source) (g.S.Source.seen c.judge_known.new.source) found.keeps.watched stays.asks stays.ends c.deref-2.ensures.value given.reads.near;
       keeps = preserves_both found.keeps (record { kept = given.reads.kept; watched = given.reads.watched });
       fails = fails_after found.keeps.kept found.fails.may
           (fails_more (λ bytes held (is, parts, within).

@@ -11,10 +11,10 @@ use Rattle.warc_replay.specs.Origins.{placed_by}
 use Rattle.warc_replay.proofs.BodyLemmas.{none_there}
 use Rattle.warc_replay.proofs.OriginLemmas.{absent_after, head_only, made_found}
 use Rattle.warc_replay.proofs.ReplayLemmas.{head_inside, joined_end, reads_nothing}
-use Rattle.warc_replay.proofs.replay.origin.origin_at.Goals as goal
+use Rattle.warc_replay.proofs.replay.origin.origin_once.Goals as goal
 
-pub returns-in_default-buffer_for : goal.returns-in_default-buffer_for
-returns-in_default-buffer_for g c = record {
+pub returns-in_default-buffer_for-clause-finds : goal.returns-in_default-buffer_for-clause-finds
+returns-in_default-buffer_for-clause-finds g c = record {
   reported = λ bytes held is parts. tt;
   reads = λ bytes held is parts. reads_nothing;
   inside = λ bytes is parts. record { asks = λ off. refl; ends = tt };
@@ -23,8 +23,8 @@ returns-in_default-buffer_for g c = record {
   fails = record { may = refl; failed = λ bytes held is. refl };
 }
 
-pub returns-in_default : goal.returns-in_default
-returns-in_default g c = record {
+pub returns-in_default-clause-finds : goal.returns-in_default-clause-finds
+returns-in_default-clause-finds g c = record {
   reported = λ bytes held is parts. tt;
   reads = λ bytes held is parts. reads_nothing;
   inside = λ bytes is parts. record { asks = λ off. refl; ends = tt };
@@ -37,8 +37,8 @@ returns-in_default g c = record {
   };
 }
 
-pub returns : goal.returns
-returns g c =
+pub returns-clause-finds : goal.returns-clause-finds
+returns-clause-finds g c =
     let given = c.origin_through.ensures in
     record {
       reported = λ bytes held is parts.

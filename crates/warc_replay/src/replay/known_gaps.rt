@@ -1,0 +1,137 @@
+//! The gaps of series that were found: a series with a gap is put in order once, however many records have its id.
+ghost use Rattle.std.specs.Prelude.{◌≡◌, List, IfSome, map};
+ghost use Rattle.warc_record.specs.Seen.{said};
+ghost use Rattle.warc_record.specs.declared.readings.SegmentNumber.TheVariants.{Number};
+ghost use Rattle.warc_segment.specs.Joined.{PlacedRecord, joined_places, piece_placed};
+ghost use Rattle.warc_segment.specs.Joining.{IsJoin};
+ghost use Rattle.warc_segment.specs.Kept.{Kept, kept_in};
+ghost use Rattle.warc_segment.specs.Series.{IsMemberAt, series_of};
+ghost use Rattle.warc_segment.specs.declared.gap.Gap.TheVariants.{Total};
+ghost use Rattle.warc_replay.specs.KnownGaps.{AreKnownGaps, IsRecalled, KeepsGap, known_gap_at};
+
+use std::alloc::Allocator;
+use std::collections::BTreeMap;
+use warc_record::{SegmentNumber, Typed};
+use warc_segment::{Gap, JoinFault, Parts, Place};
+
+/// The gaps of series that don't join, by the position of one segment of each, and the length of a first segment.
+/// Without memory for more of them nothing fails: a series is put in order again.
+#[derive(Drop)]
+pub(crate) struct KnownGaps<A: Allocator> {
+    table: BTreeMap<(usize, u64), Gap, A>,
+}
+
+impl<A: Allocator + Copy> KnownGaps<A> {
+    /// Nothing is known.
+    pub(crate) fn new(alloc: A) -> KnownGaps<A>
+        ensures { (parts : Kept) → AreKnownGaps parts result.table }
+    {
+        KnownGaps {
+            table: BTreeMap::new(alloc),
+        }
+    }
+}
+
+/// The length at which a gap is kept that was found after a first segment of this length. Only a wrong total depends on
+/// that.
+fn len_for(gap: Gap, len: u64) -> u64
+    ensures { gap ≡ Total → result ≡ len }
+{
+    match gap {
+        Gap::Total => len,
+        _ => 0,
+    }
+}
+
+/// The gap that is kept of the series of a segment at a length.
+fn known_at<A: Allocator>(
+    table: &BTreeMap<(usize, u64), Gap, A>,
+    segment: usize,
+    len: u64,
+) -> Option<Gap>
+    ensures { result ≡ known_gap_at table.now segment len }
+{
+    table.get(&(segment, len)).copied()
+}
+
+/// The gap of the series of a segment after a first segment of this length, if it is known.
+fn recalled<A: Allocator>(
+    table: &BTreeMap<(usize, u64), Gap, A>,
+    segment: usize,
+    len: u64,
+) -> Option<Gap>
+    ensures { IfSome result (IsRecalled table.now segment len) }
+{
+    match known_at(table, segment, 0) {
+        None | Some(Gap::Total) => known_at(table, segment, len),
+        Some(gap) => Some(gap),
+    }
+}
+
+/// Keeps the gap that was found of the series of a segment after a first segment of this length. If memory is refused,
+/// nothing changes.
+fn keep<A: Allocator + Copy>(
+    table: &mut BTreeMap<(usize, u64), Gap, A>,
+    segment: usize,
+    len: u64,
+    gap: Gap,
+)
+    ensures { KeepsGap segment len gap table.old table.new }
+{
+    match table.insert((segment, len_for(gap, len)), gap) {
+        Ok(_) => {}
+        Err(_) => {}
+    }
+}
+
+/// The places of the blocks that are joined to a first segment's own, as `Parts::join` gives them. A gap is kept.
+fn join_anew<A: Allocator + Copy>(
+    parts: &Parts<A>,
+    gaps: &mut KnownGaps<A>,
+    typed: &Typed<'_>,
+    place: Place,
+    segment: usize,
+) -> Result<Vec<Place, A>, JoinFault>
+    requires known { AreKnownGaps parts.now gaps.old.table }
+    requires first { (said typed.now).segment.number ≡ Number 1 }
+    requires member { (all : List PlacedRecord) → parts.now ≡ kept_in all →
+        IsMemberAt (series_of (said typed.now).id (map piece_placed all)) segment }
+    ensures joined { (all : List PlacedRecord) → parts.now ≡ kept_in all →
+        IsJoin result (joined_places all (record { head = said typed.now; place = place })) }
+    ensures known { AreKnownGaps parts.now gaps.new.table }
+{
+    match parts.join(typed, place) {
+        Ok(places) => Ok(places),
+        Err(JoinFault::Memory) => Err(JoinFault::Memory),
+        Err(JoinFault::Gap(gap)) => {
+            keep(&mut gaps.table, segment, place.len, gap);
+            Err(JoinFault::Gap(gap))
+        }
+    }
+}
+
+/// The places of the blocks that are joined to a record's own, as `Parts::join` gives them. A series whose gap is known
+/// isn't put in order again.
+pub(crate) fn join_once<A: Allocator + Copy>(
+    parts: &Parts<A>,
+    gaps: &mut KnownGaps<A>,
+    typed: &Typed<'_>,
+    place: Place,
+) -> Result<Vec<Place, A>, JoinFault>
+    requires known { AreKnownGaps parts.now gaps.old.table }
+    ensures joined { (all : List PlacedRecord) → parts.now ≡ kept_in all →
+        IsJoin result (joined_places all (record { head = said typed.now; place = place })) }
+    ensures known { AreKnownGaps parts.now gaps.new.table }
+{
+    match typed.segment.number {
+        SegmentNumber::Number(1) => {}
+        _ => return parts.join(typed, place),
+    }
+    let Some(segment) = parts.segment_of(typed) else {
+        return parts.join(typed, place);
+    };
+    match recalled(&gaps.table, segment, place.len) {
+        Some(gap) => Err(JoinFault::Gap(gap)),
+        None => join_anew(parts, gaps, typed, place, segment),
+    }
+}
