@@ -1,7 +1,8 @@
 #!/usr/bin/env python3
 """Hostile bytes, over twice as many of which a command takes at most 2.5 times the time.
 
-They are heads within heads for `pieces`, and for `captures` and `survey` revisits that lead to one another.
+They are heads within heads for `pieces`, and for `captures` and `survey` revisits that lead to one another, and
+segments of one id whose series has a gap.
 
     python3 tests/stress/floods.py WARC [MEGABYTES]
 
@@ -16,7 +17,7 @@ import subprocess
 import sys
 import tempfile
 import time
-from typing import Callable, Dict, Iterator
+from typing import Callable, Dict, Iterator, Sequence
 
 LINE = b"WARC/1.1\r\n"
 INSIDE = b"X:WARC/1.1\r\n"
@@ -37,7 +38,7 @@ REVISIT = b"\r\n".join(
 )
 SEGMENT = (
     b"WARC/1.1\r\n%sWARC-Record-ID: %s\r\nWARC-Date: 2020\r\nWARC-Target-URI: http://a.example/\r\n"
-    b"Content-Length: 1\r\n\r\nx\r\n\r\n"
+    b"Content-Length: %d\r\n\r\n%s\r\n\r\n"
 )
 HEAD = 5000  # lines of a head that is nearly as long as a head may be
 RUNS = 3
@@ -127,12 +128,26 @@ def wrong(number: int) -> bytes:
     return smallest(number).replace(b"WARC-Date", b"WARC-Truncated: x\r\nWARC-Block-Digest: sha1:x\r\nWARC-Date")
 
 
-def segment(number: int) -> bytes:
+def segment(number: int, block: bytes = b"x") -> bytes:
     """By turns a first segment and a later one, all of one id."""
     if number % 2:
         own = b"WARC-Type: continuation\r\nWARC-Segment-Origin-ID: <urn:x>\r\nWARC-Segment-Number: %d\r\n"
-        return SEGMENT % (own % (number // 2 + 2), named(number))
-    return SEGMENT % (b"WARC-Type: resource\r\nWARC-Segment-Number: 1\r\n", b"<urn:x>")
+        return SEGMENT % (own % (number // 2 + 2), named(number), len(block), block)
+    return SEGMENT % (b"WARC-Type: resource\r\nWARC-Segment-Number: 1\r\n", b"<urn:x>", len(block), block)
+
+
+def series(total: Callable[[int], int], blocks: Sequence[bytes] = (b"x",)) -> Callable[[int], bytes]:
+    """The same, of which the last one states a total, by the number of the later ones. These have one byte each, and
+    the first segments these blocks by turns."""
+
+    def make(size: int) -> bytes:
+        count = max(size // (len(segment(0)) + len(segment(1))), 1)
+        turns = [block for first in blocks for block in (first, b"x")]
+        made = [segment(number, turns[number % len(turns)]) for number in range(2 * count)]
+        made[-1] = made[-1].replace(b"WARC-Date", b"WARC-Segment-Total-Length: %d\r\nWARC-Date" % total(count))
+        return b"".join(made)
+
+    return make
 
 
 GOOD: Dict[str, Callable[[int], bytes]] = {
@@ -140,7 +155,17 @@ GOOD: Dict[str, Callable[[int], bytes]] = {
     "the smallest records, of one id": many(same_id),
     "small records with four findings": many(wrong),
     "HTTP responses that are all head": responses,
+}
+
+SEGMENTS: Dict[str, Callable[[int], bytes]] = {
     "segments of one id": many(segment),
+    "segments of one id, with a wrong total": series(lambda count: count),
+    "segments of one id, first ones of two lengths": series(lambda count: count, (b"x", b"xx")),
+}
+
+# `captures` and `survey` take the square of their number: the series is joined anew for each first segment.
+JOINED: Dict[str, Callable[[int], bytes]] = {
+    "segments of one id that join": series(lambda count: count + 1),
 }
 
 PIECES: Dict[str, Callable[[int], bytes]] = {
@@ -177,7 +202,7 @@ def floods() -> "Iterator[tuple[str, str, Callable[[int], bytes]]]":
     """Each command, and a kind of flood over which it runs."""
     for name, make in PIECES.items():
         yield "pieces", name, make
-    for name, make in REVISITS.items():
+    for name, make in {**REVISITS, **SEGMENTS}.items():
         yield "captures", name, make
         yield "survey", name, make
 
