@@ -10,4 +10,5 @@ mod WorkedValues
 pub mod StoredLemmas
 pub mod KnownLemmas
 pub mod HashedLemmas
+pub mod KnownDigestLemmas
 pub mod HashedLaws
