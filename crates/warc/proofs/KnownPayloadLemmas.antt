@@ -30,14 +30,17 @@ use Rattle.warc_reading.specs.Row.{Placed}
 use Rattle.warc_reading.proofs.PlacedLemmas.{below, content_at}
 use Rattle.warc_judged.specs.Counting.{verdict_at}
 use Rattle.warc_judged.specs.Summary.{has_segment_number}
-use Rattle.warc_replay.specs.PayloadStates.{AreKnown, IsComparedAt}
-use Rattle.warc_replay.specs.PayloadVerdicts.{AreJudgedPayloads, IsOwnVerdict, IsVerdictByKind, PayloadJudgements, by_stated, payload_value, value_shown}
+use Rattle.warc_replay.specs.PayloadStates.{AreKnown, IsComparedAt, holds_own}
+use Rattle.warc_replay.specs.Capturing.{AreKnownBlocks}
+use Rattle.warc_replay.specs.GoodPayloads.{AreGoodPayloads}
+use Rattle.warc_replay.specs.PayloadVerdicts.{AreJudgedPayloads, IsJudgedPayload, IsOwnVerdict, IsVerdictByKind, PayloadJudgements, by_stated, payload_value, payload_verdict_at, value_shown}
 use Rattle.warc_replay.proofs.ComparedLemmas.{judged_next}
+use Rattle.warc_replay.proofs.KnownLemmas.{nothing_known}
 use Rattle.warc_replay.specs.declared.record.digests.Known.{Known}
 use Rattle.warc_replay.specs.declared.record.payload.PayloadVerdict.{PayloadVerdict}
 use Rattle.warc_replay.specs.declared.record.payload.PayloadVerdict.TheVariants as payload
 use Rattle.warc_replay.specs.declared.record.payload.Unjudged.TheVariants as unjudged
-use Rattle.warc.specs.KnownPayloads.{AreKnownPayloads, AreRightFor, HoldsPayload, IsPayloadOf, IsRightFor, KnownPayloads, holds_own, known_at, known_by}
+use Rattle.warc.specs.KnownPayloads.{AreKnownPayloads, AreRightFor, HoldsPayload, IsPayloadOf, IsRightFor, KnownPayloads, known_at, known_by}
 
 -- ---- places in lists
 
@@ -238,6 +241,12 @@ right_unjudged p true v none is = subst (λ (w : Verdict). IsRightFor p (known_b
 
 -- ---- judging one more
 
+-- a verdict that is said is one of the list
+said_below : (verdicts : List (Option PayloadVerdict)) (i : ℕ) (v : PayloadVerdict) → payload_verdict_at verdicts i ≡ Some v → i < length verdicts
+said_below [] i v is = absurd (cc is)
+said_below (x ∷ xs) zero v is = omega arith
+said_below (x ∷ xs) (suc i) v is = omega (arith, said_below xs i v is)
+
 shown_same : (s : Bool) (v : Verdict) (w : Option PayloadVerdict) (a b : List ℕ) → known_by s v ≡ Some w → value_shown w a ≡ value_shown w b
 shown_same false v w a b is = let e : w ≡ None = cc is in ap (λ x. value_shown x a) e ∙ sym (ap (λ x. value_shown x b) e)
 shown_same true Good w a b is = let e : w ≡ Some payload.Good = cc is in ap (λ x. value_shown x a) e ∙ sym (ap (λ x. value_shown x b) e)
@@ -264,3 +273,17 @@ known_next answer records known n judged judges verdict value knows low right is
     let same = shown_same (unwrap_or (slice_get known.stated n) true) (verdict_at known.verdicts n) verdict value (payload_value p.content.fields) is in
     judged_next answer (contents records) n judged judges p.content.fields verdict (payload_value p.content.fields) knows known_are are here refl
     (on_known answer judged judges verdict value (payload_value p.content.fields) same added)
+
+-- the payloads that were judged to be good are good
+pub good_judged : (records : List Record) (n : ℕ) (judged : PayloadJudgements) (verdicts : List (Option PayloadVerdict)) → verdicts ≡ judged.verdicts → AreJudgedPayloads records n judged
+    → AreGoodPayloads records verdicts
+good_judged records n judged verdicts same are = λ position is content there.
+    let said : payload_verdict_at judged.verdicts position ≡ Some payload.Good = sym (ap (λ l. payload_verdict_at l position) same) ∙ is in
+    let low : position < n = omega (arith, said_below judged.verdicts position payload.Good said, are.verdicts_are) in
+    let at = are.each position low in
+    let here : at.content ≡ content = (let e : Some at.content ≡ Some content = sym at.there ∙ there in cc e) in
+    subst (λ (r : Record). IsJudgedPayload records position r (Some payload.Good)) here (subst (λ w. IsJudgedPayload records position at.content w) said at.is)
+
+-- a list that says nothing of blocks
+pub none_known : (blocks : List Verdict) (records : List Placed) → blocks ≡ [] → AreKnownBlocks blocks records
+none_known blocks records is = subst (λ (l : List Verdict). AreKnownBlocks l records) (sym is) (nothing_known records)

@@ -6,8 +6,6 @@ use Rattle.warc_frame.specs.Record.{Record}
 use Rattle.warc_frame.specs.Seen.{IfHeld, SeenSource}
 use Rattle.warc_frame.specs.declared.fault.OutFault.{OutFault}
 use Rattle.warc_record.specs.Readings.{reading_of}
-use Rattle.warc_record.specs.declared.types.Kind.{Kind}
-use Rattle.warc_record.specs.declared.types.Kind.TheVariants as kinds
 use Rattle.warc_value.specs.declared.hash.Verdict.{Verdict}
 use Rattle.warc_value.specs.declared.hash.Verdict.TheVariants.{Good, Bad, Unchecked}
 use Rattle.warc_index.specs.Orders.{Indexes}
@@ -20,8 +18,8 @@ use Rattle.warc_reading.specs.Archive.{IsArchiveOf, contents}
 use Rattle.warc_reading.specs.Row.{Placed, Row}
 use Rattle.warc_lookup.specs.Indexed.{Archived, AreOf, IsIndexed, IsIndexedBy}
 use Rattle.warc_judged.specs.Counting.{verdict_at}
-use Rattle.warc_replay.specs.Capturing.{IsIndexedAt}
-use Rattle.warc_replay.specs.PayloadStates.{AreKnown}
+use Rattle.warc_replay.specs.Capturing.{AreKnownBlocks, IsIndexedAt}
+use Rattle.warc_replay.specs.PayloadStates.{AreKnown, holds_own}
 use Rattle.warc_replay.specs.PayloadVerdicts.{AreJudgedPayloads, IsJudgedPayload, PayloadJudgements}
 use Rattle.warc_replay.specs.Replaying.{AsksInside}
 use Rattle.warc_replay.specs.declared.record.digests.Known.{Known}
@@ -54,6 +52,10 @@ IsRightFor p (Some verdict) =
 abbrev pub AreRightFor : KnownPayloads → List Placed → Type 0
 AreRightFor known records = (position : ℕ) (p : Placed) → slice_get records position ≡ Some p
     → IsRightFor p (known_at known position)
+
+-- so is what is known of blocks too
+abbrev pub AreKnownFor : KnownPayloads → List Verdict → List Placed → Type 0
+AreKnownFor known blocks records = AreRightFor known records × AreKnownBlocks blocks records
 
 -- as many are kept as there are records, and they are right
 pub record AreKnownPayloads (known : KnownPayloads) (records : List Placed) : Type 0 where
@@ -88,12 +90,6 @@ pub record JudgesPayloadsBy (Right : List Placed → Type 0) (rows : List Row) (
 -- these bytes are the payload in a block, of an HTTP response or not
 abbrev pub IsPayloadOf : Bool → List ℕ → List ℕ → Type 0
 IsPayloadOf http block bytes = (stored : StoredPayload) × (stored.bytes ≡ bytes) × HasPayload http block (Some stored)
-
--- whether a record of a kind is judged by the payload in its own block
-abbrev pub holds_own : Kind → Bool
-holds_own kinds.Revisit = false
-holds_own kinds.Request = false
-holds_own _ = true
 
 -- these bytes are the payload in a record's own block, by which the record is judged
 pub record HoldsPayload (content : Record) (bytes : List ℕ) : Type 0 where

@@ -5,6 +5,7 @@ pub mod ComparedLemmas
 pub mod DigestLemmas
 pub mod ExtractLemmas
 pub mod GapLemmas
+pub mod GoodPayloadLemmas
 pub mod HeadingLemmas
 pub mod JoinedLemmas
 pub mod JudgedLemmas

@@ -4,6 +4,7 @@ pub mod Captures
 pub mod Capturing
 pub mod Extracting
 pub mod Finding
+pub mod GoodPayloads
 pub mod Heading
 pub mod Judged
 pub mod KnownGaps

@@ -1,6 +1,6 @@
 -- How the payloads of records are judged one after another, and the digests of origins' payloads that are kept
 -- meanwhile. States of the code.
-use Rattle.std.specs.Prelude.{◌≡◌, ℕ, ◌+◌, List, slice_get, Option, Some, None, Result, Ok, Err, IfErr, IfOk, OnOk}
+use Rattle.std.specs.Prelude.{◌≡◌, ℕ, Bool, true, false, List, slice_get, Option, Some, None, Result, Ok, Err, IfErr, IfOk}
 use Rattle.std.specs.Option.{option_map_or}
 use Rattle.warc_field.specs.Area.{Pair}
 use Rattle.warc_frame.specs.Effects.{FailsBy, Preserves}
@@ -8,6 +8,8 @@ use Rattle.warc_frame.specs.Record.{Record}
 use Rattle.warc_frame.specs.Seen.{IfHeld, SeenSource}
 use Rattle.warc_frame.specs.declared.fault.OutFault.{OutFault}
 use Rattle.warc_frame.specs.declared.fault.OutFault.TheVariants as outs
+use Rattle.warc_record.specs.declared.types.Kind.{Kind}
+use Rattle.warc_record.specs.declared.types.Kind.TheVariants as kinds
 use Rattle.warc_fixity.specs.Decoded.{stated_digest}
 use Rattle.warc_fixity.specs.declared.names.Algorithm.{Algorithm}
 use Rattle.warc_fixity.specs.declared.names.Algorithm.TheVariants.{Sha1}
@@ -25,7 +27,7 @@ use Rattle.warc_reading.specs.Row.{Placed, Row, row_of}
 use Rattle.warc_replay.specs.Capturing.{IsIndexedAt}
 use Rattle.warc_replay.specs.Looking.{AsksWithin}
 use Rattle.warc_replay.specs.Origins.{IsRecordAt}
-use Rattle.warc_replay.specs.PayloadVerdicts.{AreJudgedPayloads, IsJudgedPayload, IsOwnVerdict, IsRevisitVerdict, PayloadJudgements, payload_value}
+use Rattle.warc_replay.specs.PayloadVerdicts.{IsJudgedPayload, IsOwnVerdict, IsRevisitVerdict, payload_value}
 use Rattle.warc_replay.specs.Replaying.{AsksInside}
 use Rattle.warc_replay.specs.declared.record.comparison.Compared.{Compared}
 use Rattle.warc_replay.specs.declared.record.comparison.Holder.{Holder}
@@ -36,6 +38,12 @@ use Rattle.warc_replay.specs.declared.fault.TakeFault.TheVariants.{Read, Memory}
 use Rattle.warc_replay.specs.declared.record.payload.PayloadVerdict.{PayloadVerdict}
 use Rattle.warc_replay.specs.declared.record.payload.PayloadVerdict.TheVariants.{Unchecked}
 use Rattle.warc_replay.specs.declared.record.payload.Unjudged.TheVariants.{Request}
+
+-- whether a record of a kind is judged by the payload in its own block
+abbrev pub holds_own : Kind → Bool
+holds_own kinds.Revisit = false
+holds_own kinds.Request = false
+holds_own _ = true
 
 -- the algorithm by which a payload is digested: the one of the digest that a value states, if it states one
 abbrev pub algorithm_by : List ℕ → Algorithm
@@ -156,16 +164,3 @@ abbrev pub take_fault : OutFault → TakeFault
 take_fault (outs.Read sent) = Read
 take_fault (outs.Write sent) = Read
 take_fault (outs.Memory sent) = Memory
-
--- one more verdict, that on the payload of the record at a position, by rows, an index and parts
-pub record JudgesMorePayloads (rows : List Row) (index : Indexes) (parts : Parts) (position : ℕ)
-    (known knows : List Known) (judged judges : PayloadJudgements) (old new : SeenSource)
-    (answer : Result (Unit {0}) OutFault) : Type 0 where
-  pub reported : IfHeld old.holds (λ bytes. (is : IsArchiveOf bytes rows) → AreOf is.are.records index parts
-      → AreKnown (contents is.are.records) known → AreJudgedPayloads (contents is.are.records) position judged
-      → OnOk answer (AreKnown (contents is.are.records) knows
-      × AreJudgedPayloads (contents is.are.records) (position + 1) judges))
-  pub early : IfErr answer (λ e. IsEarly (Out e))
-  pub inside : AsksInside rows index parts old new
-  pub keeps : Preserves old new
-  pub fails : FailsBy (IsIndexedAt rows index parts position) answer old new

@@ -9,9 +9,12 @@ mod replay;
 pub use fault::{BodyFault, ExtractFault, TakeFault};
 pub use record::comparison::{Compared, compare_at, take_payload};
 pub use record::digests::KnownDigests;
+pub use record::good_payload::learn_origin;
 pub use record::head::take_head_at;
 pub use record::part::Part;
-pub use record::payload::{PayloadVerdict, Unjudged, payload_value, plain_verdict, reason_of};
+pub use record::payload::{
+    PayloadVerdict, Unjudged, holds_own, payload_value, plain_verdict, reason_of,
+};
 pub use record::range::{send_part, send_range};
 pub use record::verdict::{take_stated_at, take_verdict_at};
 pub use record::whole::take_record_at;

@@ -2,6 +2,7 @@
 
 pub(crate) mod comparison;
 pub(crate) mod digests;
+pub(crate) mod good_payload;
 pub(crate) mod head;
 pub(crate) mod part;
 pub(crate) mod payload;

@@ -10,7 +10,7 @@ ghost use Rattle.warc_reading.specs.Judging.{IsNextPlain};
 ghost use Rattle.warc_reading.specs.Row.{Placed};
 ghost use Rattle.warc_checking.specs.Batch.{verdict_with};
 ghost use Rattle.warc_replay.specs.PayloadVerdicts.{payload_value};
-ghost use Rattle.warc.specs.KnownPayloads.{AreKnownPayloads, AreRightFor, HoldsPayload, IsPayloadOf, IsRightFor, holds_own, known_at, known_by};
+ghost use Rattle.warc.specs.KnownPayloads.{AreKnownPayloads, AreRightFor, HoldsPayload, IsPayloadOf, IsRightFor, known_at, known_by};
 
 use std::alloc::{AllocError, Allocator};
 use std::marker::Model;
@@ -23,8 +23,8 @@ use warc_payload::laws::front_has_head;
 use warc_payload::{body_start, front};
 use warc_quick::{QuickHead, QuickRecord};
 use warc_reading::{Keep, NoBlock};
-use warc_record::{GoodHead, Kind, Typed};
-use warc_replay::{PayloadVerdict, payload_value};
+use warc_record::{GoodHead, Typed};
+use warc_replay::{PayloadVerdict, holds_own, payload_value};
 use warc_value::Verdict;
 
 /// The verdict that is known, by whether a digest is stated and how the payload compares with it.
@@ -92,16 +92,6 @@ fn states_payload<A: Allocator>(fields: &Fields<A>) -> bool
     ensures { result ≡ false → payload_value fields.now ≡ [] }
 {
     !payload_value(fields).is_empty()
-}
-
-/// Whether a record of this kind is judged by the payload in its own block.
-fn holds_own(kind: Kind) -> bool
-    ensures { result ≡ holds_own kind }
-{
-    match kind {
-        Kind::Revisit | Kind::Request => false,
-        _ => true,
-    }
 }
 
 /// What follows the first `len` bytes of a text that has as many.

@@ -3,22 +3,23 @@ ghost use Rattle.std.specs.Prelude.{◌≡◌, ◌<◌, [], ◌∷◌, ◌++◌,
 ghost use Rattle.std.specs.List.{list_all, list_any};
 ghost use Rattle.warc_frame.specs.Effects.{Puts, SendsText};
 ghost use Rattle.warc_judged.specs.Fixity.{digest_at};
-ghost use Rattle.warc_replay.specs.PayloadStates.{JudgesMorePayloads};
+ghost use Rattle.warc_replay.specs.Capturing.{AreKnownBlocks};
 ghost use Rattle.warc_replay.specs.PayloadText.{are_verified, is_payload_verdict, is_verified, payload_counts, payload_line, payload_line_if, payload_tally, payloads_text};
 ghost use Rattle.warc_replay.specs.PayloadVerdicts.{JudgesPayloads, payload_verdict_at, value_shown};
-ghost use Rattle.warc.specs.KnownPayloads.{AreRightFor, JudgesMoreBy, JudgesPayloadsBy};
+ghost use Rattle.warc.specs.KnownPayloads.{AreKnownFor, AreRightFor, JudgesMoreBy, JudgesPayloadsBy};
 
 use crate::opened::known_payloads::KnownPayloads;
 use itoa::Buffer;
 use std::alloc::{AllocError, Allocator, Global};
 use std::marker::Model;
 use warc_frame::{OutBuffer, OutFault, SendFault, Sink, Source, put_columns};
-use warc_judged::{Counts, is_verdict, one_if, put_counts, shown_as, verdict_text};
+use warc_judged::{Counts, Verdicts, is_verdict, one_if, put_counts, shown_as, verdict_text};
 use warc_lookup::Lookup;
 use warc_reading::{Row, Rows};
 use warc_record::bare;
 use warc_replay::{
-    KnownDigests, PayloadVerdict, Unjudged, compare_at, payload_value, plain_verdict, reason_of,
+    KnownDigests, PayloadVerdict, Unjudged, compare_at, learn_origin, payload_value, plain_verdict,
+    reason_of,
 };
 use warc_value::Verdict;
 
@@ -145,6 +146,13 @@ impl<A: Allocator + Copy> Payloads<A> {
 }
 
 impl<A: Allocator> Payloads<A> {
+    /// How each payload compares with its digest.
+    fn verdicts(&self) -> &[Option<PayloadVerdict>]
+        ensures { result.now ≡ self.now.verdicts }
+    {
+        &self.verdicts
+    }
+
     /// How the payload of the record at a position compares with its digest.
     fn verdict(&self, position: usize) -> Option<PayloadVerdict>
         ensures { result ≡ payload_verdict_at self.now.verdicts position }
@@ -268,18 +276,23 @@ pub(crate) fn list_payloads<W: Sink, A: Allocator>(
     Ok(())
 }
 
-/// Adds the verdict on the payload of the record at a position, the next one, which is read again.
+/// Adds the verdict on the payload of the record at a position, the next one, which is read again. If it is a revisit
+/// of a record whose payload is good, what that one states is its digest.
 fn judge_again<S: Source, A: Allocator + Copy>(
     source: &mut S,
     rows: &Rows<A>,
     lookup: &Lookup<A>,
+    blocks: &Verdicts<A>,
     position: usize,
     digested: &mut KnownDigests<A>,
     payloads: &mut Payloads<A>,
 ) -> Result<(), OutFault>
-    ensures { JudgesMorePayloads rows.now lookup.now.index lookup.now.parts position digested.old.known.items
-        digested.new.known.items payloads.old payloads.new (S.seen source.old) (S.seen source.new) result }
+    ensures { JudgesMoreBy (AreKnownBlocks blocks.now) rows.now lookup.now.index lookup.now.parts position
+        digested.old.known.items digested.new.known.items payloads.old payloads.new (S.seen source.old)
+        (S.seen source.new) result }
 {
+    let found = payloads.verdicts();
+    learn_origin(source, rows, lookup, position, blocks, found, digested)?;
     let next = compare_at(source, rows, lookup, position, digested)?;
     let value = payload_value(next.head.fields());
     payloads.add_or_fail(rows.allocator(), next.verdict, value)
@@ -291,30 +304,33 @@ fn judge_next<S: Source, A: Allocator + Copy>(
     rows: &Rows<A>,
     lookup: &Lookup<A>,
     known: &KnownPayloads<A>,
+    blocks: &Verdicts<A>,
     position: usize,
     digested: &mut KnownDigests<A>,
     payloads: &mut Payloads<A>,
 ) -> Result<(), OutFault>
     requires { position < length rows.now }
-    ensures { JudgesMoreBy (AreRightFor known.now) rows.now lookup.now.index lookup.now.parts position
+    ensures { JudgesMoreBy (AreKnownFor known.now blocks.now) rows.now lookup.now.index lookup.now.parts position
         digested.old.known.items digested.new.known.items payloads.old payloads.new (S.seen source.old)
         (S.seen source.new) result }
 {
     match known.verdict(position) {
         Some(verdict) => payloads.add_or_fail(rows.allocator(), verdict, b""),
-        None => judge_again(source, rows, lookup, position, digested, payloads),
+        None => judge_again(source, rows, lookup, blocks, position, digested, payloads),
     }
 }
 
-/// The verdicts on the payloads of all records, of which some are known. Each other record is read again, and each
-/// origin of revisits among them once for each algorithm that these revisits ask for.
-pub(crate) fn judge_payloads<S: Source, A: Allocator + Copy>(
+/// The verdicts on the payloads of all records, of which some are known, by what is known of blocks. Each other record
+/// is read again, and each origin of revisits once for each algorithm that these revisits ask for. A payload that is
+/// good isn't hashed again by the algorithm of its digest, and a block isn't of which the verdict is known.
+pub(crate) fn judge_payloads_by<S: Source, A: Allocator + Copy>(
     source: &mut S,
     rows: &Rows<A>,
     lookup: &Lookup<A>,
     known: &KnownPayloads<A>,
+    blocks: &Verdicts<A>,
 ) -> Result<Payloads<A>, OutFault>
-    ensures { JudgesPayloadsBy (AreRightFor known.now) rows.now lookup.now.index lookup.now.parts
+    ensures { JudgesPayloadsBy (AreKnownFor known.now blocks.now) rows.now lookup.now.index lookup.now.parts
         (S.seen source.old) (S.seen source.new) result }
 {
     let alloc = rows.allocator();
@@ -328,6 +344,7 @@ pub(crate) fn judge_payloads<S: Source, A: Allocator + Copy>(
             rows,
             lookup,
             known,
+            blocks,
             position,
             &mut digested,
             &mut payloads,
@@ -336,7 +353,21 @@ pub(crate) fn judge_payloads<S: Source, A: Allocator + Copy>(
     Ok(payloads)
 }
 
-/// The same where nothing is known of any payload.
+/// The same where nothing is known of any block.
+pub(crate) fn judge_payloads<S: Source, A: Allocator + Copy>(
+    source: &mut S,
+    rows: &Rows<A>,
+    lookup: &Lookup<A>,
+    known: &KnownPayloads<A>,
+) -> Result<Payloads<A>, OutFault>
+    ensures { JudgesPayloadsBy (AreRightFor known.now) rows.now lookup.now.index lookup.now.parts
+        (S.seen source.old) (S.seen source.new) result }
+{
+    let blocks = Verdicts::new(rows.allocator());
+    judge_payloads_by(source, rows, lookup, known, &blocks)
+}
+
+/// The same where nothing is known of any payload either.
 pub(crate) fn judge_all_payloads<S: Source, A: Allocator + Copy>(
     source: &mut S,
     rows: &Rows<A>,

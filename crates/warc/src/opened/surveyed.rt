@@ -18,7 +18,7 @@ ghost use Rattle.warc_judged.specs.Summary.{summary_text};
 ghost use Rattle.warc.specs.Survey.{AreGathered, IsSurveyKept, IsSurveyed, PutsPart, WritesSurvey, known_text, part_name};
 
 use crate::opened::known_payloads::{KnownPayloads, WaitingPayloads};
-use crate::opened::payloads::{Payloads, judge_payloads, put_payloads};
+use crate::opened::payloads::{Payloads, judge_payloads_by, put_payloads};
 use std::alloc::{Allocator, Global};
 use std::marker::Model;
 use warc_checking::{OwnFindings, mark_each, put_findings};
@@ -284,7 +284,7 @@ fn write_survey<S: Source, W: Sink, A: Allocator + Copy>(
 {
     head_of_spelled();
     let summary = summary_of(rows, &parts.segmented, parts.digests.verdicts());
-    let payloads = judge_payloads(source, rows, &parts.lookup, &parts.known)?;
+    let payloads = judge_payloads_by(source, rows, &parts.lookup, &parts.known, &parts.wanted)?;
     let mut buffer = OutBuffer::new();
     put_known(
         rows,

@@ -28,7 +28,7 @@ use warc_reading::{Row, Rows, buffer_for, reread_good};
 use warc_record::{GoodHead, Kind, Typed};
 
 /// The head of the record of a row, which is read again.
-fn head_of_row<S: Source, A: Allocator + Copy>(
+pub(crate) fn head_of_row<S: Source, A: Allocator + Copy>(
     alloc: A,
     source: &mut S,
     row: &Row<'_>,

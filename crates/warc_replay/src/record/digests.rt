@@ -1,5 +1,5 @@
 //! The digests of the payloads of origins, each of which is computed once for an algorithm.
-ghost use Rattle.std.specs.Prelude.{◌≡◌, List, IfOk, IfSome, IsTrue, OnOk};
+ghost use Rattle.std.specs.Prelude.{◌≡◌, ◌==◌, not, List, IfOk, IfSome, IsTrue, OnOk, slice_get, unwrap_or};
 ghost use Rattle.warc_frame.specs.Record.{Record};
 ghost use Rattle.warc_replay.specs.PayloadStates.{AreKnown, DigestsOnce, DigestsOrigin, DigestsPath, IsKnownOf, IsOriginDigest, no_digest};
 
@@ -87,8 +87,15 @@ impl<A: Allocator> KnownDigests<A> {
         })
     }
 
+    /// Whether a digest is known of an origin.
+    pub(crate) fn knows(&self, origin: usize) -> bool
+        ensures { result ≡ not (unwrap_or (slice_get self.now.slots.items origin) 0 == 0) }
+    {
+        self.slots.get(origin).copied().unwrap_or(0) != 0
+    }
+
     /// Adds the digest of the payload of an origin.
-    fn add(
+    pub(crate) fn add(
         &mut self,
         origin: usize,
         algorithm: Algorithm,
@@ -112,7 +119,7 @@ impl<A: Allocator> KnownDigests<A> {
 }
 
 /// What is digested of an origin that isn't found: nothing where its blocks don't join.
-fn no_digest(fault: ReplayFault) -> Result<Option<PayloadDigest>, OutFault>
+pub(crate) fn no_digest(fault: ReplayFault) -> Result<Option<PayloadDigest>, OutFault>
     ensures { result ≡ no_digest fault }
 {
     match fault {

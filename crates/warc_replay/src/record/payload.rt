@@ -3,7 +3,7 @@ ghost use Rattle.std.specs.Prelude.{◌≡◌, ◌≢◌, true, false, [], Optio
 ghost use Rattle.warc_fixity.specs.Decoded.{stated_digest};
 ghost use Rattle.warc_fixity.specs.Judged.{digest_seen};
 ghost use Rattle.warc_answer.specs.Hashed.{IsDigestOf, StoredPayload};
-ghost use Rattle.warc_replay.specs.PayloadStates.{algorithm_by, algorithm_for};
+ghost use Rattle.warc_replay.specs.PayloadStates.{algorithm_by, algorithm_for, holds_own};
 ghost use Rattle.warc_replay.specs.PayloadText.{plain_verdict, reason_of, unjudged_text};
 ghost use Rattle.warc_replay.specs.PayloadVerdicts.{by_stated, compared, payload_value, payload_verdict, revisit_verdict};
 
@@ -14,6 +14,7 @@ use warc_field::Fields;
 use warc_fixity::{Algorithm, Digest};
 use warc_frame::names;
 use warc_judged::has_segment_number;
+use warc_record::Kind;
 use warc_value::Verdict;
 
 /// Why a payload isn't judged: the first reason that applies.
@@ -109,6 +110,16 @@ pub(crate) fn states_payload<A: Allocator>(fields: &Fields<A>) -> bool
     ensures none { result ≡ false → payload_value fields.now ≡ [] }
 {
     !payload_value(fields).is_empty()
+}
+
+/// Whether a record of this kind is judged by the payload in its own block.
+pub fn holds_own(kind: Kind) -> bool
+    ensures { result ≡ holds_own kind }
+{
+    match kind {
+        Kind::Revisit | Kind::Request => false,
+        _ => true,
+    }
 }
 
 /// The algorithm by which a payload is digested.

@@ -43,11 +43,11 @@ returns-in_err-put_known g c =
       reported = λ bytes held is has. tt;
       cut = λ bytes held is has.
           let judged = survey_judged bytes rows kept is has summary counted c.head_of_spelled.ensures in
-          let found = judges.reported bytes held is has.found has.known_are in
+          let found = judges.reported bytes held is has.found (has.known_are, survey_known bytes rows kept is has summary counted) in
           survey_begun bytes rows kept is has summary counted payloads found _ _ _ ((known.puts bytes is.are.records judged).cut start [] (c.new-buffer.ensures.begins start));
       inside = judges.inside;
       keeps = judges.keeps;
-      fails = fails_after {mid = g.S.Source.seen c.judge_payloads.new.source} judges.keeps.kept judges.fails.may (record { may = unread_may _ _ known.unread; failed = λ bytes held is. unread_has _ _ known.unread });
+      fails = fails_after {mid = g.S.Source.seen c.judge_payloads_by.new.source} judges.keeps.kept judges.fails.may (record { may = unread_may _ _ known.unread; failed = λ bytes held is. unread_has _ _ known.unread });
       cause = known.cause;
     }))
 
@@ -68,11 +68,11 @@ returns-in_err-put_outcomes g c =
       reported = λ bytes held is has. tt;
       cut = λ bytes held is has.
           let judged = survey_judged bytes rows kept is has summary counted c.head_of_spelled.ensures in
-          let found = judges.reported bytes held is has.found has.known_are in
+          let found = judges.reported bytes held is has.found (has.known_are, survey_known bytes rows kept is has summary counted) in
           let staged = (known.puts bytes is.are.records judged).out start [] (c.new-buffer.ensures.begins start) in
           let outcomes = puts.are bytes (judges.keeps.kept ∙ held) is has.found (survey_known bytes rows kept is has summary counted) in
           survey_listed bytes rows kept is has summary counted payloads found _ _ (length puts.captures) _ puts.captures outcomes (puts.cut start _ staged);
-      inside = λ bytes is. asks_both (λ q. q < length bytes) (g.S.Source.seen c.args.source.now) (g.S.Source.seen c.judge_payloads.new.source) (g.S.Source.seen c.put_outcomes.new.source).watched_reads judges.keeps.watched (judges.inside bytes is) (puts.inside bytes is);
+      inside = λ bytes is. asks_both (λ q. q < length bytes) (g.S.Source.seen c.args.source.now) (g.S.Source.seen c.judge_payloads_by.new.source) (g.S.Source.seen c.put_outcomes.new.source).watched_reads judges.keeps.watched (judges.inside bytes is) (puts.inside bytes is);
       keeps = preserves_both judges.keeps puts.keeps;
       fails = fails_after judges.keeps.kept judges.fails.may (fails_more (λ bytes held (is, of). (is, of, captures_inside rows is.are.records is.are.rows_are)) puts.fails);
       cause = puts.cause ∙ failed_on _ known.cause;
@@ -96,11 +96,11 @@ returns-in_err-put_judged g c =
       reported = λ bytes held is has. tt;
       cut = λ bytes held is has.
           let judged = survey_judged bytes rows kept is has summary counted c.head_of_spelled.ensures in
-          let found = judges.reported bytes held is has.found has.known_are in
+          let found = judges.reported bytes held is has.found (has.known_are, survey_known bytes rows kept is has summary counted) in
           let staged = puts.out start _ ((known.puts bytes is.are.records judged).out start [] (c.new-buffer.ensures.begins start)) in
           let outcomes = puts.are bytes (judges.keeps.kept ∙ held) is has.found (survey_known bytes rows kept is has summary counted) in
           survey_front bytes rows kept is has summary counted payloads found _ _ (length puts.captures) _ puts.captures outcomes (last.cut start _ staged);
-      inside = λ bytes is. asks_both (λ q. q < length bytes) (g.S.Source.seen c.args.source.now) (g.S.Source.seen c.judge_payloads.new.source) (g.S.Source.seen c.put_outcomes.new.source).watched_reads judges.keeps.watched (judges.inside bytes is) (puts.inside bytes is);
+      inside = λ bytes is. asks_both (λ q. q < length bytes) (g.S.Source.seen c.args.source.now) (g.S.Source.seen c.judge_payloads_by.new.source) (g.S.Source.seen c.put_outcomes.new.source).watched_reads judges.keeps.watched (judges.inside bytes is) (puts.inside bytes is);
       keeps = preserves_both judges.keeps puts.keeps;
       fails = record { may = puts.fails.may ∙ judges.fails.may; failed = λ bytes held is. puts.fails.may ∙ judges.fails.may };
       cause = last.cause ∙ ap raised (puts.cause ∙ known.cause);
@@ -124,11 +124,11 @@ returns-in_err-flush g c =
       reported = λ bytes held is has. tt;
       cut = λ bytes held is has.
           let judged = survey_judged bytes rows kept is has summary counted c.head_of_spelled.ensures in
-          let found = judges.reported bytes held is has.found has.known_are in
+          let found = judges.reported bytes held is has.found (has.known_are, survey_known bytes rows kept is has summary counted) in
           let staged = puts.out start _ ((known.puts bytes is.are.records judged).out start [] (c.new-buffer.ensures.begins start)) in
           let outcomes = puts.are bytes (judges.keeps.kept ∙ held) is has.found (survey_known bytes rows kept is has summary counted) in
           survey_front bytes rows kept is has summary counted payloads found _ _ (length puts.captures) _ puts.captures outcomes (c.in_err-flush.ensures.cut start _ (last.out start _ staged));
-      inside = λ bytes is. asks_both (λ q. q < length bytes) (g.S.Source.seen c.args.source.now) (g.S.Source.seen c.judge_payloads.new.source) (g.S.Source.seen c.put_outcomes.new.source).watched_reads judges.keeps.watched (judges.inside bytes is) (puts.inside bytes is);
+      inside = λ bytes is. asks_both (λ q. q < length bytes) (g.S.Source.seen c.args.source.now) (g.S.Source.seen c.judge_payloads_by.new.source) (g.S.Source.seen c.put_outcomes.new.source).watched_reads judges.keeps.watched (judges.inside bytes is) (puts.inside bytes is);
       keeps = preserves_both judges.keeps puts.keeps;
       fails = record { may = puts.fails.may ∙ judges.fails.may; failed = λ bytes held is. puts.fails.may ∙ judges.fails.may };
       cause = c.in_err-flush.ensures.cause ∙ ap raised (last.cause ∙ puts.cause ∙ known.cause);
@@ -150,12 +150,12 @@ returns g c =
     writes_as kept c.args.parts.now c.parts.view_is (record {
       reported = λ bytes held is has.
           let judged = survey_judged bytes rows kept is has summary counted c.head_of_spelled.ensures in
-          let found = judges.reported bytes held is has.found has.known_are in
+          let found = judges.reported bytes held is has.found (has.known_are, survey_known bytes rows kept is has summary counted) in
           let staged = puts.out start _ ((known.puts bytes is.are.records judged).out start [] (c.new-buffer.ensures.begins start)) in
           let outcomes = puts.are bytes (judges.keeps.kept ∙ held) is has.found (survey_known bytes rows kept is has summary counted) in
           survey_out bytes rows kept is has summary counted payloads found _ _ puts.captures outcomes puts.all (c.in_ok-flush.ensures.reported start _ (last.out start _ staged));
       cut = λ bytes held is has. tt;
-      inside = λ bytes is. asks_both (λ q. q < length bytes) (g.S.Source.seen c.args.source.now) (g.S.Source.seen c.judge_payloads.new.source) (g.S.Source.seen c.put_outcomes.new.source).watched_reads judges.keeps.watched (judges.inside bytes is) (puts.inside bytes is);
+      inside = λ bytes is. asks_both (λ q. q < length bytes) (g.S.Source.seen c.args.source.now) (g.S.Source.seen c.judge_payloads_by.new.source) (g.S.Source.seen c.put_outcomes.new.source).watched_reads judges.keeps.watched (judges.inside bytes is) (puts.inside bytes is);
       keeps = preserves_both judges.keeps puts.keeps;
       fails = record { may = puts.fails.may ∙ judges.fails.may; failed = λ bytes held is. puts.fails.may ∙ judges.fails.may };
       cause = c.in_ok-flush.ensures.cause ∙ last.cause ∙ puts.cause ∙ known.cause;
