@@ -33,7 +33,7 @@ pub(crate) fn say_end(
         answer.extend_from_slice(b"! ")?;
         answer.extend_from_slice(&ended.err)?;
     }
-    let status = format!(in alloc; "= {}\n", ended.status)?;
+    let status = format!(in alloc; "= {}\n", ended.status.code())?;
     answer.extend_from_slice(status.as_bytes())
 }
 

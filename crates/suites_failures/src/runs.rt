@@ -2,7 +2,7 @@
 
 use crate::endless::EndlessSource;
 use std::alloc::{AllocError, Allocator, Global};
-use warc_commands::{Command, perform};
+use warc_commands::{Command, Status, perform};
 use warc_frame::{MemSink, MemSource, Sink, Source};
 use warc_stream::StreamSource;
 use warc_vectors::{Break, BrokenSource, BrokenWriter, ChangingSource, RefusingAllocator};
@@ -12,11 +12,11 @@ use warc_vectors::{Break, BrokenSource, BrokenWriter, ChangingSource, RefusingAl
 pub(crate) struct Ended {
     pub(crate) out: Vec<u8>,
     pub(crate) err: Vec<u8>,
-    pub(crate) status: u8,
+    pub(crate) status: Status,
 }
 
 impl Ended {
-    pub(crate) fn is(&self, out: &[u8], err: &[u8], status: u8) -> bool {
+    pub(crate) fn is(&self, out: &[u8], err: &[u8], status: Status) -> bool {
         self.out.as_slice() == out && self.err.as_slice() == err && self.status == status
     }
 
@@ -42,7 +42,7 @@ fn reported<S: Source + Drop, A: Allocator + Copy, W: Sink>(
     asked: Asked<'_>,
     source: S,
     out: &mut W,
-) -> (Vec<u8>, u8, S) {
+) -> (Vec<u8>, Status, S) {
     let mut err = MemSink::new(Vec::new(alloc));
     let (status, source) = perform(heap, asked.command, asked.list, source, out, &mut err);
     (err.into_inner(), status, source)

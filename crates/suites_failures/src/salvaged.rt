@@ -3,6 +3,7 @@
 use crate::plain::{good_len, read_plainly};
 use crate::runs::Ended;
 use std::alloc::{AllocError, Global};
+use warc_commands::Status;
 
 /// Whether a run reports this fault, and wrote these records, which are good, and no more.
 pub(crate) fn is_salvaged(
@@ -13,7 +14,7 @@ pub(crate) fn is_salvaged(
 ) -> Result<bool, AllocError> {
     let (count, len) = (read_plainly(alloc, records).unwrap_or(0), records.len());
     let line = format!(in alloc; "warc: {fault}\nwarc: salvaged {count} records, {len} bytes\n")?;
-    Ok(ended.is(records, line.as_bytes(), 3))
+    Ok(ended.is(records, line.as_bytes(), Status::Failed))
 }
 
 /// The good records that the first bytes of an archive begin with.

@@ -4,7 +4,7 @@ use crate::lines::say_count;
 use crate::runs::{Asked, Ended, Refused, run_broken, run_cut, run_in_pieces, run_refused};
 use crate::salvaged::{good_in, is_salvaged};
 use std::alloc::{AllocError, Global};
-use warc_commands::Command;
+use warc_commands::{Command, Status};
 use warc_vectors::Break;
 
 /// More failures than any run of the suites has.
@@ -28,12 +28,12 @@ pub(crate) enum Stage {
 fn is_cut(alloc: Global, ended: &Ended, whole: &Ended, reported: &str) -> Result<bool, AllocError> {
     let line = format!(in alloc; "warc: {reported} after {}\n", ended.out.len())?;
     let is_front = whole.out.starts_with(&ended.out);
-    Ok(is_front && ended.err.as_slice() == line.as_bytes() && ended.status == 3)
+    Ok(is_front && ended.err.as_slice() == line.as_bytes() && ended.status == Status::Failed)
 }
 
 /// Whether a run failed before anything went out, and reports a line that begins so.
 fn is_begun(ended: &Ended, line: &[u8]) -> bool {
-    ended.out.is_empty() && ended.err.starts_with(line) && ended.status == 3
+    ended.out.is_empty() && ended.err.starts_with(line) && ended.status == Status::Failed
 }
 
 /// Whether a run failed since the read of the bytes from an offset on did, before the archive was open. Then nothing

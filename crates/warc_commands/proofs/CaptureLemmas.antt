@@ -23,6 +23,8 @@ use Rattle.warc_replay.specs.Captures.{captures_text}
 use Rattle.warc_replay.specs.Capturing.{AreFirstOutcomes, AreIndexedAt, AreOutcomes, SendsCaptures}
 use Rattle.warc_replay.specs.Outcomes.{CaptureSeen}
 use Rattle.warc_arguments.specs.Digits.{uri_named}
+use Rattle.warc_arguments.specs.declared.status.Status.{Status}
+use Rattle.warc_arguments.specs.declared.status.Status.TheVariants.{Failed}
 use Rattle.warc_commands.specs.Captures.{AnswerEnds, AreFrontIn, AreListed, CapturesEnds, CountEnds, WritesListed}
 use Rattle.warc_commands.specs.Devices.{Devices, devices}
 use Rattle.warc_commands.specs.Program.{Reports, reported_line}
@@ -43,14 +45,14 @@ none_out : (reported : Option (List ℕ)) (rows : List Row) → WentOut reported
 unfolding captures_text
 none_out reported rows = record { count = 0; within = omega arith; reported = sym (nothing_more reported); number = refl }
 
-count_by : (n : ℕ) (captures : List CaptureSeen) (old new : Seen) (status : ℕ) → n ≡ length captures → AnswerEnds (Ok n) old new status → CountEnds captures old new status
+count_by : (n : ℕ) (captures : List CaptureSeen) (old new : Seen) (status : Status) → n ≡ length captures → AnswerEnds (Ok n) old new status → CountEnds captures old new status
 count_by n [] old new status count (inl none) = (none.1, none.2)
 count_by n [] old new status count (inr some) = absurd (omega (arith, count, some.0))
 count_by n (c ∷ cs) old new status count (inl none) = absurd (omega (arith, count, none.0))
 count_by n (c ∷ cs) old new status count (inr some) = (some.1, some.2)
 
 -- how the command ends, by what was written
-pub captures_end : {X : Type 0} {Is : List ℕ → X → Type 0} (uri : Option (List ℕ)) (archive : X) (rows : List Row) (answer : Result ℕ OutFault) (old mid last new : SeenSource) (out out' err err' : Seen) (status : ℕ)
+pub captures_end : {X : Type 0} {Is : List ℕ → X → Type 0} (uri : Option (List ℕ)) (archive : X) (rows : List Row) (answer : Result ℕ OutFault) (old mid last new : SeenSource) (out out' err err' : Seen) (status : Status)
     → Opens Is old mid (Ok archive) → WritesListed (λ bytes. Is bytes archive) uri rows mid last out out' answer → new.faults ≡ last.faults → AnswerEnds answer err err' status
     → CapturesEnds uri (devices old out err) (devices new out' err') status
 captures_end uri archive rows (Ok count) old mid last new out out' err err' status opened writes same ends = inl (record {
@@ -162,39 +164,39 @@ module _ {Is : List ℕ → Type 0} {Right : List Placed → Type 0} {uri : Opti
 -- ---- a URI in digits
 
 -- a command that is given a URI as it is
-pub uri_plain : (ends : List ℕ → Devices → Devices → ℕ → Type 0) (in_hex : Bool) (word bytes : List ℕ) (old new : Devices) (status : ℕ) → in_hex ≡ false → bytes ≡ word
+pub uri_plain : (ends : List ℕ → Devices → Devices → Status → Type 0) (in_hex : Bool) (word bytes : List ℕ) (old new : Devices) (status : Status) → in_hex ≡ false → bytes ≡ word
     → ends bytes old new status → UriEnds ends in_hex (uri_named in_hex word) old new status
 uri_plain ends in_hex word bytes old new status plain same is =
     subst (λ (b : Bool). UriEnds ends b (uri_named b word) old new status) (sym plain) (inl (subst (λ (w : List ℕ). ends w old new status) same is))
 
-pub uri_hex : (ends : List ℕ → Devices → Devices → ℕ → Type 0) (in_hex : Bool) (word : List ℕ) (old new : Devices) (status : ℕ) → in_hex ≡ true
+pub uri_hex : (ends : List ℕ → Devices → Devices → Status → Type 0) (in_hex : Bool) (word : List ℕ) (old new : Devices) (status : Status) → in_hex ≡ true
     → UriEnds ends true (uri_named true word) old new status → UriEnds ends in_hex (uri_named in_hex word) old new status
 uri_hex ends in_hex word old new status hex is = subst (λ (b : Bool). UriEnds ends b (uri_named b word) old new status) (sym hex) is
 
-pub uri_found : {X : Type 0} (ends : X → Devices → Devices → ℕ → Type 0) (o : Option X) (x : X) (old new : Devices) (status : ℕ) → o ≡ Some x → ends x old new status
+pub uri_found : {X : Type 0} (ends : X → Devices → Devices → Status → Type 0) (o : Option X) (x : X) (old new : Devices) (status : Status) → o ≡ Some x → ends x old new status
     → UriEnds ends true o old new status
 uri_found ends o x old new status same is = subst (λ o. UriEnds ends true o old new status) (sym same) (inl is)
 
-pub listed_plain : (in_hex : Bool) (uri other : Option (List ℕ)) (old new : Devices) (status : ℕ) → in_hex ≡ false → other ≡ uri → CapturesEnds other old new status
+pub listed_plain : (in_hex : Bool) (uri other : Option (List ℕ)) (old new : Devices) (status : Status) → in_hex ≡ false → other ≡ uri → CapturesEnds other old new status
     → UriEnds CapturesEnds in_hex (uri_listed in_hex uri) old new status
 listed_plain in_hex uri other old new status plain same is =
     subst (λ (b : Bool). UriEnds CapturesEnds b (uri_listed b uri) old new status) (sym plain) (inl (subst (λ (o : Option (List ℕ)). CapturesEnds o old new status) same is))
 
-pub listed_hex : (in_hex : Bool) (uri : Option (List ℕ)) (old new : Devices) (status : ℕ) → in_hex ≡ true → UriEnds CapturesEnds true (uri_listed true uri) old new status
+pub listed_hex : (in_hex : Bool) (uri : Option (List ℕ)) (old new : Devices) (status : Status) → in_hex ≡ true → UriEnds CapturesEnds true (uri_listed true uri) old new status
     → UriEnds CapturesEnds in_hex (uri_listed in_hex uri) old new status
 listed_hex in_hex uri old new status hex is = subst (λ (b : Bool). UriEnds CapturesEnds b (uri_listed b uri) old new status) (sym hex) is
 
-pub listed_as : (uri other : Option (List ℕ)) (old new : Devices) (status : ℕ) → uri ≡ other → UriEnds CapturesEnds true (uri_listed true other) old new status
+pub listed_as : (uri other : Option (List ℕ)) (old new : Devices) (status : Status) → uri ≡ other → UriEnds CapturesEnds true (uri_listed true other) old new status
     → UriEnds CapturesEnds true (uri_listed true uri) old new status
 listed_as uri other old new status same is = subst (λ (o : Option (List ℕ)). UriEnds CapturesEnds true (uri_listed true o) old new status) (sym same) is
 
-starved : {X : Type 0} (ends : X → Devices → Devices → ℕ → Type 0) (o : Option X) (old new : Devices) (status : ℕ) → IsStarved old new status → UriEnds ends true o old new status
+starved : {X : Type 0} (ends : X → Devices → Devices → Status → Type 0) (o : Option X) (old new : Devices) (status : Status) → IsStarved old new status → UriEnds ends true o old new status
 starved ends None old new status is = inr is
 starved ends (Some x) old new status is = inr is
 
 -- nothing was read, since the digits name nothing or memory is wanting
-pub uri_refused : {X : Type 0} (ends : X → Devices → Devices → ℕ → Type 0) (o : Option X) (fault : UriFault) (source : SeenSource) (out err err' : Seen) (status : ℕ)
-    → (fault ≡ Digits → o ≡ None) → Reports (reported_line (uri_fault_text fault)) err err' → status ≡ 3
+pub uri_refused : {X : Type 0} (ends : X → Devices → Devices → Status → Type 0) (o : Option X) (fault : UriFault) (source : SeenSource) (out err err' : Seen) (status : Status)
+    → (fault ≡ Digits → o ≡ None) → Reports (reported_line (uri_fault_text fault)) err err' → status ≡ Failed
     → UriEnds ends true o (devices source out err) (devices source out err') status
 uri_refused ends o Digits source out err err' status none reports is =
     subst (λ o. UriEnds ends true o (devices source out err) (devices source out err') status) (sym (none refl)) (inl (record { unread = refl; untouched = refl; reported = reports; status_is = is }))

@@ -13,6 +13,7 @@ use Rattle.warc_frame.specs.Seen.{Seen, SeenSource}
 use Rattle.warc_frame.specs.declared.fault.OutFault.{OutFault}
 use Rattle.warc_frame.proofs.EffectLemmas.{fails_as, fails_more}
 use Rattle.warc_rewrite.specs.Selecting.{AreOthers, ArePositions, IsSelection, selected_text}
+use Rattle.warc_arguments.specs.declared.status.Status.{Status}
 use Rattle.warc_commands.specs.Devices.{Devices, devices}
 use Rattle.warc_commands.specs.Selected.{AreTheNamed, AreWanted, ChosenEnds, SelectEnds, SendEnds, selected_line}
 use Rattle.warc_commands.specs.Program.{reported_line}
@@ -76,7 +77,7 @@ pub fails_over : (rows : List Row) (ps : List ℕ) {e : OutFault} {old new : See
 fails_over rows ps {e} {old} {new} fails = fails_as (Unit {0}) ℕ (fails_more (λ bytes held is. (selected_text rows ps bytes, (is, refl))) fails)
 
 -- the same, from what the source was before the archive was opened
-module _ {rows : List Row} {old mid : SeenSource} (kept : mid.holds ≡ old.holds) (cause : mid.faults ≡ old.faults) (out err : Seen) (new : Devices) (status : ℕ) where
+module _ {rows : List Row} {old mid : SeenSource} (kept : mid.holds ≡ old.holds) (cause : mid.faults ≡ old.faults) (out err : Seen) (new : Devices) (status : Status) where
   pub sent_before : (more ps : List ℕ) → SendEnds more rows ps (devices mid out err) new status → SendEnds more rows ps (devices old out err) new status
   sent_before more ps (inl sent) = inl (record {
     size = sent.size;
@@ -100,7 +101,7 @@ module _ {rows : List Row} {old mid : SeenSource} (kept : mid.holds ≡ old.hold
     status_is = cut.status_is;
   })
 
-module _ {rows : List Row} {old mid : SeenSource} (opens : Opens IsArchiveOf old mid (Ok rows)) (out err : Seen) (new : Devices) (status : ℕ) where
+module _ {rows : List Row} {old mid : SeenSource} (opens : Opens IsArchiveOf old mid (Ok rows)) (out err : Seen) (new : Devices) (status : Status) where
   chosen_before : (except : Bool) (named : List ℕ) → ChosenEnds except named rows (devices mid out err) new status → ChosenEnds except named rows (devices old out err) new status
   chosen_before except named (inl is) = inl (record { there = is.there; chosen = is.chosen; are = is.are; ends = sent_before opens.reads.kept opens.reads.cause out err new status [] is.chosen is.ends })
   chosen_before except named (inr (inl is)) = inr (inl (record { absent = is.absent; first = is.first; sound = is.sound ∙ opens.reads.cause; untouched = is.untouched; reported = is.reported; status_is = is.status_is }))
@@ -113,7 +114,7 @@ module _ {rows : List Row} {old mid : SeenSource} (opens : Opens IsArchiveOf old
       let Q : List ℕ → Type 0 = λ l. SelectEnds except None l (devices old out err) new status in
       subst P (sym none) (subst Q same (inl (record { rows = rows; are = opens.accepted; ends = chosen_before except named ends })))
 
-pub select_by : {except : Bool} {bad : Option ℕ} {named wanted : List ℕ} {rows : List Row} {old mid last new : SeenSource} {out out' err err' : Seen} {status : ℕ} → (bad ≡ None) × (named ≡ wanted)
+pub select_by : {except : Bool} {bad : Option ℕ} {named wanted : List ℕ} {rows : List Row} {old mid last new : SeenSource} {out out' err err' : Seen} {status : Status} → (bad ≡ None) × (named ≡ wanted)
     → Opens IsArchiveOf old mid (Ok rows) → new ≡ last → ChosenEnds except named rows (devices mid out err) (devices last out' err') status → SelectEnds except bad wanted (devices old out err) (devices new out' err') status
 select_by {except} {bad} {named} {wanted} {rows} {old} {mid} {last} {new} {out} {out'} {err} {err'} {status} is opens same ends =
     let P : SeenSource → Type 0 = λ t. SelectEnds except bad wanted (devices old out err) (devices t out' err') status in

@@ -12,6 +12,8 @@ use Rattle.warc_reading.specs.Opening.{Opens}
 use Rattle.warc_reading.specs.Row.{Row}
 use Rattle.warc_rewrite.specs.Closure.{GivesNeeded, GivesOthers}
 use Rattle.warc_rewrite.specs.Selecting.{ReadsRecords, at_positions}
+use Rattle.warc_arguments.specs.declared.status.Status.{Status}
+use Rattle.warc_arguments.specs.declared.status.Status.TheVariants.{Failed}
 use Rattle.warc_commands.specs.Closed.{ClosedEnds, ClosureEnds, GivesClosed, NamedEnds, ReadsClosed, beside, beside_text}
 use Rattle.warc_commands.specs.Devices.{Devices, devices}
 use Rattle.warc_commands.specs.Program.{Reports, reported_line}
@@ -64,7 +66,7 @@ module _ {A : Type 0} {S : Type 0} (archive : Archived S) (except : Bool) (once 
         some = record { positions = v.items; ascending = given.are.ascending; reads = subst Q rows_are (subst R seen_is reads) };
       }
 
-  module _ (indexed : IfHeld old.holds (λ bytes. IsIndexed bytes archive)) (out err : Seen) (new : Devices) (status : ℕ) where
+  module _ (indexed : IfHeld old.holds (λ bytes. IsIndexed bytes archive)) (out err : Seen) (new : Devices) (status : Status) where
     pub closure_sent : {v : Vec ℕ A} → answer ≡ Ok v → (rows : List Row) (seen : List ℕ) (n count named written : ℕ) → rows ≡ archive.listing.rows → seen ≡ v.items
         → n ≡ beside except count named written → count ≡ length rows → named ≡ length once → written ≡ length v.items → SendEnds (beside_text except n) rows seen (devices mid out err) new status
         → ClosureEnds except once archive.listing.rows (devices old out err) new status
@@ -84,7 +86,7 @@ module _ {A : Type 0} {S : Type 0} (archive : Archived S) (except : Bool) (once 
           ends = sent_before given.reads.kept given.fails.may out err new status _ v.items (subst T same (subst Q rows_are (subst R seen_is ends)));
         })
 
-  pub unclosed : (indexed : IfHeld old.holds (λ bytes. IsIndexed bytes archive)) {e : OutFault} (out : Seen) {err err' : Seen} {status : ℕ} → answer ≡ Err e → Reports (reported_line (out_fault_text e)) err err' → status ≡ 3
+  pub unclosed : (indexed : IfHeld old.holds (λ bytes. IsIndexed bytes archive)) {e : OutFault} (out : Seen) {err err' : Seen} {status : Status} → answer ≡ Err e → Reports (reported_line (out_fault_text e)) err err' → status ≡ Failed
       → ClosureEnds except once archive.listing.rows (devices old out err) (devices mid out err') status
   unclosed indexed {e} out is reported three =
       let P : Result (Vec ℕ A) OutFault → Type 0 = λ r. GivesClosed except archive.listing.rows archive.index archive.parts once old mid r in
@@ -99,7 +101,7 @@ module _ {A : Type 0} {S : Type 0} (archive : Archived S) (except : Bool) (once 
       })
 
 -- the same, from what the source was before the archive was opened
-module _ {rows : List Row} {old mid : SeenSource} (kept : mid.holds ≡ old.holds) (cause : mid.faults ≡ old.faults) (out err : Seen) (new : Devices) (status : ℕ) where
+module _ {rows : List Row} {old mid : SeenSource} (kept : mid.holds ≡ old.holds) (cause : mid.faults ≡ old.faults) (out err : Seen) (new : Devices) (status : Status) where
   closure_before : (except : Bool) (once : List ℕ) → ClosureEnds except once rows (devices mid out err) new status → ClosureEnds except once rows (devices old out err) new status
   closure_before except once (inl is) = inl (record {
     chosen = is.chosen;
@@ -126,7 +128,7 @@ module _ {rows : List Row} {old mid : SeenSource} (kept : mid.holds ≡ old.hold
 pub holds_indexed : {S : Type 0} {archive : Archived S} {old mid : SeenSource} → Opens IsIndexed old mid (Ok archive) → IfHeld mid.holds (λ bytes. IsIndexed bytes archive)
 holds_indexed opens bytes held = opens.accepted bytes (sym opens.reads.kept ∙ held)
 
-module _ {S : Type 0} {archive : Archived S} {old mid : SeenSource} (opens : Opens IsIndexed old mid (Ok archive)) (out err : Seen) (new : Devices) (status : ℕ) where
+module _ {S : Type 0} {archive : Archived S} {old mid : SeenSource} (opens : Opens IsIndexed old mid (Ok archive)) (out err : Seen) (new : Devices) (status : Status) where
   closed_as : (except : Bool) (bad : Option ℕ) (named wanted : List ℕ) → (bad ≡ None) × (named ≡ wanted) → NamedEnds except named archive.listing.rows (devices mid out err) new status
       → ClosedEnds except bad wanted (devices old out err) new status
   closed_as except bad named wanted (none, same) ends =
@@ -138,7 +140,7 @@ module _ {S : Type 0} {archive : Archived S} {old mid : SeenSource} (opens : Ope
         ends = named_before opens.reads.kept opens.reads.cause out err new status except named ends;
       })))
 
-pub closed_by : {S : Type 0} {archive : Archived S} {except : Bool} {bad : Option ℕ} {named wanted : List ℕ} {old mid last new : SeenSource} {out out' err err' : Seen} {status : ℕ} → (bad ≡ None) × (named ≡ wanted)
+pub closed_by : {S : Type 0} {archive : Archived S} {except : Bool} {bad : Option ℕ} {named wanted : List ℕ} {old mid last new : SeenSource} {out out' err err' : Seen} {status : Status} → (bad ≡ None) × (named ≡ wanted)
     → Opens IsIndexed old mid (Ok archive) → new ≡ last → NamedEnds except named archive.listing.rows (devices mid out err) (devices last out' err') status
     → ClosedEnds except bad wanted (devices old out err) (devices new out' err') status
 closed_by {S} {archive} {except} {bad} {named} {wanted} {old} {mid} {last} {new} {out} {out'} {err} {err'} {status} is opens same ends =

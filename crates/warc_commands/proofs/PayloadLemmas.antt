@@ -7,16 +7,17 @@ use Rattle.warc_reading.specs.Opening.{Opens}
 use Rattle.warc_reading.specs.Row.{Row}
 use Rattle.warc_replay.specs.PayloadVerdicts.{PayloadJudgements}
 use Rattle.warc.specs.KnownPayloads.{AreRightFor, IsPayloadArchive, JudgesPayloadsBy, PayloadArchive}
+use Rattle.warc_arguments.specs.declared.status.Status.{Status}
 use Rattle.warc_commands.specs.Devices.{devices}
 use Rattle.warc_commands.specs.Payloads.{PayloadLinesEnd, PayloadsEnd, PayloadsListed}
 use Rattle.warc_commands.proofs.ProgramLemmas.{has_failed, may_have_failed}
 
-lines_by : (rows other : List Row) (judged : PayloadJudgements) (out out' err err' : Seen) (status : ℕ) → rows ≡ other → PayloadLinesEnd rows judged out out' err err' status
+lines_by : (rows other : List Row) (judged : PayloadJudgements) (out out' err err' : Seen) (status : Status) → rows ≡ other → PayloadLinesEnd rows judged out out' err err' status
     → PayloadLinesEnd other judged out out' err err' status
 lines_by rows other judged out out' err err' status same ends = subst (λ (l : List Row). PayloadLinesEnd l judged out out' err err' status) same ends
 
 -- how the command ends, by what was judged and what was written
-pub payloads_end : {S : Type 0} (a : PayloadArchive S) (listed : List Row) (answer : Result PayloadJudgements OutFault) (old mid last new : SeenSource) (out out' err err' : Seen) (status : ℕ)
+pub payloads_end : {S : Type 0} (a : PayloadArchive S) (listed : List Row) (answer : Result PayloadJudgements OutFault) (old mid last new : SeenSource) (out out' err err' : Seen) (status : Status)
     → Opens IsPayloadArchive old mid (Ok a) → JudgesPayloadsBy (AreRightFor a.known) a.archive.listing.rows a.archive.index a.archive.parts mid last answer → listed ≡ a.archive.listing.rows → new.faults ≡ last.faults
     → PayloadsListed listed answer out out' err err' status → PayloadsEnd (devices old out err) (devices new out' err') status
 payloads_end a listed (Ok judged) old mid last new out out' err err' status opened judges rows same ends =

@@ -14,6 +14,8 @@ use Rattle.warc_frame.specs.declared.fault.OutFault.TheVariants.{Write}
 use Rattle.warc_frame.specs.declared.send.SendFault.{SendFault}
 use Rattle.warc_frame.proofs.LawLemmas.{same_out, same_staged}
 use Rattle.warc_pieces.specs.declared.piece.Piece.{Piece}
+use Rattle.warc_arguments.specs.declared.status.Status.{Status}
+use Rattle.warc_arguments.specs.declared.status.Status.TheVariants.{Failed}
 use Rattle.warc_commands.specs.Devices.{devices}
 use Rattle.warc_commands.specs.Pieces.{ArePrinted, ArePrintedInPart, ReportsEach, has_damage, piece_line, pieces_status, pieces_text, stop_lines}
 use Rattle.warc_commands.specs.Program.{Reports, reported_line}
@@ -140,7 +142,7 @@ module _ (begun now : SeenSource) (before mid after : Seen) (waits waited waitin
 pub reports_as : (lines others : List (List ℕ)) (old new : Seen) → lines ≡ others → ReportsEach lines old new → ReportsEach others old new
 reports_as lines others old new same reported = let P : List (List ℕ) → Type 0 = λ ls. ReportsEach ls old new in subst P same reported
 
-module _ (begun now : SeenSource) (before after err reported : Seen) (status : ℕ) where
+module _ (begun now : SeenSource) (before after err reported : Seen) (status : Status) where
   pub printed : (found : Found) → SendsPieces begun now before after (Ok found) → ReportsEach (stop_lines found.stop) err reported
       → ((pieces : List Piece) → found.tally.is_damaged ≡ has_damage pieces → status ≡ pieces_status found.stop pieces) → ArePrinted (devices begun before err) (devices now after reported) status
   printed found sends reports is =
@@ -156,7 +158,7 @@ module _ (begun now : SeenSource) (before after err reported : Seen) (status : �
         status_is = is sends.pieces (ap (λ (t : Tally). t.is_damaged) tally ∙ sends.walked.counted.damage_is) ∙ ap (λ x. pieces_status x sends.pieces) stop;
       }
 
-  pub printed_in_part : (e : SendFault) → SendsPieces begun now before after (Err e) → Reports (reported_line (out_fault_text (Write e.sent))) err reported → status ≡ 3
+  pub printed_in_part : (e : SendFault) → SendsPieces begun now before after (Err e) → Reports (reported_line (out_fault_text (Write e.sent))) err reported → status ≡ Failed
       → ArePrintedInPart (devices begun before err) (devices now after reported) status
   printed_in_part e sends reports is = record {
     pieces = sends.pieces;

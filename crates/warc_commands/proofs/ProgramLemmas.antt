@@ -1,5 +1,5 @@
 -- How a run ends, from what its calls answered.
-use Rattle.std.proofs.Common.{◌≡◌, ℕ, List, [], ◌∷◌, length, min, Ok, Err, refl, sym, subst, ◌∙◌, arith}
+use Rattle.std.proofs.Common.{◌≡◌, ℕ, List, Ok, Err, refl, sym, subst, ◌∙◌}
 use Rattle.std.specs.List.{flat_map}
 use Rattle.warc_frame.specs.FaultText.{out_fault_text}
 use Rattle.warc_frame.specs.Record.{Record}
@@ -8,11 +8,12 @@ use Rattle.std.specs.Prelude.{Result}
 use Rattle.warc_frame.specs.declared.fault.Fault.{Fault}
 use Rattle.warc_frame.specs.declared.fault.OutFault.{OutFault}
 use Rattle.warc_reading.specs.Archive.{IsArchiveOf, contents}
-use Rattle.warc_checking.specs.Checking.{Line}
 use Rattle.warc_frame.specs.Failing.{HasFailedBy, MayHaveFailedBy}
+use Rattle.warc_arguments.specs.declared.status.Status.{Status}
+use Rattle.warc_arguments.specs.declared.status.Status.TheVariants.{Done, Failed}
 use Rattle.warc_commands.specs.Devices.{devices}
 use Rattle.warc_reading.specs.Opening.{Opens}
-use Rattle.warc_commands.specs.Program.{AreGoodRecordsOf, IsCutOff, IsNotOpened, IsWritten, Reports, fault_line, status_of_findings, status_of_kind, reported_line}
+use Rattle.warc_commands.specs.Program.{AreGoodRecordsOf, IsCutOff, IsNotOpened, IsWritten, Reports, fault_line, status_of_kind, reported_line}
 use Rattle.warc_reading.specs.Row.{Row}
 use Rattle.warc_frame.specs.Seen.{Seen, SeenSource}
 use Rattle.warc_reading.proofs.StreamLemmas.{spells_all}
@@ -22,7 +23,7 @@ pub good_records_of : {bytes : List ℕ} {rows : List Row} (is : IsArchiveOf byt
 good_records_of {bytes} is = record { short = is.short; spelled = spells_all 0 is.are.records bytes is.are.spelled; good = is.are.good }
 
 -- an archive that isn't opened
-pub not_opened : {X : Type 0} (Is : List ℕ → X → Type 0) (old new : SeenSource) (out err reported : Seen) (fault : Fault) (status : ℕ) → Opens Is old new (Err fault) → Reports (fault_line fault) err reported
+pub not_opened : {X : Type 0} (Is : List ℕ → X → Type 0) (old new : SeenSource) (out err reported : Seen) (fault : Fault) (status : Status) → Opens Is old new (Err fault) → Reports (fault_line fault) err reported
     → status ≡ status_of_kind fault.kind → IsNotOpened (devices old out err) (devices new out reported) status
 not_opened Is old new out err reported fault status opens reports is = record {
   fault = fault;
@@ -63,7 +64,7 @@ may_have_failed f old new other now a b is =
 -- an archive of which a text was written
 pub all_written : {text_of : Record → List ℕ} {len_of : Row → ℕ} {rows : List Row} {old mid last new : SeenSource} {before after err : Seen} {u : Unit {0}}
     → Opens IsArchiveOf old mid (Ok rows) → WritesEach text_of len_of rows mid last before after (Ok u) → new.faults ≡ last.faults
-    → IsWritten (flat_map text_of) (devices old before err) (devices new after err) 0
+    → IsWritten (flat_map text_of) (devices old before err) (devices new after err) Done
 all_written opened writes same = record {
   is = λ bytes held.
       let archive = opened.accepted bytes held in
@@ -79,9 +80,9 @@ all_written opened writes same = record {
 }
 
 -- an archive of which a front of a text was written
-pub part_written : {text_of : Record → List ℕ} {len_of : Row → ℕ} {rows : List Row} {old mid last new : SeenSource} {before after err reported : Seen} {status : ℕ} (e : OutFault)
+pub part_written : {text_of : Record → List ℕ} {len_of : Row → ℕ} {rows : List Row} {old mid last new : SeenSource} {before after err reported : Seen} {status : Status} (e : OutFault)
     → Opens IsArchiveOf old mid (Ok rows) → WritesEach text_of len_of rows mid last before after (Err e) → new.faults ≡ last.faults
-    → Reports (reported_line (out_fault_text e)) err reported → status ≡ 3 → IsCutOff (flat_map text_of) (devices old before err) (devices new after reported) status
+    → Reports (reported_line (out_fault_text e)) err reported → status ≡ Failed → IsCutOff (flat_map text_of) (devices old before err) (devices new after reported) status
 part_written e opened writes same reports is = record {
   fault = e;
   is = λ bytes held.
@@ -101,8 +102,3 @@ part_written e opened writes same reports is = record {
 -- the same line
 pub reported_as : {line other : List ℕ} {old new : Seen} → line ≡ other → Reports line old new → Reports other old new
 reported_as {line} {other} {old} {new} same reported = let P : List ℕ → Type 0 = λ l. Reports l old new in subst P same reported
-
--- the status by the number of findings
-pub status_by : (ls : List Line) → min (length ls) 1 ≡ status_of_findings ls
-status_by [] = refl
-status_by (l ∷ ls) = omega arith

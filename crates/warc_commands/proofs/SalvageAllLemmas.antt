@@ -20,6 +20,8 @@ use Rattle.warc_pieces.specs.Laws.{is_damage, offset_of, salvaged}
 use Rattle.warc_pieces.specs.Pieces.{piece_len}
 use Rattle.warc_pieces.specs.declared.piece.Piece.{Piece}
 use Rattle.warc_pieces.specs.declared.piece.Piece.TheVariants.{Records, Damage}
+use Rattle.warc_arguments.specs.declared.status.Status.{Status}
+use Rattle.warc_arguments.specs.declared.status.Status.TheVariants.{Failed}
 use Rattle.warc_commands.specs.Devices.{devices}
 use Rattle.warc_commands.specs.Pieces.{AreSalvaged, AreSalvagedInPart, ReportsEach, damage_line, damage_lines, pieces_status, salvaged_line, stop_lines}
 use Rattle.warc_commands.specs.Program.{Reports, reported_line}
@@ -247,7 +249,7 @@ runs_cut begun now before between waits waited err reported begins e copies = re
 
 -- ---- the end
 
-module _ (begun now : SeenSource) (before after err mid reported : Seen) (status : ℕ) where
+module _ (begun now : SeenSource) (before after err mid reported : Seen) (status : Status) where
   pub all_salvaged : (found : Found) → SendsRuns begun now before after err mid (Ok found)
       → ((pieces : List Piece) → IsTallyOf found.tally pieces → ReportsEach (stop_lines found.stop ++ salvaged_line found.stop pieces ∷ []) mid reported)
       → ((pieces : List Piece) → IsTallyOf found.tally pieces → status ≡ pieces_status found.stop pieces) → AreSalvaged (devices begun before err) (devices now after reported) status
@@ -268,7 +270,7 @@ module _ (begun now : SeenSource) (before after err mid reported : Seen) (status
         status_is = is pieces counted ∙ ap (λ x. pieces_status x pieces) stop;
       }
 
-  pub salvaged_in_part : (e : OutFault) → SendsRuns begun now before after err mid (Err e) → Reports (reported_line (out_fault_text e)) mid reported → status ≡ 3
+  pub salvaged_in_part : (e : OutFault) → SendsRuns begun now before after err mid (Err e) → Reports (reported_line (out_fault_text e)) mid reported → status ≡ Failed
       → AreSalvagedInPart (devices begun before err) (devices now after reported) status
   salvaged_in_part e sends reports is = record {
     pieces = sends.pieces;

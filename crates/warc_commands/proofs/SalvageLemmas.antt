@@ -7,6 +7,8 @@ use Rattle.warc_frame.specs.declared.fault.OutFault.{OutFault}
 use Rattle.warc_reading.specs.Row.{Row}
 use Rattle.warc.specs.Front.{CopiesFront, OpensFront}
 use Rattle.warc.proofs.FrontLemmas.{front_begins}
+use Rattle.warc_arguments.specs.declared.status.Status.{Status}
+use Rattle.warc_arguments.specs.declared.status.Status.TheVariants.{Failed}
 use Rattle.warc_commands.specs.Devices.{devices}
 use Rattle.warc_commands.specs.Program.{Reports, reported_line}
 use Rattle.warc_commands.specs.Salvage.{IsSalvageCutOff, IsSalvaged, ReportsAmount, salvage_status}
@@ -19,7 +21,7 @@ amount_as found n rows was bytes err reported size same reports =
     let P : ℕ → Type 0 = λ k. ReportsAmount found k bytes err reported in
     subst P (size ∙ ap (λ l. length l) same) reports
 
-module _ (rows : List Row) (found : Option Fault) (old mid last new : SeenSource) (before after err reported : Seen) (status : ℕ) (opened : OpensFront old mid rows found) where
+module _ (rows : List Row) (found : Option Fault) (old mid last new : SeenSource) (before after err reported : Seen) (status : Status) (opened : OpensFront old mid rows found) where
   pub salvaged : (n : ℕ) → CopiesFront rows mid last before after (Ok n) → new.faults ≡ last.faults → ReportsAmount found (length rows) n err reported
       → status ≡ salvage_status found → IsSalvaged (devices old before err) (devices new after reported) status
   salvaged n copies same reports is = record {
@@ -40,7 +42,7 @@ module _ (rows : List Row) (found : Option Fault) (old mid last new : SeenSource
   }
 
   pub salvage_cut : (e : OutFault) → CopiesFront rows mid last before after (Err e) → new.faults ≡ last.faults → Reports (reported_line (out_fault_text e)) err reported
-      → status ≡ 3 → IsSalvageCutOff (devices old before err) (devices new after reported) status
+      → status ≡ Failed → IsSalvageCutOff (devices old before err) (devices new after reported) status
   salvage_cut e copies same reports is = record {
     rows = rows;
     found = found;

@@ -12,13 +12,14 @@ use Rattle.warc_reading.specs.Row.{Placed}
 use Rattle.warc_replay.specs.Outcomes.{GivesStoredAt, StoredAnswer, fault_result}
 use Rattle.warc_replay.specs.declared.fault.BodyFault.{BodyFault}
 use Rattle.warc_replay.proofs.ReplayLemmas.{same_index}
+use Rattle.warc_arguments.specs.declared.status.Status.{Status}
 use Rattle.warc_commands.specs.Devices.{devices}
 use Rattle.warc_commands.specs.Program.{Reports}
 use Rattle.warc_commands.specs.Stored.{IsChosenOf, IsStoredGiven, stored_line, stored_status}
 use Rattle.warc_commands.proofs.ProgramLemmas.{failed_as, good_records_of, may_have_failed_as}
 
 -- what went out of the opened archive, by what was reported of it
-pub stored_given : {S : Type 0} {archive : Archived S} {old mid last new : SeenSource} {before after err reported : Seen} {status : ℕ} (position : ℕ) (answer : Result StoredAnswer BodyFault)
+pub stored_given : {S : Type 0} {archive : Archived S} {old mid last new : SeenSource} {before after err reported : Seen} {status : Status} (position : ℕ) (answer : Result StoredAnswer BodyFault)
     → Opens IsIndexed old mid (Ok archive) → GivesStoredAt archive.listing.rows archive.index archive.parts position mid last before after answer → new ≡ last
     → Reports (stored_line answer) err reported → status ≡ stored_status answer → IsStoredGiven position (devices old before err) (devices new after reported) status
 stored_given {S} {archive} {old} {mid} {last} {new} position answer opens gives same reports is = record {

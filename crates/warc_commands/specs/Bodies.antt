@@ -7,6 +7,8 @@ use Rattle.warc_answer.specs.declared.answer.Answer.{Answer}
 use Rattle.warc_replay.specs.Bodies.{IsBodyAt, IsSilentAt, body_fault_text, body_result}
 use Rattle.warc_replay.specs.declared.fault.BodyFault.{BodyFault}
 use Rattle.warc_replay.specs.declared.fault.BodyFault.TheVariants.{NoRecord, NoCapture, Replay}
+use Rattle.warc_arguments.specs.declared.status.Status.{Status}
+use Rattle.warc_arguments.specs.declared.status.Status.TheVariants.{Done, Found}
 use Rattle.warc_commands.specs.Devices.{Devices}
 use Rattle.warc_commands.specs.Program.{AreGoodRecordsOf, IsBadWord, IsNotOpened, Reports, answer_text, replay_status, reported_line}
 
@@ -15,10 +17,10 @@ abbrev pub body_line : Result Answer BodyFault → List ℕ
 body_line (Ok answer) = answer_text answer ++ codes "\n"
 body_line (Err fault) = reported_line (body_fault_text fault)
 
-abbrev pub body_status : Result Answer BodyFault → ℕ
-body_status (Ok answer) = 0
-body_status (Err NoRecord) = 1
-body_status (Err NoCapture) = 1
+abbrev pub body_status : Result Answer BodyFault → Status
+body_status (Ok answer) = Done
+body_status (Err NoRecord) = Found
+body_status (Err NoCapture) = Found
 body_status (Err (Replay fault)) = replay_status (Err fault)
 
 -- the body that the capture at the position gives among the records that the bytes spell went out as was answered
@@ -30,7 +32,7 @@ pub record IsBodyOf (position : ℕ) (answer : Result Answer BodyFault) (bytes :
     pub source : HasFailedBy (body_result answer) old.source.faults new.source.faults
 
 -- the archive was opened, and the body at a position was asked for
-pub record IsBodyGiven (position : ℕ) (old new : Devices) (status : ℕ) : Type 0 where
+pub record IsBodyGiven (position : ℕ) (old new : Devices) (status : Status) : Type 0 where
   pub answer : Result Answer BodyFault
   pub is : IfHeld old.source.holds (λ bytes. IsBodyOf position answer bytes old new)
   pub silent : IsSilentAt answer old.out.reports new.out.reports
@@ -40,6 +42,6 @@ pub record IsBodyGiven (position : ℕ) (old new : Devices) (status : ℕ) : Typ
   pub status_is : status ≡ body_status answer
 
 -- how `body` ends, by the position that its word says
-abbrev pub BodyEnds : Option ℕ → Devices → Devices → ℕ → Type 0
+abbrev pub BodyEnds : Option ℕ → Devices → Devices → Status → Type 0
 BodyEnds None old new status = IsBadWord (codes "bad position") old new status
 BodyEnds (Some position) old new status = IsBodyGiven position old new status ⊎ IsNotOpened old new status

@@ -14,6 +14,8 @@ use Rattle.warc_reading.specs.Row.{Placed, Row, row_of}
 use Rattle.warc_replay.specs.Captures.{capture_positions, captures_text}
 use Rattle.warc_replay.specs.Capturing.{AreFirstOutcomes, AreOutcomes}
 use Rattle.warc_replay.specs.Outcomes.{CaptureSeen}
+use Rattle.warc_arguments.specs.declared.status.Status.{Status}
+use Rattle.warc_arguments.specs.declared.status.Status.TheVariants.{Done, Found, Failed}
 use Rattle.warc_commands.specs.Devices.{Devices}
 use Rattle.warc_commands.specs.Program.{IsNotOpened, Reports, reported_line}
 
@@ -42,13 +44,13 @@ pub record AreFrontIn (uri : Option (List ℕ)) (bytes : List ℕ) (rows : List 
 abbrev pub AreFirstIn : Option (List ℕ) → List ℕ → List Row → List CaptureSeen → Type 0
 AreFirstIn uri bytes rows captures = (captures ≡ []) ⊎ AreFrontIn uri bytes rows captures
 
--- where no capture is listed that is reported, and the status is 1
-abbrev pub CountEnds : List CaptureSeen → Seen → Seen → ℕ → Type 0
-CountEnds [] old new status = Reports (reported_line (codes "P1 NoCapture")) old new × (status ≡ 1)
-CountEnds (c ∷ cs) old new status = (new ≡ old) × (status ≡ 0)
+-- where no capture is listed that is reported
+abbrev pub CountEnds : List CaptureSeen → Seen → Seen → Status → Type 0
+CountEnds [] old new status = Reports (reported_line (codes "P1 NoCapture")) old new × (status ≡ Found)
+CountEnds (c ∷ cs) old new status = (new ≡ old) × (status ≡ Done)
 
 -- all lines of `captures` went out
-pub record IsCapturesReported (uri : Option (List ℕ)) (old new : Devices) (status : ℕ) : Type 0 where
+pub record IsCapturesReported (uri : Option (List ℕ)) (old new : Devices) (status : Status) : Type 0 where
   pub rows : List Row
   pub captures : List CaptureSeen
   pub are : IfHeld old.source.holds (λ bytes. AreCapturesIn uri bytes rows captures)
@@ -59,7 +61,7 @@ pub record IsCapturesReported (uri : Option (List ℕ)) (old new : Devices) (sta
 
 -- a read, a write or a growth of the memory failed: a front of the lines of the first captures went out, as long as
 -- the message says
-pub record IsCapturesCutOff (uri : Option (List ℕ)) (old new : Devices) (status : ℕ) : Type 0 where
+pub record IsCapturesCutOff (uri : Option (List ℕ)) (old new : Devices) (status : Status) : Type 0 where
   pub rows : List Row
   pub captures : List CaptureSeen
   pub are : IfHeld old.source.holds (λ bytes. AreFirstIn uri bytes rows captures)
@@ -68,21 +70,21 @@ pub record IsCapturesCutOff (uri : Option (List ℕ)) (old new : Devices) (statu
   pub failed : new.out.faults ≡ failed_with fault old.out.faults
   pub fails : FailsBy {X = ℕ} (λ bytes. ⊤) (Err fault) old.source new.source
   pub reported : Reports (reported_line (out_fault_text fault)) old.err new.err
-  pub status_is : status ≡ 3
+  pub status_is : status ≡ Failed
 
 -- how `captures` ends, of all captures or of the captures of a URI
-abbrev pub CapturesEnds : Option (List ℕ) → Devices → Devices → ℕ → Type 0
+abbrev pub CapturesEnds : Option (List ℕ) → Devices → Devices → Status → Type 0
 CapturesEnds uri old new status = IsCapturesReported uri old new status
     ⊎ (IsNotOpened old new status ⊎ IsCapturesCutOff uri old new status)
 
 -- ---- on the way: what writing the lines answers
 
 -- how an answer is reported: how many captures there are, or what ended the lines early
-abbrev pub AnswerEnds : Result ℕ OutFault → Seen → Seen → ℕ → Type 0
+abbrev pub AnswerEnds : Result ℕ OutFault → Seen → Seen → Status → Type 0
 AnswerEnds (Ok count) old new status =
-    ((count ≡ 0) × Reports (reported_line (codes "P1 NoCapture")) old new × (status ≡ 1))
-    ⊎ ((0 < count) × (new ≡ old) × (status ≡ 0))
-AnswerEnds (Err fault) old new status = Reports (reported_line (out_fault_text fault)) old new × (status ≡ 3)
+    ((count ≡ 0) × Reports (reported_line (codes "P1 NoCapture")) old new × (status ≡ Found))
+    ⊎ ((0 < count) × (new ≡ old) × (status ≡ Done))
+AnswerEnds (Err fault) old new status = Reports (reported_line (out_fault_text fault)) old new × (status ≡ Failed)
 
 -- what writing the lines of the captures that are listed does, of an archive that is so of bytes
 pub record WritesListed (Is : List ℕ → Type 0) (uri : Option (List ℕ)) (rows : List Row) (before after : SeenSource)

@@ -16,6 +16,8 @@ use Rattle.warc_reading.specs.Row.{Row}
 use Rattle.warc_rewrite.specs.Closing.{AreWithNeeded, AreWithout}
 use Rattle.warc_rewrite.specs.Closure.{GivesPositions, records_read}
 use Rattle.warc_rewrite.specs.Selecting.{ArePositions}
+use Rattle.warc_arguments.specs.declared.status.Status.{Status}
+use Rattle.warc_arguments.specs.declared.status.Status.TheVariants.{Failed}
 use Rattle.warc_commands.specs.Devices.{Devices}
 use Rattle.warc_commands.specs.Program.{IsBadWord, IsNotOpened, Reports, reported_line}
 use Rattle.warc_commands.specs.Selected.{AreTheNamed, IsAbsent, ReadsSome, SendEnds}
@@ -50,7 +52,7 @@ pub record IsClosureOf (except : Bool) (rows : List Row) (once chosen bytes : Li
   pub are : AreWantedClosed except (records_read is.are.records) once chosen
 
 -- what is to be written was found: it went out, or a front of it
-pub record IsClosureSent (except : Bool) (once : List ℕ) (rows : List Row) (old new : Devices) (status : ℕ)
+pub record IsClosureSent (except : Bool) (once : List ℕ) (rows : List Row) (old new : Devices) (status : Status)
     : Type 0 where
   pub chosen : List ℕ
   pub positions : ArePositions (length rows) chosen
@@ -59,21 +61,21 @@ pub record IsClosureSent (except : Bool) (once : List ℕ) (rows : List Row) (ol
       new status
 
 -- a read or a growth of the memory failed before anything was written
-pub record IsUnclosed (rows : List Row) (old new : Devices) (status : ℕ) : Type 0 where
+pub record IsUnclosed (rows : List Row) (old new : Devices) (status : Status) : Type 0 where
   pub fault : OutFault
   pub early : IsEarly (Out fault)
   pub fails : FailsBy {X = ℕ} (λ bytes. IsArchiveOf bytes rows) (Err fault) old.source new.source
   pub untouched : new.out ≡ old.out
   pub reported : Reports (reported_line (out_fault_text fault)) old.err new.err
-  pub status_is : status ≡ 3
+  pub status_is : status ≡ Failed
 
 -- how it ends by the named positions in their order, each once
-abbrev pub ClosureEnds : Bool → List ℕ → List Row → Devices → Devices → ℕ → Type 0
+abbrev pub ClosureEnds : Bool → List ℕ → List Row → Devices → Devices → Status → Type 0
 ClosureEnds except once rows old new status =
     IsClosureSent except once rows old new status ⊎ IsUnclosed rows old new status
 
 -- each named position has a record
-pub record IsNamedClosed (except : Bool) (named : List ℕ) (rows : List Row) (old new : Devices) (status : ℕ)
+pub record IsNamedClosed (except : Bool) (named : List ℕ) (rows : List Row) (old new : Devices) (status : Status)
     : Type 0 where
   pub there : All (λ p. p < length rows) named
   pub once : List ℕ
@@ -81,18 +83,18 @@ pub record IsNamedClosed (except : Bool) (named : List ℕ) (rows : List Row) (o
   pub ends : ClosureEnds except once rows old new status
 
 -- how it ends after an archive of these rows was opened
-abbrev pub NamedEnds : Bool → List ℕ → List Row → Devices → Devices → ℕ → Type 0
+abbrev pub NamedEnds : Bool → List ℕ → List Row → Devices → Devices → Status → Type 0
 NamedEnds except named rows old new status =
     IsNamedClosed except named rows old new status ⊎ IsAbsent named rows old new status
 
 -- the archive was opened
-pub record IsOpenedToClose (except : Bool) (named : List ℕ) (old new : Devices) (status : ℕ) : Type 0 where
+pub record IsOpenedToClose (except : Bool) (named : List ℕ) (old new : Devices) (status : Status) : Type 0 where
   pub rows : List Row
   pub are : IfHeld old.source.holds (λ bytes. IsArchiveOf bytes rows)
   pub ends : NamedEnds except named rows old new status
 
 -- how `select --closed` ends, as `SelectEnds` says how `select` ends
-abbrev pub ClosedEnds : Bool → Option ℕ → List ℕ → Devices → Devices → ℕ → Type 0
+abbrev pub ClosedEnds : Bool → Option ℕ → List ℕ → Devices → Devices → Status → Type 0
 ClosedEnds except (Some line) named old new status =
     IsBadWord (codes "bad position in line " ++ decimal line) old new status ⊎ IsStarved old new status
 ClosedEnds except None named old new status =

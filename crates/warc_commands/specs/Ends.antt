@@ -5,6 +5,8 @@ use Rattle.warc_rewrite.specs.declared.forms.Form.TheVariants.{Canonical, Conver
 use Rattle.warc_replay.specs.declared.record.part.Part.TheVariants.{Head, Block}
 use Rattle.warc_arguments.specs.Digits.{uri_named}
 use Rattle.warc_arguments.specs.Explanations.{explained}
+use Rattle.warc_arguments.specs.declared.status.Status.{Status}
+use Rattle.warc_arguments.specs.declared.status.Status.TheVariants.{Done, Found, Refused, Failed, Unchecked}
 use Rattle.warc_commands.specs.Bodies.{BodyEnds}
 use Rattle.warc_commands.specs.Devices.{Devices}
 use Rattle.warc_commands.specs.Closed.{ClosedEnds}
@@ -26,7 +28,7 @@ use Rattle.warc_arguments.specs.declared.command.Command.{Command}
 use Rattle.warc_arguments.specs.declared.command.Command.TheVariants as command
 
 -- how a run of the command ends, by the list that it reads beside its source, if it reads one
-abbrev pub Ends : Command → List ℕ → Devices → Devices → ℕ → Type 0
+abbrev pub Ends : Command → List ℕ → Devices → Devices → Status → Type 0
 Ends (command.List archive) list old new status = ListEnds old new status
 Ends (command.Check archive) list old new status = CheckEnds old new status
 Ends (command.Extract archive id) list old new status = ExtractEnds id.now old new status
@@ -55,30 +57,36 @@ Ends (command.Summary archive) list old new status = SummaryEnds old new status
 Ends (command.Survey archive) list old new status = SurveyEnds old new status
 Ends (command.Explain number) list old new status = ExplainEnds (explained number.now) old new status
 
+-- the exit statuses of a command that finds nothing by itself
+abbrev pub MayRefuse : Status → Type 0
+MayRefuse status = (status ≡ Done) ⊎ ((status ≡ Refused) ⊎ (status ≡ Failed))
+
+-- and of one that may find something, or find nothing of what it is asked for
+abbrev pub MayFind : Status → Type 0
+MayFind status = (status ≡ Done) ⊎ ((status ≡ Found) ⊎ ((status ≡ Refused) ⊎ (status ≡ Failed)))
+
 -- the exit statuses of a command
-abbrev pub IsStatusOf : Command → ℕ → Type 0
-IsStatusOf (command.List archive) status = (status ≡ 0) ⊎ ((status ≡ 2) ⊎ (status ≡ 3))
-IsStatusOf (command.Check archive) status = (status ≡ 0) ⊎ ((status ≡ 1) ⊎ ((status ≡ 2) ⊎ (status ≡ 3)))
-IsStatusOf (command.Extract archive id) status = (status ≡ 0) ⊎ ((status ≡ 1) ⊎ ((status ≡ 2) ⊎ (status ≡ 3)))
-IsStatusOf (command.Replay archive uri date hex stored) status =
-    (status ≡ 0) ⊎ ((status ≡ 1) ⊎ ((status ≡ 2) ⊎ (status ≡ 3)))
-IsStatusOf (command.Body archive position stored) status = (status ≡ 0) ⊎ ((status ≡ 1) ⊎ ((status ≡ 2) ⊎ (status ≡ 3)))
-IsStatusOf (command.Captures archive uri hex) status = (status ≡ 0) ⊎ ((status ≡ 1) ⊎ ((status ≡ 2) ⊎ (status ≡ 3)))
-IsStatusOf (command.Rewrite archive) status = (status ≡ 0) ⊎ ((status ≡ 2) ⊎ (status ≡ 3))
-IsStatusOf (command.Convert archive) status = (status ≡ 0) ⊎ ((status ≡ 2) ⊎ (status ≡ 3))
-IsStatusOf (command.Split archive size) status = (status ≡ 0) ⊎ ((status ≡ 2) ⊎ (status ≡ 3))
-IsStatusOf (command.Select archive positions except closed) status =
-    (status ≡ 0) ⊎ ((status ≡ 1) ⊎ ((status ≡ 2) ⊎ (status ≡ 3)))
-IsStatusOf (command.Write draft file) status = (status ≡ 0) ⊎ (status ≡ 3)
-IsStatusOf (command.Head archive position) status = (status ≡ 0) ⊎ ((status ≡ 1) ⊎ ((status ≡ 2) ⊎ (status ≡ 3)))
-IsStatusOf (command.Block archive position) status = (status ≡ 0) ⊎ ((status ≡ 1) ⊎ ((status ≡ 2) ⊎ (status ≡ 3)))
+abbrev pub IsStatusOf : Command → Status → Type 0
+IsStatusOf (command.List archive) status = MayRefuse status
+IsStatusOf (command.Check archive) status = MayFind status
+IsStatusOf (command.Extract archive id) status = MayFind status
+IsStatusOf (command.Replay archive uri date hex stored) status = MayFind status
+IsStatusOf (command.Body archive position stored) status = MayFind status
+IsStatusOf (command.Captures archive uri hex) status = MayFind status
+IsStatusOf (command.Rewrite archive) status = MayRefuse status
+IsStatusOf (command.Convert archive) status = MayRefuse status
+IsStatusOf (command.Split archive size) status = MayRefuse status
+IsStatusOf (command.Select archive positions except closed) status = MayFind status
+IsStatusOf (command.Write draft file) status = (status ≡ Done) ⊎ (status ≡ Failed)
+IsStatusOf (command.Head archive position) status = MayFind status
+IsStatusOf (command.Block archive position) status = MayFind status
 IsStatusOf (command.Fixity archive payload) status =
-    (status ≡ 0) ⊎ ((status ≡ 1) ⊎ ((status ≡ 2) ⊎ ((status ≡ 3) ⊎ (status ≡ 4))))
-IsStatusOf (command.Pieces archive) status = (status ≡ 0) ⊎ ((status ≡ 2) ⊎ (status ≡ 3))
-IsStatusOf (command.Salvage archive all) status = (status ≡ 0) ⊎ ((status ≡ 2) ⊎ (status ≡ 3))
-IsStatusOf (command.Summary archive) status = (status ≡ 0) ⊎ ((status ≡ 2) ⊎ (status ≡ 3))
-IsStatusOf (command.Survey archive) status = (status ≡ 0) ⊎ ((status ≡ 2) ⊎ (status ≡ 3))
-IsStatusOf (command.Explain number) status = (status ≡ 0) ⊎ (status ≡ 3)
+    (status ≡ Done) ⊎ ((status ≡ Found) ⊎ ((status ≡ Refused) ⊎ ((status ≡ Failed) ⊎ (status ≡ Unchecked))))
+IsStatusOf (command.Pieces archive) status = MayRefuse status
+IsStatusOf (command.Salvage archive all) status = MayRefuse status
+IsStatusOf (command.Summary archive) status = MayRefuse status
+IsStatusOf (command.Survey archive) status = MayRefuse status
+IsStatusOf (command.Explain number) status = (status ≡ Done) ⊎ (status ≡ Failed)
 
 -- whether a command writes of an archive that it refuses: `pieces` and `salvage` alone do
 abbrev pub writes_front : Command → Bool

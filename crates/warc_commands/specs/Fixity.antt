@@ -9,15 +9,17 @@ use Rattle.warc_frame.specs.declared.fault.OutFault.TheVariants.{Write}
 use Rattle.warc_reading.specs.Row.{Row}
 use Rattle.warc_judged.specs.Fixity.{AreDigested, Judgements, counts_of, fixity_text}
 use Rattle.warc_judged.specs.declared.digests.Counts.{Counts}
+use Rattle.warc_arguments.specs.declared.status.Status.{Status}
+use Rattle.warc_arguments.specs.declared.status.Status.TheVariants.{Done, Found, Failed, Unchecked}
 use Rattle.warc_commands.specs.Devices.{Devices}
 use Rattle.warc_commands.specs.Program.{IsNotOpened, Reports, reported_line}
 
--- the status where all was written: 1 where a block is bad, else 4 where one can't be checked, else 0
-abbrev pub fixity_status : Counts → ℕ
-fixity_status counts = if nat_lt 0 counts.bad then 1 else if nat_lt 0 counts.unchecked then 4 else 0
+-- the status where all was written: by whether a block is bad, and whether one can't be checked
+abbrev pub fixity_status : Counts → Status
+fixity_status counts = if nat_lt 0 counts.bad then Found else if nat_lt 0 counts.unchecked then Unchecked else Done
 
 -- all lines of `fixity` went out
-pub record IsFixityReported (old new : Devices) (status : ℕ) : Type 0 where
+pub record IsFixityReported (old new : Devices) (status : Status) : Type 0 where
   pub rows : List Row
   pub judged : Judgements
   pub are : IfHeld old.source.holds (λ bytes. AreDigested bytes rows judged)
@@ -26,10 +28,10 @@ pub record IsFixityReported (old new : Devices) (status : ℕ) : Type 0 where
   pub sound : new.source.faults ≡ old.source.faults
   pub silent : new.err ≡ old.err
   pub status_is : status ≡ fixity_status (counts_of judged.verdicts)
-  pub status_in : (status ≡ 0) ⊎ ((status ≡ 1) ⊎ (status ≡ 4))
+  pub status_in : (status ≡ Done) ⊎ ((status ≡ Found) ⊎ (status ≡ Unchecked))
 
 -- a write failed: a front of the lines went out
-pub record IsFixityCutOff (old new : Devices) (status : ℕ) : Type 0 where
+pub record IsFixityCutOff (old new : Devices) (status : Status) : Type 0 where
   pub rows : List Row
   pub judged : Judgements
   pub are : IfHeld old.source.holds (λ bytes. AreDigested bytes rows judged)
@@ -38,8 +40,8 @@ pub record IsFixityCutOff (old new : Devices) (status : ℕ) : Type 0 where
   pub failed : new.out.faults ≡ raised old.out.faults
   pub sound : new.source.faults ≡ old.source.faults
   pub reported : Reports (reported_line (out_fault_text (Write sent))) old.err new.err
-  pub status_is : status ≡ 3
+  pub status_is : status ≡ Failed
 
-abbrev pub FixityEnds : Devices → Devices → ℕ → Type 0
+abbrev pub FixityEnds : Devices → Devices → Status → Type 0
 FixityEnds old new status =
     IsFixityReported old new status ⊎ (IsNotOpened old new status ⊎ IsFixityCutOff old new status)

@@ -10,6 +10,7 @@ use Rattle.warc_replay.specs.Parts.{IsGiven, extract_result, part_text}
 use Rattle.warc_replay.specs.declared.fault.ExtractFault.{ExtractFault}
 use Rattle.warc_replay.specs.declared.fault.ExtractFault.TheVariants.{NoRecord}
 use Rattle.warc_replay.specs.declared.record.part.Part.{Part}
+use Rattle.warc_arguments.specs.declared.status.Status.{Status}
 use Rattle.warc_commands.specs.Devices.{Devices}
 use Rattle.warc_commands.specs.Program.{IsBadWord, IsNotOpened, ReportsIf, extract_line, extract_status}
 
@@ -27,7 +28,7 @@ pub record IsPartOf (part : Part) (position : ℕ) (answer : Result ℕ ExtractF
   pub source : HasFailedBy (extract_result answer) old.source.faults new.source.faults
 
 -- the archive was opened, and a part of a record was asked for
-pub record IsPartGiven (part : Part) (position : ℕ) (old new : Devices) (status : ℕ) : Type 0 where
+pub record IsPartGiven (part : Part) (position : ℕ) (old new : Devices) (status : Status) : Type 0 where
   pub answer : Result ℕ ExtractFault
   pub is : IfHeld old.source.holds (λ bytes. IsPartOf part position answer bytes old new)
   pub silent : answer ≡ Err NoRecord → new.out.reports ≡ old.out.reports
@@ -37,7 +38,7 @@ pub record IsPartGiven (part : Part) (position : ℕ) (old new : Devices) (statu
   pub status_is : status ≡ extract_status answer
 
 -- how giving a part of the record at a position ends
-abbrev pub PartEnds : Part → Option ℕ → Devices → Devices → ℕ → Type 0
+abbrev pub PartEnds : Part → Option ℕ → Devices → Devices → Status → Type 0
 PartEnds part None old new status = IsBadWord (codes "bad position") old new status
 PartEnds part (Some position) old new status =
     IsPartGiven part position old new status ⊎ IsNotOpened old new status

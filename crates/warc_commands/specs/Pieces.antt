@@ -18,6 +18,8 @@ use Rattle.warc_pieces.specs.Laws.{salvaged}
 use Rattle.warc_pieces.specs.Reader.{AreBefore, AreGiven, faults_after_stop}
 use Rattle.warc_pieces.specs.declared.piece.Piece.{Piece}
 use Rattle.warc_pieces.specs.declared.piece.Piece.TheVariants.{Records, Damage}
+use Rattle.warc_arguments.specs.declared.status.Status.{Status}
+use Rattle.warc_arguments.specs.declared.status.Status.TheVariants.{Done, Refused, Failed}
 use Rattle.warc_commands.specs.Devices.{Devices}
 use Rattle.warc_commands.specs.Program.{Reports, fault_line, status_of_kind, reported_line}
 use Rattle.warc_commands.specs.Salvage.{amount_line}
@@ -43,9 +45,9 @@ has_damage [] = false
 has_damage (Records offset len count ∷ pieces) = has_damage pieces
 has_damage (Damage offset len fault ∷ pieces) = true
 
--- the status: of what stopped reading, and else 2 where there is damage
-abbrev pub pieces_status : Option Fault → List Piece → ℕ
-pieces_status None pieces = if has_damage pieces then 2 else 0
+-- the status: of what stopped reading, and else by whether there is damage
+abbrev pub pieces_status : Option Fault → List Piece → Status
+pieces_status None pieces = if has_damage pieces then Refused else Done
 pieces_status (Some f) pieces = status_of_kind f.kind
 
 -- lines were written, one after another
@@ -58,7 +60,7 @@ abbrev pub stop_lines : Option Fault → List (List ℕ)
 stop_lines stop = option_to_list (option_map fault_line stop)
 
 -- a line went out for each piece, to the end or to what stopped reading
-pub record ArePrinted (old new : Devices) (status : ℕ) : Type 0 where
+pub record ArePrinted (old new : Devices) (status : Status) : Type 0 where
   pub pieces : List Piece
   pub stop : Option Fault
   pub are : IfHeld old.source.holds (λ bytes. AreRead bytes stop pieces)
@@ -69,7 +71,7 @@ pub record ArePrinted (old new : Devices) (status : ℕ) : Type 0 where
   pub status_is : status ≡ pieces_status stop pieces
 
 -- a write failed: a front of the lines of the pieces that were found so far went out
-pub record ArePrintedInPart (old new : Devices) (status : ℕ) : Type 0 where
+pub record ArePrintedInPart (old new : Devices) (status : Status) : Type 0 where
   pub pieces : List Piece
   pub stop : Option Fault
   pub at : ℕ
@@ -79,17 +81,17 @@ pub record ArePrintedInPart (old new : Devices) (status : ℕ) : Type 0 where
   pub failed : new.out.faults ≡ raised old.out.faults
   pub source : new.source.faults ≡ faults_after_stop stop old.source.faults
   pub reported : Reports (reported_line (out_fault_text (Write sent))) old.err new.err
-  pub status_is : status ≡ 3
+  pub status_is : status ≡ Failed
 
 -- there is no memory to begin with
-pub record IsUnbegun (old new : Devices) (status : ℕ) : Type 0 where
+pub record IsUnbegun (old new : Devices) (status : Status) : Type 0 where
   pub same : new.source ≡ old.source
   pub untouched : new.out ≡ old.out
   pub reported : Reports (fault_line (record { kind = Memory; offset = 0 })) old.err new.err
-  pub status_is : status ≡ 3
+  pub status_is : status ≡ Failed
 
 -- how `pieces` ends
-abbrev pub PiecesEnd : Devices → Devices → ℕ → Type 0
+abbrev pub PiecesEnd : Devices → Devices → Status → Type 0
 PiecesEnd old new status = ArePrinted old new status ⊎ (ArePrintedInPart old new status ⊎ IsUnbegun old new status)
 
 -- the line of a damage
@@ -122,7 +124,7 @@ salvaged_line None pieces =
 salvaged_line (Some f) pieces = amount_line (codes "salvaged") (records_in pieces) (good_bytes_in pieces)
 
 -- all good records went out, of a source of fewer than 2^64 bytes, and each damage was reported
-pub record AreSalvaged (old new : Devices) (status : ℕ) : Type 0 where
+pub record AreSalvaged (old new : Devices) (status : Status) : Type 0 where
   pub pieces : List Piece
   pub stop : Option Fault
   pub are : IfHeld old.source.holds (λ bytes. AreRead bytes stop pieces)
@@ -134,7 +136,7 @@ pub record AreSalvaged (old new : Devices) (status : ℕ) : Type 0 where
   pub status_is : status ≡ pieces_status stop pieces
 
 -- a read or a write failed while they were written
-pub record AreSalvagedInPart (old new : Devices) (status : ℕ) : Type 0 where
+pub record AreSalvagedInPart (old new : Devices) (status : Status) : Type 0 where
   pub pieces : List Piece
   pub stop : Option Fault
   pub at : ℕ
@@ -148,9 +150,9 @@ pub record AreSalvagedInPart (old new : Devices) (status : ℕ) : Type 0 where
   pub may : MayHaveFailedBy {X = ℕ} (Err fault) (faults_after_stop stop old.source.faults) new.source.faults
   pub failed : new.out.faults ≡ failed_with fault old.out.faults
   pub err : ReportsEach (damage_lines pieces ++ reported_line (out_fault_text fault) ∷ []) old.err new.err
-  pub status_is : status ≡ 3
+  pub status_is : status ≡ Failed
 
 -- how `salvage --all` ends
-abbrev pub SalvageAllEnds : Devices → Devices → ℕ → Type 0
+abbrev pub SalvageAllEnds : Devices → Devices → Status → Type 0
 SalvageAllEnds old new status =
     AreSalvaged old new status ⊎ (AreSalvagedInPart old new status ⊎ IsUnbegun old new status)

@@ -32,10 +32,12 @@ use Rattle.warc_arguments.specs.declared.parser.CommandFault.{CommandFault}
 use Rattle.warc_arguments.specs.declared.parser.CommandFault.TheVariants.{Usage, Memory as OutOfMemory}
 use Rattle.warc_reading.specs.Opening.{IsRefusalOf, faults_after}
 use Rattle.warc_reading.specs.Archive.{AreGood, IsArchiveOf}
-use Rattle.warc_checking.specs.Checking.{Line, check_text, findings_of_archive}
+use Rattle.warc_checking.specs.Checking.{check_text, findings_of_archive}
 use Rattle.warc_frame.specs.Failing.{HasFailedBy, MayHaveFailedBy, failed_by, failed_with, is_read}
 use Rattle.warc_judged.specs.Listing.{listing}
 use Rattle.warc_reading.specs.Row.{Row}
+use Rattle.warc_arguments.specs.declared.status.Status.{Status}
+use Rattle.warc_arguments.specs.declared.status.Status.TheVariants.{Done, Found, Refused, Failed}
 use Rattle.warc_commands.specs.Devices.{Devices}
 use Rattle.warc_frame.specs.Seen.{IfHeld, Seen}
 
@@ -46,11 +48,11 @@ reported_line text = codes "warc: " ++ text ++ codes "\n"
 abbrev pub fault_line : Fault → List ℕ
 fault_line f = reported_line (fault_text f)
 
--- the status where an archive isn't opened: 3 where a read or a growth of the memory failed, else 2
-abbrev pub status_of_kind : FaultKind → ℕ
-status_of_kind Read = 3
-status_of_kind Memory = 3
-status_of_kind kind = 2
+-- the status where an archive isn't opened: by whether a read or a growth of the memory failed
+abbrev pub status_of_kind : FaultKind → Status
+status_of_kind Read = Failed
+status_of_kind Memory = Failed
+status_of_kind kind = Refused
 
 -- a line was written: all of it, unless a write failed, and then a front of it
 pub record Reports (line : List ℕ) (old new : Seen) : Type 0 where
@@ -58,10 +60,10 @@ pub record Reports (line : List ℕ) (old new : Seen) : Type 0 where
   pub front : new.reports ≡ append_known old.reports (take count line)
   pub whole : new.faults ≡ old.faults → old.faults + 1 < 2 ^ 64 → count ≡ length line
 
--- a command ends early, before it writes: the bytes were refused for their first fault (status 2), or a read or
--- a growth of the memory failed (status 3). A read fault is reported only where the source has failed once more, at
+-- a command ends early, before it writes: the bytes were refused for their first fault, or a read or a growth of the
+-- memory failed. A read fault is reported only where the source has failed once more, at
 -- the offset asked last
-pub record IsNotOpened (old new : Devices) (status : ℕ) : Type 0 where
+pub record IsNotOpened (old new : Devices) (status : Status) : Type 0 where
   pub fault : Fault
   pub is : IfHeld old.source.holds (λ bytes. IsRefusalOf bytes old.source new.source fault)
   pub failed : new.source.faults ≡ faults_after fault.kind old.source.faults
@@ -71,17 +73,17 @@ pub record IsNotOpened (old new : Devices) (status : ℕ) : Type 0 where
   pub status_is : status ≡ status_of_kind fault.kind
 
 -- all lines of `list` went out
-pub record IsListed (old new : Devices) (status : ℕ) : Type 0 where
+pub record IsListed (old new : Devices) (status : Status) : Type 0 where
   pub rows : List Row
   pub are : IfHeld old.source.holds (λ bytes. IsArchiveOf bytes rows)
   pub reported : new.out.reports ≡ append_known old.out.reports (listing rows)
   pub unfailed : new.out.faults ≡ old.out.faults
   pub sound : new.source.faults ≡ old.source.faults
   pub silent : new.err ≡ old.err
-  pub status_is : status ≡ 0
+  pub status_is : status ≡ Done
 
 -- a write failed: a front of the lines of `list` went out
-pub record IsListCutOff (old new : Devices) (status : ℕ) : Type 0 where
+pub record IsListCutOff (old new : Devices) (status : Status) : Type 0 where
   pub rows : List Row
   pub are : IfHeld old.source.holds (λ bytes. IsArchiveOf bytes rows)
   pub sent : ℕ
@@ -89,16 +91,15 @@ pub record IsListCutOff (old new : Devices) (status : ℕ) : Type 0 where
   pub failed : new.out.faults ≡ raised old.out.faults
   pub sound : new.source.faults ≡ old.source.faults
   pub reported : Reports (reported_line (out_fault_text (Write sent))) old.err new.err
-  pub status_is : status ≡ 3
+  pub status_is : status ≡ Failed
 
 -- how `list` ends
-abbrev pub ListEnds : Devices → Devices → ℕ → Type 0
+abbrev pub ListEnds : Devices → Devices → Status → Type 0
 ListEnds old new status = IsListed old new status ⊎ (IsNotOpened old new status ⊎ IsListCutOff old new status)
 
--- the status where an archive was checked: 1 where something was found, else 0
-abbrev pub status_of_findings : List Line → ℕ
-status_of_findings [] = 0
-status_of_findings (l ∷ ls) = 1
+-- the status where an archive was checked, by how many things were found
+abbrev pub status_of_count : ℕ → Status
+status_of_count n = if nat_lt 0 n then Found else Done
 
 -- the good records that bytes spell
 pub record AreGoodRecordsOf (bytes : List ℕ) (records : List Record) : Type 0 where
@@ -107,19 +108,19 @@ pub record AreGoodRecordsOf (bytes : List ℕ) (records : List Record) : Type 0 
   pub good : AreGood records
 
 -- a line went out for each finding of the good records that the bytes spell
-pub record IsCheckOf (bytes : List ℕ) (old new : Seen) (status : ℕ) : Type 0 where
+pub record IsCheckOf (bytes : List ℕ) (old new : Seen) (status : Status) : Type 0 where
   pub records : List Record
   pub are : AreGoodRecordsOf bytes records
   pub reported : new.reports ≡ append_known old.reports (check_text records)
-  pub status_is : status ≡ status_of_findings (findings_of_archive records)
+  pub status_is : status ≡ status_of_count (length (findings_of_archive records))
 
 -- all lines of `check` went out
-pub record IsChecked (old new : Devices) (status : ℕ) : Type 0 where
+pub record IsChecked (old new : Devices) (status : Status) : Type 0 where
   pub is : IfHeld old.source.holds (λ bytes. IsCheckOf bytes old.out new.out status)
   pub unfailed : new.out.faults ≡ old.out.faults
   pub sound : new.source.faults ≡ old.source.faults
   pub silent : new.err ≡ old.err
-  pub status_in : (status ≡ 0) ⊎ (status ≡ 1)
+  pub status_in : (status ≡ Done) ⊎ (status ≡ Found)
 
 -- a front of the text of the good records that the bytes spell went out, and the source has failed once more exactly
 -- where a read is reported
@@ -131,23 +132,23 @@ pub record IsFrontOf (text : List Record → List ℕ) (bytes : List ℕ) (fault
   pub source : HasFailedBy {X = ℕ} (Err fault) old.source.faults new.source.faults
 
 -- a read, a write or a growth of the memory failed while a text of the records was written
-pub record IsCutOff (text : List Record → List ℕ) (old new : Devices) (status : ℕ) : Type 0 where
+pub record IsCutOff (text : List Record → List ℕ) (old new : Devices) (status : Status) : Type 0 where
   pub fault : OutFault
   pub is : IfHeld old.source.holds (λ bytes. IsFrontOf text bytes fault old new)
   pub source : MayHaveFailedBy {X = ℕ} (Err fault) old.source.faults new.source.faults
   pub failed : new.out.faults ≡ failed_with fault old.out.faults
   pub reported : Reports (reported_line (out_fault_text fault)) old.err new.err
-  pub status_is : status ≡ 3
+  pub status_is : status ≡ Failed
 
 -- a write or a growth of the memory failed after an archive was opened for `check`. All was read before that, so no
 -- read failed, and the source has failed as often as before
-pub record IsCheckCutOff (old new : Devices) (status : ℕ) : Type 0 where
+pub record IsCheckCutOff (old new : Devices) (status : Status) : Type 0 where
   pub cut : IsCutOff check_text old new status
   pub unread : is_read cut.fault ≡ false
   pub sound : new.source.faults ≡ old.source.faults
 
 -- how `check` ends
-abbrev pub CheckEnds : Devices → Devices → ℕ → Type 0
+abbrev pub CheckEnds : Devices → Devices → Status → Type 0
 CheckEnds old new status =
     IsChecked old new status ⊎ (IsNotOpened old new status ⊎ IsCheckCutOff old new status)
 
@@ -161,10 +162,10 @@ abbrev pub extract_line : Result ℕ ExtractFault → Option (List ℕ)
 extract_line (Ok n) = None
 extract_line (Err fault) = Some (reported_line (extract_fault_text fault))
 
-abbrev pub extract_status : Result ℕ ExtractFault → ℕ
-extract_status (Ok n) = 0
-extract_status (Err NoRecord) = 1
-extract_status (Err (ExtractOut e)) = 3
+abbrev pub extract_status : Result ℕ ExtractFault → Status
+extract_status (Ok n) = Done
+extract_status (Err NoRecord) = Found
+extract_status (Err (ExtractOut e)) = Failed
 
 -- the block of the first record with the id, of those that the bytes spell, went out as was answered
 pub record IsExtractOf (id : List ℕ) (answer : Result ℕ ExtractFault) (bytes : List ℕ) (old new : Devices)
@@ -175,7 +176,7 @@ pub record IsExtractOf (id : List ℕ) (answer : Result ℕ ExtractFault) (bytes
   pub source : HasFailedBy (extract_result answer) old.source.faults new.source.faults
 
 -- the archive was opened, and a block was asked for
-pub record IsExtracted (id : List ℕ) (old new : Devices) (status : ℕ) : Type 0 where
+pub record IsExtracted (id : List ℕ) (old new : Devices) (status : Status) : Type 0 where
   pub answer : Result ℕ ExtractFault
   pub is : IfHeld old.source.holds (λ bytes. IsExtractOf id answer bytes old new)
   pub silent : answer ≡ Err NoRecord → new.out.reports ≡ old.out.reports
@@ -185,7 +186,7 @@ pub record IsExtracted (id : List ℕ) (old new : Devices) (status : ℕ) : Type
   pub status_is : status ≡ extract_status answer
 
 -- how `extract` ends
-abbrev pub ExtractEnds : List ℕ → Devices → Devices → ℕ → Type 0
+abbrev pub ExtractEnds : List ℕ → Devices → Devices → Status → Type 0
 ExtractEnds id old new status = IsExtracted id old new status ⊎ IsNotOpened old new status
 
 -- a number in decimal digits, or a dash where there is none
@@ -209,10 +210,10 @@ abbrev pub replay_line : Result Answer ReplayFault → List ℕ
 replay_line (Ok answer) = answer_text answer ++ codes "\n"
 replay_line (Err fault) = reported_line (replay_fault_text fault)
 
-abbrev pub replay_status : Result Answer ReplayFault → ℕ
-replay_status (Ok answer) = 0
-replay_status (Err (Reason why)) = 1
-replay_status (Err (ReplayOut e)) = 3
+abbrev pub replay_status : Result Answer ReplayFault → Status
+replay_status (Ok answer) = Done
+replay_status (Err (Reason why)) = Found
+replay_status (Err (ReplayOut e)) = Failed
 
 -- the body that the records give which the bytes spell went out as was answered
 pub record IsReplayOf (uri : List ℕ) (moment : Instant) (answer : Result Answer ReplayFault) (bytes : List ℕ)
@@ -223,7 +224,7 @@ pub record IsReplayOf (uri : List ℕ) (moment : Instant) (answer : Result Answe
   pub source : HasFailedBy (out_result answer) old.source.faults new.source.faults
 
 -- the archive was opened, and a body was asked for
-pub record IsReplayed (uri : List ℕ) (moment : Instant) (old new : Devices) (status : ℕ) : Type 0 where
+pub record IsReplayed (uri : List ℕ) (moment : Instant) (old new : Devices) (status : Status) : Type 0 where
   pub answer : Result Answer ReplayFault
   pub is : IfHeld old.source.holds (λ bytes. IsReplayOf uri moment answer bytes old new)
   pub silent : IsSilent answer old.out.reports new.out.reports
@@ -233,14 +234,14 @@ pub record IsReplayed (uri : List ℕ) (moment : Instant) (old new : Devices) (s
   pub status_is : status ≡ replay_status answer
 
 -- a word isn't what it should be, as is reported: nothing was read or written
-pub record IsBadWord (why : List ℕ) (old new : Devices) (status : ℕ) : Type 0 where
+pub record IsBadWord (why : List ℕ) (old new : Devices) (status : Status) : Type 0 where
   pub unread : new.source ≡ old.source
   pub untouched : new.out ≡ old.out
   pub reported : Reports (reported_line why) old.err new.err
-  pub status_is : status ≡ 3
+  pub status_is : status ≡ Failed
 
 -- how `replay` ends, as of the first instant of a date
-abbrev pub ReplayEnds : List ℕ → Option Instant → Devices → Devices → ℕ → Type 0
+abbrev pub ReplayEnds : List ℕ → Option Instant → Devices → Devices → Status → Type 0
 ReplayEnds uri None old new status = IsBadWord (codes "bad date") old new status
 ReplayEnds uri (Some moment) old new status = IsReplayed uri moment old new status ⊎ IsNotOpened old new status
 
@@ -251,15 +252,15 @@ pub record IsWrittenOf (text : List Record → List ℕ) (bytes : List ℕ) (old
   pub reported : new.reports ≡ append_known old.reports (text records)
 
 -- all of it was written
-pub record IsWritten (text : List Record → List ℕ) (old new : Devices) (status : ℕ) : Type 0 where
+pub record IsWritten (text : List Record → List ℕ) (old new : Devices) (status : Status) : Type 0 where
   pub is : IfHeld old.source.holds (λ bytes. IsWrittenOf text bytes old.out new.out)
   pub unfailed : new.out.faults ≡ old.out.faults
   pub sound : new.source.faults ≡ old.source.faults
   pub silent : new.err ≡ old.err
-  pub status_is : status ≡ 0
+  pub status_is : status ≡ Done
 
 -- how writing a text of the records of an archive ends
-abbrev pub WriteEnds : (List Record → List ℕ) → Devices → Devices → ℕ → Type 0
+abbrev pub WriteEnds : (List Record → List ℕ) → Devices → Devices → Status → Type 0
 WriteEnds text old new status =
     IsWritten text old new status ⊎ (IsNotOpened old new status ⊎ IsCutOff text old new status)
 
@@ -268,7 +269,7 @@ abbrev pub size_of : List ℕ → Option ℕ
 size_of word = option_and_then (λ n. if nat_lt 0 n && nat_le n max_block then Some n else None) (decimal_of word)
 
 -- how `split` ends
-abbrev pub SplitEnds : Option ℕ → Devices → Devices → ℕ → Type 0
+abbrev pub SplitEnds : Option ℕ → Devices → Devices → Status → Type 0
 SplitEnds None old new status = IsBadWord (codes "bad size") old new status
 SplitEnds (Some n) old new status = WriteEnds (split_texts n) old new status
 
@@ -290,21 +291,21 @@ pub record IsMadeOf (d : Draft) (bytes : List ℕ) (old new : Seen) : Type 0 whe
   pub is : made (plan_of d bytes) ≡ Ok content
   pub reported : new.reports ≡ append_known old.reports (canonical content)
 
-pub record IsMade (d : Draft) (old new : Devices) (status : ℕ) : Type 0 where
+pub record IsMade (d : Draft) (old new : Devices) (status : Status) : Type 0 where
   pub is : IfHeld old.source.holds (λ bytes. IsMadeOf d bytes old.out new.out)
   pub unfailed : new.out.faults ≡ old.out.faults
   pub sound : new.source.faults ≡ old.source.faults
   pub silent : new.err ≡ old.err
-  pub status_is : status ≡ 0
+  pub status_is : status ≡ Done
 
 -- no record is made, for the first reason
-pub record IsNotMade (d : Draft) (old new : Devices) (status : ℕ) : Type 0 where
+pub record IsNotMade (d : Draft) (old new : Devices) (status : Status) : Type 0 where
   pub fault : MakeFault
   pub is : IfHeld old.source.holds (λ bytes. Makes (Err fault) (made (plan_of d bytes)))
   pub sound : new.source.faults ≡ old.source.faults
   pub untouched : new.out ≡ old.out
   pub reported : Reports (reported_line (make_fault_text fault)) old.err new.err
-  pub status_is : status ≡ 3
+  pub status_is : status ≡ Failed
 
 -- a read or a growth of the memory failed, and no write: nothing went out
 abbrev pub IsUnsent : OutFault → Type 0
@@ -313,13 +314,13 @@ IsUnsent (Write sent) = ⊥
 IsUnsent (NoMemory sent) = sent ≡ 0
 
 -- the file wasn't read: a read or a growth of the memory failed
-pub record IsNotRead (old new : Devices) (status : ℕ) : Type 0 where
+pub record IsNotRead (old new : Devices) (status : Status) : Type 0 where
   pub fault : OutFault
   pub source : HasFailedBy {X = ℕ} (Err fault) old.source.faults new.source.faults
   pub unsent : IsUnsent fault
   pub untouched : new.out ≡ old.out
   pub reported : Reports (reported_line (out_fault_text fault)) old.err new.err
-  pub status_is : status ≡ 3
+  pub status_is : status ≡ Failed
 
 -- a write failed: a front of the record went out
 pub record IsMadeFront (d : Draft) (bytes : List ℕ) (sent : ℕ) (old new : Seen) : Type 0 where
@@ -327,32 +328,32 @@ pub record IsMadeFront (d : Draft) (bytes : List ℕ) (sent : ℕ) (old new : Se
   pub is : made (plan_of d bytes) ≡ Ok content
   pub front : WentOut old.reports (canonical content) new.reports sent
 
-pub record IsMadeCutOff (d : Draft) (old new : Devices) (status : ℕ) : Type 0 where
+pub record IsMadeCutOff (d : Draft) (old new : Devices) (status : Status) : Type 0 where
   pub sent : ℕ
   pub is : IfHeld old.source.holds (λ bytes. IsMadeFront d bytes sent old.out new.out)
   pub failed : new.out.faults ≡ raised old.out.faults
   pub sound : new.source.faults ≡ old.source.faults
   pub reported : Reports (reported_line (out_fault_text (Write sent))) old.err new.err
-  pub status_is : status ≡ 3
+  pub status_is : status ≡ Failed
 
 -- how `write` ends
-abbrev pub MakeEnds : Draft → Devices → Devices → ℕ → Type 0
+abbrev pub MakeEnds : Draft → Devices → Devices → Status → Type 0
 MakeEnds d old new status =
     IsMade d old new status
     ⊎ (IsNotMade d old new status ⊎ (IsNotRead old new status ⊎ IsMadeCutOff d old new status))
 
 -- a text that was asked for went out, or a write failed and a front of it did
-abbrev pub IsShown : List ℕ → Seen → Seen → Seen → Seen → ℕ → Type 0
+abbrev pub IsShown : List ℕ → Seen → Seen → Seen → Seen → Status → Type 0
 IsShown text out out' err err' status =
-    ((status ≡ 0) × (out'.reports ≡ append_known out.reports text) × (out'.faults ≡ out.faults) × (err' ≡ err))
-    ⊎ ((status ≡ 3) × (sent : ℕ) × (out'.reports ≡ append_known out.reports (take sent text))
+    ((status ≡ Done) × (out'.reports ≡ append_known out.reports text) × (out'.faults ≡ out.faults) × (err' ≡ err))
+    ⊎ ((status ≡ Failed) × (sent : ℕ) × (out'.reports ≡ append_known out.reports (take sent text))
     × (out'.faults ≡ raised out.faults)
     × Reports (reported_line (out_fault_text (Write sent))) err err')
 
 -- how a run ends where the words name no command
-abbrev pub FaultEnds : CommandFault → Seen → Seen → Seen → Seen → ℕ → Type 0
+abbrev pub FaultEnds : CommandFault → Seen → Seen → Seen → Seen → Status → Type 0
 FaultEnds (Usage text true) out out' err err' status = IsShown (string_bytes text) out out' err err' status
 FaultEnds (Usage text false) out out' err err' status =
-    (out' ≡ out) × Reports (string_bytes text) err err' × (status ≡ 3)
+    (out' ≡ out) × Reports (string_bytes text) err err' × (status ≡ Failed)
 FaultEnds OutOfMemory out out' err err' status =
-    (out' ≡ out) × Reports (reported_line (out_fault_text (NoMemory 0))) err err' × (status ≡ 3)
+    (out' ≡ out) × Reports (reported_line (out_fault_text (NoMemory 0))) err err' × (status ≡ Failed)

@@ -10,6 +10,8 @@ use Rattle.warc_frame.specs.Seen.{IfHeld, Seen, SeenSource}
 use Rattle.warc_frame.specs.declared.fault.OutFault.TheVariants.{Memory}
 use Rattle.warc_arguments.specs.Command.{list_word, opens_nothing, path_word, reads_once}
 use Rattle.warc_arguments.specs.Parsed.{IsParsed, ReadLine}
+use Rattle.warc_arguments.specs.declared.status.Status.{Status}
+use Rattle.warc_arguments.specs.declared.status.Status.TheVariants.{Refused, Failed}
 use Rattle.warc_commands.specs.Devices.{devices}
 use Rattle.warc_commands.specs.Ends.{Ends, IsStatusOf, writes_front}
 use Rattle.warc_commands.specs.Program.{FaultEnds, IsNotRead, Reports, reported_line}
@@ -52,18 +54,18 @@ stop_text why OutOfMemory = out_fault_text (Memory 0)
 stop_text why kind = why
 
 -- a run couldn't begin: a line says why, nothing went to standard output, and the status is 3
-pub record IsStopped (why : List ℕ) (old new : Outputs) (status : ℕ) : Type 0 where
+pub record IsStopped (why : List ℕ) (old new : Outputs) (status : Status) : Type 0 where
   pub untouched : new.out ≡ old.out
   pub reported : Reports (reported_line why) old.err new.err
-  pub status_is : status ≡ 3
+  pub status_is : status ≡ Failed
 
 -- a command was done over a list and a source, which it left in a last state
-pub record IsRunOver (command : Command) (list : List ℕ) (source last : SeenSource) (old new : Outputs) (status : ℕ)
-    : Type 0 where
+pub record IsRunOver (command : Command) (list : List ℕ) (source last : SeenSource) (old new : Outputs)
+    (status : Status) : Type 0 where
   pub kept : last.holds ≡ source.holds
   pub ends : Ends command list (devices source old.out old.err) (devices last new.out new.err) status
   pub reads : CommandReads command source last
-  pub silent : writes_front command ≡ false → status ≡ 2
+  pub silent : writes_front command ≡ false → status ≡ Refused
       → (new.out.reports ≡ old.out.reports) × (new.out.faults ≡ old.out.faults)
   pub answers : IsStatusOf command status
 
@@ -74,7 +76,7 @@ run_left file stream (sources.Stream s) = Some (stream s)
 run_left file stream sources.Nothing = None
 
 -- a command was done over a source of the system's, which was given back
-abbrev pub IsRunOnLeft : Command → List ℕ → SeenSource → Option SeenSource → Outputs → Outputs → ℕ → Type 0
+abbrev pub IsRunOnLeft : Command → List ℕ → SeenSource → Option SeenSource → Outputs → Outputs → Status → Type 0
 IsRunOnLeft command list source None old new status = ⊥
 IsRunOnLeft command list source (Some last) old new status = IsRunOver command list source last old new status
 
@@ -104,20 +106,20 @@ IsListOf gives None list = list ≡ []
 IsListOf gives (Some path) list = IsListAt gives path list
 
 -- a list has too many bytes
-pub record IsListTooLong (source last : SeenSource) (old new : Outputs) (status : ℕ) : Type 0 where
+pub record IsListTooLong (source last : SeenSource) (old new : Outputs) (status : Status) : Type 0 where
   pub long : IfHeld source.holds (λ all. max_input < length all)
   pub sound : last.faults ≡ source.faults
   pub stopped : IsStopped (codes "the positions are too long") old new status
 
 -- the bytes of a list weren't read, or they are too many
-abbrev pub IsListCut : SeenSource → SeenSource → Outputs → Outputs → ℕ → Type 0
+abbrev pub IsListCut : SeenSource → SeenSource → Outputs → Outputs → Status → Type 0
 IsListCut source last old new status =
     IsListTooLong source last old new status
     ⊎ IsNotRead (devices source old.out old.err) (devices last new.out new.err) status
 
 -- the file of a list didn't open
 pub record IsListUnopened (gives : Offer → Type 0) (left : Option SeenSource) (path : List ℕ) (old new : Outputs)
-    (status : ℕ) : Type 0 where
+    (status : Status) : Type 0 where
   pub error : Error
   pub given : gives (opened path (Err error))
   pub none : left ≡ None
@@ -125,7 +127,7 @@ pub record IsListUnopened (gives : Offer → Type 0) (left : Option SeenSource) 
 
 -- the source of a list was read, and is given back
 pub record IsListUnread (gives : Offer → Type 0) (left : Option SeenSource) (path : List ℕ) (old new : Outputs)
-    (status : ℕ) : Type 0 where
+    (status : Status) : Type 0 where
   pub source : SeenSource
   pub given : GivesList (is_input path) gives path source
   pub last : SeenSource
@@ -133,26 +135,26 @@ pub record IsListUnread (gives : Offer → Type 0) (left : Option SeenSource) (p
   pub ends : IsListCut source last old new status
 
 -- a run stops since it has no list
-abbrev pub LacksList : (Offer → Type 0) → Option SeenSource → Option (List ℕ) → Outputs → Outputs → ℕ → Type 0
+abbrev pub LacksList : (Offer → Type 0) → Option SeenSource → Option (List ℕ) → Outputs → Outputs → Status → Type 0
 LacksList gives left None old new status = ⊥
 LacksList gives left (Some path) old new status =
     IsListUnopened gives left path old new status ⊎ IsListUnread gives left path old new status
 
 -- a command was done over its list and a source of the system's
 pub record IsRunWithList (gives : Offer → Type 0) (left : Option SeenSource) (command : Command) (source : SeenSource)
-    (old new : Outputs) (status : ℕ) : Type 0 where
+    (old new : Outputs) (status : Status) : Type 0 where
   pub list : List ℕ
   pub is : IsListOf gives (list_word command) list
   pub over : IsRunOnLeft command list source left old new status
 
 -- a command reads its list, after its source was opened
-abbrev pub RunsOver : (Offer → Type 0) → Option SeenSource → Command → SeenSource → Outputs → Outputs → ℕ → Type 0
+abbrev pub RunsOver : (Offer → Type 0) → Option SeenSource → Command → SeenSource → Outputs → Outputs → Status → Type 0
 RunsOver gives left command source old new status =
     IsRunWithList gives left command source old new status ⊎ LacksList gives left (list_word command) old new status
 
 -- a command reads the file at its path
 pub record ReadsFile (gives : Offer → Type 0) (left : Option SeenSource) (command : Command) (old new : Outputs)
-    (status : ℕ) : Type 0 where
+    (status : Status) : Type 0 where
   pub file : Result SeenSource Error
   pub given : gives (opened (path_word command) file)
   pub ends : MatchResult file (λ source. RunsOver gives left command source old new status)
@@ -172,19 +174,19 @@ in_memory bytes = record {
 }
 
 -- a command was done over bytes in memory: no read of them failed
-pub record IsRunInMemory (command : Command) (list bytes : List ℕ) (old new : Outputs) (status : ℕ) : Type 0 where
+pub record IsRunInMemory (command : Command) (list bytes : List ℕ) (old new : Outputs) (status : Status) : Type 0 where
   pub last : SeenSource
   pub sound : last.faults ≡ 0
   pub over : IsRunOver command list (in_memory bytes) last old new status
 
 -- a command over bytes in memory, if they are few enough
-abbrev pub MemoryEnds : Bool → List ℕ → Command → List ℕ → List ℕ → Outputs → Outputs → ℕ → Type 0
+abbrev pub MemoryEnds : Bool → List ℕ → Command → List ℕ → List ℕ → Outputs → Outputs → Status → Type 0
 MemoryEnds true long command list bytes old new status = IsRunInMemory command list bytes old new status
 MemoryEnds false long command list bytes old new status = IsStopped long old new status
 
 -- a command was done over all bytes of a source, which were read into memory, or stopped since they are too long
 pub record IsDoneInMemory (long : List ℕ) (command : Command) (list : List ℕ) (source last : SeenSource)
-    (old new : Outputs) (status : ℕ) : Type 0 where
+    (old new : Outputs) (status : Status) : Type 0 where
   pub bytes : List ℕ
   pub are : IfHeld source.holds (λ all. bytes ≡ take (max_input + 1) all)
   pub sound : last.faults ≡ source.faults
@@ -192,7 +194,7 @@ pub record IsDoneInMemory (long : List ℕ) (command : Command) (list : List ℕ
 
 -- a command reads standard input into memory, and gives it back; where reading fails the run stops
 pub record ReadsInto (gives : Offer → Type 0) (left : Option SeenSource) (long : List ℕ) (command : Command)
-    (list : List ℕ) (old new : Outputs) (status : ℕ) : Type 0 where
+    (list : List ℕ) (old new : Outputs) (status : Status) : Type 0 where
   pub source : SeenSource
   pub given : gives (streamed source)
   pub last : SeenSource
@@ -202,18 +204,18 @@ pub record ReadsInto (gives : Offer → Type 0) (left : Option SeenSource) (long
 
 -- it reads its list before that
 pub record IsReadWithList (gives : Offer → Type 0) (left : Option SeenSource) (long : List ℕ) (command : Command)
-    (old new : Outputs) (status : ℕ) : Type 0 where
+    (old new : Outputs) (status : Status) : Type 0 where
   pub list : List ℕ
   pub is : IsListOf gives (list_word command) list
   pub over : ReadsInto gives left long command list old new status
 
-abbrev pub ReadsMemory : (Offer → Type 0) → Option SeenSource → List ℕ → Command → Outputs → Outputs → ℕ → Type 0
+abbrev pub ReadsMemory : (Offer → Type 0) → Option SeenSource → List ℕ → Command → Outputs → Outputs → Status → Type 0
 ReadsMemory gives left long command old new status =
     IsReadWithList gives left long command old new status ⊎ LacksList gives left (list_word command) old new status
 
 -- a command reads standard input as it comes, and no list
 pub record ReadsStream (gives : Offer → Type 0) (left : Option SeenSource) (command : Command) (old new : Outputs)
-    (status : ℕ) : Type 0 where
+    (status : Status) : Type 0 where
   pub source : SeenSource
   pub given : gives (streamed source)
   pub ends : IsRunOnLeft command [] source left old new status
@@ -225,20 +227,20 @@ abbrev pub too_long : List ℕ
 too_long = codes "standard input is too long for this command; write it to a file first"
 
 -- a command reads standard input that is no file: as it comes, if it can ask for each offset once, in order
-abbrev pub PipeEnds : Bool → (Offer → Type 0) → Option SeenSource → Command → Outputs → Outputs → ℕ → Type 0
+abbrev pub PipeEnds : Bool → (Offer → Type 0) → Option SeenSource → Command → Outputs → Outputs → Status → Type 0
 PipeEnds true gives left command old new status = ReadsStream gives left command old new status
 PipeEnds false gives left command old new status = ReadsMemory gives left too_long command old new status
 
 -- a command reads standard input: at any offset where it is a file
 pub record ReadsInput (gives : Offer → Type 0) (left : Option SeenSource) (command : Command) (old new : Outputs)
-    (status : ℕ) : Type 0 where
+    (status : Status) : Type 0 where
   pub file : Option SeenSource
   pub given : gives (redirected file)
   pub ends : MatchOption file (PipeEnds (reads_once command) gives left command old new status)
       (λ source. RunsOver gives left command source old new status)
 
 -- how a command ends, by where its bytes are
-abbrev pub PlaceEnds : Location → (Offer → Type 0) → Option SeenSource → Command → Outputs → Outputs → ℕ → Type 0
+abbrev pub PlaceEnds : Location → (Offer → Type 0) → Option SeenSource → Command → Outputs → Outputs → Status → Type 0
 PlaceEnds File gives left command old new status = ReadsFile gives left command old new status
 PlaceEnds InMemory gives left command old new status =
     ReadsMemory gives left (codes "read failed after 0") command old new status
@@ -250,14 +252,14 @@ abbrev pub names_input_twice : Command → Bool
 names_input_twice command = is_input (path_word command) && is_input (unwrap_or (list_word command) [])
 
 -- how a command ends: without a read, if it names standard input twice
-abbrev pub CommandEnds : Bool → (Offer → Type 0) → Option SeenSource → Command → Outputs → Outputs → ℕ → Type 0
+abbrev pub CommandEnds : Bool → (Offer → Type 0) → Option SeenSource → Command → Outputs → Outputs → Status → Type 0
 CommandEnds true gives left command old new status = IsStopped two_inputs old new status
 CommandEnds false gives left command old new status =
     PlaceEnds (command_place command) gives left command old new status
 
 -- how a run ends, by its words
 pub record WordsEnd (gives : Offer → Type 0) (left : Option SeenSource) (words : List (List ℕ)) (old new : Outputs)
-    (status : ℕ) : Type 0 where
+    (status : Status) : Type 0 where
   pub parsed : Result Request CommandFault
   pub is : IsParsed words parsed
   pub ends : MatchResult parsed
@@ -266,7 +268,7 @@ pub record WordsEnd (gives : Offer → Type 0) (left : Option SeenSource) (words
 
 -- How a run ends, by what the system gives and by what is seen of the source that it gives back: a failed read is
 -- reported only where that source has failed.
-abbrev pub RunEnds : (Offer → Type 0) → Option SeenSource → Result ReadLine Error → Outputs → Outputs → ℕ → Type 0
+abbrev pub RunEnds : (Offer → Type 0) → Option SeenSource → Result ReadLine Error → Outputs → Outputs → Status → Type 0
 RunEnds gives left (Ok line) old new status = WordsEnd gives left line.words old new status
 RunEnds gives left (Err error) old new status =
     IsStopped (stop_text (codes "the arguments aren't text") (error_kind error)) old new status

@@ -12,6 +12,8 @@ use Rattle.warc_reading.specs.Archive.{IsArchiveOf}
 use Rattle.warc_reading.specs.Opening.{Opens}
 use Rattle.warc_reading.specs.Row.{Row}
 use Rattle.warc.specs.Front.{AreRowsOfFront, refused_by}
+use Rattle.warc_arguments.specs.declared.status.Status.{Status}
+use Rattle.warc_arguments.specs.declared.status.Status.TheVariants.{Done, Failed}
 use Rattle.warc_commands.specs.Devices.{Devices}
 use Rattle.warc_commands.specs.Program.{Reports, fault_line, status_of_kind, reported_line}
 
@@ -26,9 +28,9 @@ ReportsAmount None records bytes old new = Reports (amount_line (codes "good") r
 ReportsAmount (Some f) records bytes old new =
     (mid : Seen) × Reports (fault_line f) old mid × Reports (amount_line (codes "salvaged") records bytes) mid new
 
--- the status: 0 where the archive is good, else the status of its fault
-abbrev pub salvage_status : Option Fault → ℕ
-salvage_status None = 0
+-- the status: of the fault, if there is one
+abbrev pub salvage_status : Option Fault → Status
+salvage_status None = Done
 salvage_status (Some f) = status_of_kind f.kind
 
 -- the good records that the bytes begin with, before this fault, are these bytes
@@ -53,7 +55,7 @@ pub record IsSalvageFront (bytes : List ℕ) (found : Option Fault) (rows : List
 
 -- the records before the first fault were written, of a source of fewer than 2^64 bytes; opening the whole is refused
 -- by that fault, if by any
-pub record IsSalvaged (old new : Devices) (status : ℕ) : Type 0 where
+pub record IsSalvaged (old new : Devices) (status : Status) : Type 0 where
   pub rows : List Row
   pub size : ℕ
   pub found : Option Fault
@@ -66,7 +68,7 @@ pub record IsSalvaged (old new : Devices) (status : ℕ) : Type 0 where
   pub status_is : status ≡ salvage_status found
 
 -- a read or a write failed while they were written
-pub record IsSalvageCutOff (old new : Devices) (status : ℕ) : Type 0 where
+pub record IsSalvageCutOff (old new : Devices) (status : Status) : Type 0 where
   pub rows : List Row
   pub found : Option Fault
   pub mid : SeenSource
@@ -77,7 +79,7 @@ pub record IsSalvageCutOff (old new : Devices) (status : ℕ) : Type 0 where
   pub fails : FailsBy {X = ℕ} (λ bytes. length bytes < 2 ^ 64) (Err fault) mid new.source
   pub failed : new.out.faults ≡ failed_with fault old.out.faults
   pub reported : Reports (reported_line (out_fault_text fault)) old.err new.err
-  pub status_is : status ≡ 3
+  pub status_is : status ≡ Failed
 
-abbrev pub SalvageEnds : Devices → Devices → ℕ → Type 0
+abbrev pub SalvageEnds : Devices → Devices → Status → Type 0
 SalvageEnds old new status = IsSalvaged old new status ⊎ IsSalvageCutOff old new status

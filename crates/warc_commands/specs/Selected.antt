@@ -12,6 +12,8 @@ use Rattle.warc_frame.specs.declared.fault.OutFault.TheVariants.{Memory}
 use Rattle.warc_reading.specs.Archive.{IsArchiveOf}
 use Rattle.warc_reading.specs.Row.{Row}
 use Rattle.warc_rewrite.specs.Selecting.{AreOthers, ArePositions, ReadsRecords, at_positions, selected_text}
+use Rattle.warc_arguments.specs.declared.status.Status.{Status}
+use Rattle.warc_arguments.specs.declared.status.Status.TheVariants.{Done, Found, Failed}
 use Rattle.warc_commands.specs.Devices.{Devices}
 use Rattle.warc_commands.specs.Program.{IsBadWord, IsNotOpened, Reports, reported_line}
 use Rattle.warc_commands.specs.Uris.{IsStarved}
@@ -35,7 +37,7 @@ selected_line records bytes more =
     (codes "selected " ++ decimal records ++ codes " records, " ++ decimal bytes ++ codes " bytes" ++ more)
 
 -- the records at these positions of an archive of these rows went out, and how much is reported, with a text after it
-pub record IsSelectionSent (more : List ℕ) (rows : List Row) (positions : List ℕ) (old new : Devices) (status : ℕ)
+pub record IsSelectionSent (more : List ℕ) (rows : List Row) (positions : List ℕ) (old new : Devices) (status : Status)
     : Type 0 where
   pub size : ℕ
   pub reported : IfHeld old.source.holds (λ bytes. IsArchiveOf bytes rows
@@ -45,10 +47,10 @@ pub record IsSelectionSent (more : List ℕ) (rows : List Row) (positions : List
   pub unfailed : new.out.faults ≡ old.out.faults
   pub sound : new.source.faults ≡ old.source.faults
   pub printed : Reports (selected_line (length positions) size more) old.err new.err
-  pub status_is : status ≡ 0
+  pub status_is : status ≡ Done
 
 -- a read or a write failed, and a front of them went out
-pub record IsSelectionCut (rows : List Row) (positions : List ℕ) (old new : Devices) (status : ℕ) : Type 0 where
+pub record IsSelectionCut (rows : List Row) (positions : List ℕ) (old new : Devices) (status : Status) : Type 0 where
   pub fault : OutFault
   pub device : IsOfDevice fault
   pub front : IfHeld old.source.holds (λ bytes. IsArchiveOf bytes rows
@@ -56,49 +58,50 @@ pub record IsSelectionCut (rows : List Row) (positions : List ℕ) (old new : De
   pub fails : FailsBy {X = ℕ} (λ bytes. IsArchiveOf bytes rows) (Err fault) old.source new.source
   pub failed : new.out.faults ≡ failed_with fault old.out.faults
   pub reported : Reports (reported_line (out_fault_text fault)) old.err new.err
-  pub status_is : status ≡ 3
+  pub status_is : status ≡ Failed
 
-abbrev pub SendEnds : List ℕ → List Row → List ℕ → Devices → Devices → ℕ → Type 0
+abbrev pub SendEnds : List ℕ → List Row → List ℕ → Devices → Devices → Status → Type 0
 SendEnds more rows positions old new status =
     IsSelectionSent more rows positions old new status ⊎ IsSelectionCut rows positions old new status
 
 -- each named position has a record, and those that are to be written were
-pub record IsSelected (except : Bool) (named : List ℕ) (rows : List Row) (old new : Devices) (status : ℕ) : Type 0 where
+pub record IsSelected (except : Bool) (named : List ℕ) (rows : List Row) (old new : Devices) (status : Status)
+    : Type 0 where
   pub there : All (λ p. p < length rows) named
   pub chosen : List ℕ
   pub are : AreWanted except (length rows) named chosen
   pub ends : SendEnds [] rows chosen old new status
 
 -- there is no record at a named position, of which the first is reported: nothing was written
-pub record IsAbsent (named : List ℕ) (rows : List Row) (old new : Devices) (status : ℕ) : Type 0 where
+pub record IsAbsent (named : List ℕ) (rows : List Row) (old new : Devices) (status : Status) : Type 0 where
   pub absent : ℕ
   pub first : find (λ p. nat_le (length rows) p) named ≡ Some absent
   pub sound : new.source.faults ≡ old.source.faults
   pub untouched : new.out ≡ old.out
   pub reported : Reports (reported_line (codes "E1 NoRecord " ++ decimal absent)) old.err new.err
-  pub status_is : status ≡ 1
+  pub status_is : status ≡ Found
 
 -- a growth of the memory was refused before anything was written
-pub record IsUnchosen (old new : Devices) (status : ℕ) : Type 0 where
+pub record IsUnchosen (old new : Devices) (status : Status) : Type 0 where
   pub sound : new.source.faults ≡ old.source.faults
   pub untouched : new.out ≡ old.out
   pub reported : Reports (reported_line (out_fault_text (Memory 0))) old.err new.err
-  pub status_is : status ≡ 3
+  pub status_is : status ≡ Failed
 
 -- how it ends after an archive of these rows was opened
-abbrev pub ChosenEnds : Bool → List ℕ → List Row → Devices → Devices → ℕ → Type 0
+abbrev pub ChosenEnds : Bool → List ℕ → List Row → Devices → Devices → Status → Type 0
 ChosenEnds except named rows old new status =
     IsSelected except named rows old new status ⊎ (IsAbsent named rows old new status ⊎ IsUnchosen old new status)
 
 -- the archive was opened
-pub record IsOpenedToSelect (except : Bool) (named : List ℕ) (old new : Devices) (status : ℕ) : Type 0 where
+pub record IsOpenedToSelect (except : Bool) (named : List ℕ) (old new : Devices) (status : Status) : Type 0 where
   pub rows : List Row
   pub are : IfHeld old.source.holds (λ bytes. IsArchiveOf bytes rows)
   pub ends : ChosenEnds except named rows old new status
 
 -- how `select` ends, by the number of the first bad line of its list, if there is one, and by the positions that the
 -- lines name
-abbrev pub SelectEnds : Bool → Option ℕ → List ℕ → Devices → Devices → ℕ → Type 0
+abbrev pub SelectEnds : Bool → Option ℕ → List ℕ → Devices → Devices → Status → Type 0
 SelectEnds except (Some line) named old new status =
     IsBadWord (codes "bad position in line " ++ decimal line) old new status ⊎ IsStarved old new status
 SelectEnds except None named old new status =

@@ -16,6 +16,8 @@ use Rattle.warc_replay.specs.Bodies.{IsSilentAt, body_fault_text}
 use Rattle.warc_replay.specs.Outcomes.{IsStoredOut, StoredAnswer, fault_result}
 use Rattle.warc_replay.specs.declared.fault.BodyFault.{BodyFault}
 use Rattle.warc_replay.specs.declared.fault.BodyFault.TheVariants.{NoRecord, NoCapture, Replay}
+use Rattle.warc_arguments.specs.declared.status.Status.{Status}
+use Rattle.warc_arguments.specs.declared.status.Status.TheVariants.{Done, Found, Failed}
 use Rattle.warc_commands.specs.Devices.{Devices}
 use Rattle.warc_commands.specs.Program.{AreGoodRecordsOf, IsBadWord, IsNotOpened, ReplayEnds, Reports, answer_text, reported_line}
 
@@ -30,12 +32,12 @@ stored_line (Ok r) =
     answer_text (answer_with r.path r.stored) ++ coded_text r.stored.coded r.stored.codings ++ codes "\n"
 stored_line (Err fault) = reported_line (body_fault_text fault)
 
-abbrev pub stored_status : Result StoredAnswer BodyFault → ℕ
-stored_status (Ok r) = 0
-stored_status (Err NoRecord) = 1
-stored_status (Err NoCapture) = 1
-stored_status (Err (Replay (Reason why))) = 1
-stored_status (Err (Replay (ReplayOut e))) = 3
+abbrev pub stored_status : Result StoredAnswer BodyFault → Status
+stored_status (Ok r) = Done
+stored_status (Err NoRecord) = Found
+stored_status (Err NoCapture) = Found
+stored_status (Err (Replay (Reason why))) = Found
+stored_status (Err (Replay (ReplayOut e))) = Failed
 
 -- what is stored of the origin of the capture at the position, among the records that the bytes spell, went out as was
 -- answered
@@ -47,7 +49,7 @@ pub record IsStoredGivenOf (position : ℕ) (answer : Result StoredAnswer BodyFa
   pub source : HasFailedBy (fault_result answer) old.source.faults new.source.faults
 
 -- the archive was opened, and what is stored was asked for
-pub record IsStoredGiven (position : ℕ) (old new : Devices) (status : ℕ) : Type 0 where
+pub record IsStoredGiven (position : ℕ) (old new : Devices) (status : Status) : Type 0 where
   pub answer : Result StoredAnswer BodyFault
   pub is : IfHeld old.source.holds (λ bytes. IsStoredGivenOf position answer bytes old new)
   pub silent : IsSilentAt answer old.out.reports new.out.reports
@@ -57,7 +59,7 @@ pub record IsStoredGiven (position : ℕ) (old new : Devices) (status : ℕ) : T
   pub status_is : status ≡ stored_status answer
 
 -- how `body --stored` ends, by the position that its word says
-abbrev pub StoredEnds : Option ℕ → Devices → Devices → ℕ → Type 0
+abbrev pub StoredEnds : Option ℕ → Devices → Devices → Status → Type 0
 StoredEnds None old new status = IsBadWord (codes "bad position") old new status
 StoredEnds (Some position) old new status = IsStoredGiven position old new status ⊎ IsNotOpened old new status
 
@@ -68,26 +70,26 @@ pub record IsChosenOf (uri : List ℕ) (moment : Instant) (found : Result ℕ Un
   pub chosen : found ≡ chosen_of (index_of (map read_record records)) uri moment
 
 -- no capture is chosen: nothing was written
-pub record IsUnfound (unfound : Unfound) (old new : Devices) (status : ℕ) : Type 0 where
+pub record IsUnfound (unfound : Unfound) (old new : Devices) (status : Status) : Type 0 where
   pub sound : new.source.faults ≡ old.source.faults
   pub untouched : new.out ≡ old.out
   pub reported : Reports (reported_line (reason_text (NotFound unfound))) old.err new.err
-  pub status_is : status ≡ 1
+  pub status_is : status ≡ Found
 
 -- the archive was opened, and what is stored was asked for, of the capture that is chosen
-pub record IsStoredReplayed (uri : List ℕ) (moment : Instant) (old new : Devices) (status : ℕ) : Type 0 where
+pub record IsStoredReplayed (uri : List ℕ) (moment : Instant) (old new : Devices) (status : Status) : Type 0 where
   pub found : Result ℕ Unfound
   pub is : IfHeld old.source.holds (IsChosenOf uri moment found)
   pub ends : MatchResult found (λ position. IsStoredGiven position old new status)
       (λ unfound. IsUnfound unfound old new status)
 
 -- how `replay --stored` ends, as of the first instant of a date
-abbrev pub StoredReplayEnds : List ℕ → Option Instant → Devices → Devices → ℕ → Type 0
+abbrev pub StoredReplayEnds : List ℕ → Option Instant → Devices → Devices → Status → Type 0
 StoredReplayEnds uri None old new status = IsBadWord (codes "bad date") old new status
 StoredReplayEnds uri (Some moment) old new status =
     IsStoredReplayed uri moment old new status ⊎ IsNotOpened old new status
 
 -- how `replay` ends, with `--stored` or without it
-abbrev pub ReplayedAs : Bool → List ℕ → List ℕ → Devices → Devices → ℕ → Type 0
+abbrev pub ReplayedAs : Bool → List ℕ → List ℕ → Devices → Devices → Status → Type 0
 ReplayedAs false date uri old new status = ReplayEnds uri (instant_of date) old new status
 ReplayedAs true date uri old new status = StoredReplayEnds uri (instant_of date) old new status

@@ -9,11 +9,13 @@ use Rattle.warc_frame.specs.declared.fault.OutFault.TheVariants.{Write}
 use Rattle.warc_reading.specs.Row.{Row}
 use Rattle.warc_judged.specs.Summary.{AreFlagged, Flags, IsSummaryOf, summary_text}
 use Rattle.warc_judged.specs.declared.summary.Summary.{Summary}
+use Rattle.warc_arguments.specs.declared.status.Status.{Status}
+use Rattle.warc_arguments.specs.declared.status.Status.TheVariants.{Done, Failed}
 use Rattle.warc_commands.specs.Devices.{Devices}
 use Rattle.warc_commands.specs.Program.{IsNotOpened, Reports, reported_line}
 
 -- all lines of `summary` went out, and no write failed
-pub record IsSummaryReported (old new : Devices) (status : ℕ) : Type 0 where
+pub record IsSummaryReported (old new : Devices) (status : Status) : Type 0 where
   pub rows : List Row
   pub flags : Flags
   pub are : IfHeld old.source.holds (λ bytes. AreFlagged bytes rows flags)
@@ -23,10 +25,10 @@ pub record IsSummaryReported (old new : Devices) (status : ℕ) : Type 0 where
   pub unfailed : new.out.faults ≡ old.out.faults
   pub sound : new.source.faults ≡ old.source.faults
   pub silent : new.err ≡ old.err
-  pub status_is : status ≡ 0
+  pub status_is : status ≡ Done
 
 -- a write failed: a front of the lines went out
-pub record IsSummaryCutOff (old new : Devices) (status : ℕ) : Type 0 where
+pub record IsSummaryCutOff (old new : Devices) (status : Status) : Type 0 where
   pub rows : List Row
   pub flags : Flags
   pub are : IfHeld old.source.holds (λ bytes. AreFlagged bytes rows flags)
@@ -37,8 +39,8 @@ pub record IsSummaryCutOff (old new : Devices) (status : ℕ) : Type 0 where
   pub failed : new.out.faults ≡ raised old.out.faults
   pub sound : new.source.faults ≡ old.source.faults
   pub reported : Reports (reported_line (out_fault_text (Write sent))) old.err new.err
-  pub status_is : status ≡ 3
+  pub status_is : status ≡ Failed
 
-abbrev pub SummaryEnds : Devices → Devices → ℕ → Type 0
+abbrev pub SummaryEnds : Devices → Devices → Status → Type 0
 SummaryEnds old new status =
     IsSummaryReported old new status ⊎ (IsNotOpened old new status ⊎ IsSummaryCutOff old new status)

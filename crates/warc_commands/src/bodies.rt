@@ -8,10 +8,11 @@ ghost use Rattle.warc_commands.specs.Reads.{ReadsTimes};
 
 use crate::extract::report_replay;
 use crate::parts::position_of;
-use crate::program::{FAILED, FOUND, report, report_refusal};
+use crate::program::{report, report_refusal};
 use std::alloc::Allocator;
 use warc::{Archive, BodyFault};
 use warc_answer::Answer;
+use warc_arguments::Status;
 use warc_frame::{Sink, Source};
 
 /// Writes the body that the capture at a position gives, which a word says.
@@ -21,7 +22,7 @@ pub(crate) fn body<A, S, W, E>(
     source: S,
     out: &mut W,
     err: &mut E,
-) -> (u8, S)
+) -> (Status, S)
 where
     A: Allocator + Copy,
     S: Source + Drop,
@@ -38,13 +39,19 @@ where
         Some(position) => body_at(alloc, position, source, out, err),
         None => {
             report("warc: bad position\n", err);
-            (FAILED, source)
+            (Status::Failed, source)
         }
     }
 }
 
 /// Writes the body that the capture at a position gives.
-fn body_at<A, S, W, E>(alloc: A, position: usize, source: S, out: &mut W, err: &mut E) -> (u8, S)
+fn body_at<A, S, W, E>(
+    alloc: A,
+    position: usize,
+    source: S,
+    out: &mut W,
+    err: &mut E,
+) -> (Status, S)
 where
     A: Allocator + Copy,
     S: Source + Drop,
@@ -65,8 +72,8 @@ where
     (report_body(answer, err), archive.into_source())
 }
 
-/// Reports what is said of a body, or why it isn't written, or not whole, and answers the exit status.
-pub(crate) fn report_body<E: Sink>(answer: Result<Answer, BodyFault>, err: &mut E) -> u8
+/// Reports what is said of a body, or why it isn't written, or not whole, and answers the status.
+pub(crate) fn report_body<E: Sink>(answer: Result<Answer, BodyFault>, err: &mut E) -> Status
     ensures reported { Reports (body_line answer) (E.seen err.old) (E.seen err.new) }
     ensures status { result ≡ body_status answer }
 {
@@ -74,11 +81,11 @@ pub(crate) fn report_body<E: Sink>(answer: Result<Answer, BodyFault>, err: &mut 
         Ok(answer) => report_replay(Ok(answer), err),
         Err(BodyFault::NoRecord) => {
             report("warc: E1 NoRecord\n", err);
-            FOUND
+            Status::Found
         }
         Err(BodyFault::NoCapture) => {
             report("warc: E2 NoCapture\n", err);
-            FOUND
+            Status::Found
         }
         Err(BodyFault::Replay(fault)) => report_replay(Err(fault), err),
     }

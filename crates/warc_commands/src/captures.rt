@@ -7,11 +7,11 @@ ghost use Rattle.warc_commands.specs.Reads.{AsksNear};
 ghost use Rattle.warc_commands.specs.Uris.{UriEnds, uri_listed};
 ghost use Rattle.warc_lookup.specs.Indexed.{IsIndexed};
 
-use crate::program::{DONE, FOUND, report, report_cut, report_refusal};
+use crate::program::{report, report_cut, report_refusal};
 use crate::uris::report_fault;
 use std::alloc::Allocator;
 use warc::{Archive, Captures};
-use warc_arguments::{UriFault, bytes_of};
+use warc_arguments::{Status, UriFault, bytes_of};
 use warc_frame::{OutFault, Sink, Source};
 
 /// Writes a line for each capture, of all or of the URI that a word names.
@@ -22,7 +22,7 @@ pub(crate) fn captures<A, S, W, E>(
     source: S,
     out: &mut W,
     err: &mut E,
-) -> (u8, S)
+) -> (Status, S)
 where
     A: Allocator + Copy,
     S: Source + Drop,
@@ -52,7 +52,7 @@ fn captures_in_hex<A, S, W, E>(
     source: S,
     out: &mut W,
     err: &mut E,
-) -> (u8, S)
+) -> (Status, S)
 where
     A: Allocator + Copy,
     S: Source + Drop,
@@ -76,7 +76,7 @@ where
 }
 
 /// Writes a line for each capture. Blocks are judged side by side while the archive is read.
-fn list_all<A, S, W, E>(alloc: A, source: S, out: &mut W, err: &mut E) -> (u8, S)
+fn list_all<A, S, W, E>(alloc: A, source: S, out: &mut W, err: &mut E) -> (Status, S)
 where
     A: Allocator + Copy,
     S: Source + Drop,
@@ -98,7 +98,7 @@ where
 }
 
 /// Writes a line for each capture of a URI. No block is hashed but those of these captures.
-fn list_of<A, S, W, E>(alloc: A, uri: &[u8], source: S, out: &mut W, err: &mut E) -> (u8, S)
+fn list_of<A, S, W, E>(alloc: A, uri: &[u8], source: S, out: &mut W, err: &mut E) -> (Status, S)
 where
     A: Allocator + Copy,
     S: Source + Drop,
@@ -154,8 +154,8 @@ fn write_of<S: Source, W: Sink, A: Allocator + Copy>(
     Ok(listed.len())
 }
 
-/// Reports if no capture is listed, or why the lines end early, and answers the exit status.
-fn report_answer<E: Sink>(answer: Result<usize, OutFault>, err: &mut E) -> u8
+/// Reports if no capture is listed, or why the lines end early, and answers the status.
+fn report_answer<E: Sink>(answer: Result<usize, OutFault>, err: &mut E) -> Status
     ensures { AnswerEnds answer (E.seen err.old) (E.seen err.new) result }
 {
     let count = match answer {
@@ -163,8 +163,8 @@ fn report_answer<E: Sink>(answer: Result<usize, OutFault>, err: &mut E) -> u8
         Err(fault) => return report_cut(fault, err),
     };
     if count > 0 {
-        return DONE;
+        return Status::Done;
     }
     report("warc: P1 NoCapture\n", err);
-    FOUND
+    Status::Found
 }

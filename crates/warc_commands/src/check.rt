@@ -1,16 +1,17 @@
 //! The command that checks an archive.
-ghost use Rattle.std.specs.Prelude.{◌≡◌, ◌⊎◌, min};
+ghost use Rattle.std.specs.Prelude.{◌≡◌, ◌⊎◌};
 ghost use Rattle.warc_commands.specs.Devices.{devices};
-ghost use Rattle.warc_commands.specs.Program.{CheckEnds};
+ghost use Rattle.warc_commands.specs.Program.{CheckEnds, status_of_count};
 ghost use Rattle.warc_commands.specs.Reads.{ReadsInOrder};
 
-use crate::program::{DONE, FOUND, report_cut, report_refusal};
+use crate::program::{report_cut, report_refusal};
 use std::alloc::Allocator;
 use warc::Checked;
+use warc_arguments::Status;
 use warc_frame::{Sink, Source};
 
 /// Checks the records of an archive while it is read, once and in order, and then writes what was found.
-pub(crate) fn check<A, S, W, E>(alloc: A, source: S, out: &mut W, err: &mut E) -> (u8, S)
+pub(crate) fn check<A, S, W, E>(alloc: A, source: S, out: &mut W, err: &mut E) -> (Status, S)
 where
     A: Allocator + Copy,
     S: Source + Drop,
@@ -34,9 +35,13 @@ where
 }
 
 /// The status where an archive was checked and `count` things were found.
-fn status_of_count(count: usize) -> u8
-    ensures value { result ≡ min count 1 }
-    ensures cases { (result ≡ 0) ⊎ (result ≡ 1) }
+fn status_of_count(count: usize) -> Status
+    ensures value { result ≡ status_of_count count }
+    ensures cases { (result ≡ Status.Done) ⊎ (result ≡ Status.Found) }
 {
-    if count == 0 { DONE } else { FOUND }
+    if count > 0 {
+        Status::Found
+    } else {
+        Status::Done
+    }
 }

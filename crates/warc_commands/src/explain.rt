@@ -4,12 +4,12 @@ ghost use Rattle.warc_arguments.specs.Explanations.{explained};
 ghost use Rattle.warc_commands.specs.Devices.{devices};
 ghost use Rattle.warc_commands.specs.Explaining.{ExplainEnds};
 
-use crate::program::{FAILED, report, show};
-use warc_arguments::explanation_of;
+use crate::program::{report, show};
+use warc_arguments::{Status, explanation_of};
 use warc_frame::{Sink, Source};
 
 /// Writes what a number means, and what to do. Nothing is read.
-pub(crate) fn explain<S, W, E>(number: &str, source: S, out: &mut W, err: &mut E) -> (u8, S)
+pub(crate) fn explain<S, W, E>(number: &str, source: S, out: &mut W, err: &mut E) -> (Status, S)
 where
     S: Source + Drop,
     W: Sink,
@@ -24,7 +24,7 @@ where
         Some(text) => (show(text, out, err), source),
         None => {
             report("warc: bad number\n", err);
-            (FAILED, source)
+            (Status::Failed, source)
         }
     }
 }

@@ -7,13 +7,14 @@ ghost use Rattle.warc_commands.specs.Program.{ExtractEnds, ReplayEnds, Reports, 
 ghost use Rattle.warc_commands.specs.Reads.{ReadsTimes};
 ghost use Rattle.warc_commands.specs.Stored.{ReplayedAs};
 
-use crate::program::{DONE, FAILED, FOUND, LINE, report, report_cut, report_refusal};
+use crate::program::{LINE, report, report_cut, report_refusal};
 use crate::stored::stored_as_of;
 use arrayvec::ArrayString;
 use itoa::Buffer;
 use std::alloc::Allocator;
 use warc::{Archive, ExtractFault};
 use warc_answer::{Answer, Reason, ReplayFault};
+use warc_arguments::Status;
 use warc_frame::{Sink, Source};
 use warc_value::{Moment, read_date};
 
@@ -24,7 +25,7 @@ pub(crate) fn extract<A, S, W, E>(
     source: S,
     out: &mut W,
     err: &mut E,
-) -> (u8, S)
+) -> (Status, S)
 where
     A: Allocator + Copy,
     S: Source + Drop,
@@ -60,7 +61,7 @@ pub(crate) fn replay<A, S, W, E>(
     source: S,
     out: &mut W,
     err: &mut E,
-) -> (u8, S)
+) -> (Status, S)
 where
     A: Allocator + Copy,
     S: Source + Drop,
@@ -75,7 +76,7 @@ where
 {
     let Some(moment) = read_date(as_of.date.as_bytes()) else {
         report("warc: bad date\n", err);
-        return (FAILED, source);
+        return (Status::Failed, source);
     };
     if as_of.stored {
         return stored_as_of(alloc, uri, &moment, source, out, err);
@@ -91,7 +92,7 @@ fn replay_as_of<A, S, W, E>(
     source: S,
     out: &mut W,
     err: &mut E,
-) -> (u8, S)
+) -> (Status, S)
 where
     A: Allocator + Copy,
     S: Source + Drop,
@@ -112,34 +113,34 @@ where
     (report_replay(answer, err), archive.into_source())
 }
 
-/// Reports why a block isn't written, or not whole, and answers the exit status.
-pub(crate) fn report_extract<E: Sink>(answer: Result<u64, ExtractFault>, err: &mut E) -> u8
+/// Reports why a block isn't written, or not whole, and answers the status.
+pub(crate) fn report_extract<E: Sink>(answer: Result<u64, ExtractFault>, err: &mut E) -> Status
     ensures reported { ReportsIf (extract_line answer) (E.seen err.old) (E.seen err.new) }
     ensures status { result ≡ extract_status answer }
 {
     match answer {
-        Ok(_) => DONE,
+        Ok(_) => Status::Done,
         Err(ExtractFault::NoRecord) => {
             report("warc: E1 NoRecord\n", err);
-            FOUND
+            Status::Found
         }
         Err(ExtractFault::Out(fault)) => report_cut(fault, err),
     }
 }
 
-/// Reports what is said of a body, or why it isn't written, or not whole, and answers the exit status.
-pub(crate) fn report_replay<E: Sink>(answer: Result<Answer, ReplayFault>, err: &mut E) -> u8
+/// Reports what is said of a body, or why it isn't written, or not whole, and answers the status.
+pub(crate) fn report_replay<E: Sink>(answer: Result<Answer, ReplayFault>, err: &mut E) -> Status
     ensures reported { Reports (replay_line answer) (E.seen err.old) (E.seen err.new) }
     ensures status { result ≡ replay_status answer }
 {
     match answer {
         Ok(answer) => {
             report(line_of_answer(&answer).as_str(), err);
-            DONE
+            Status::Done
         }
         Err(ReplayFault::Reason(reason)) => {
             report(line_of_reason(reason).as_str(), err);
-            FOUND
+            Status::Found
         }
         Err(ReplayFault::Out(fault)) => report_cut(fault, err),
     }

@@ -4,31 +4,29 @@ ghost use Rattle.warc_commands.specs.Devices.{devices};
 ghost use Rattle.warc_commands.specs.Fixity.{FixityEnds, fixity_status};
 ghost use Rattle.warc_commands.specs.Reads.{ReadsInOrder};
 
-use crate::program::{DONE, FOUND, report_cut, report_refusal};
+use crate::program::{report_cut, report_refusal};
 use std::alloc::Allocator;
 use warc::{Counts, Fixity};
+use warc_arguments::Status;
 use warc_frame::{Sink, Source};
 
-/// The exit status where no block or payload is bad, and some can't be checked.
-pub(crate) const UNCHECKED: u8 = 4;
-
 /// The status where all was written.
-fn status_of(counts: Counts) -> u8
+fn status_of(counts: Counts) -> Status
     ensures value { result ≡ fixity_status counts }
-    ensures cases { (result ≡ 0) ⊎ ((result ≡ 1) ⊎ (result ≡ 4)) }
+    ensures cases { (result ≡ Status.Done) ⊎ ((result ≡ Status.Found) ⊎ (result ≡ Status.Unchecked)) }
 {
     if counts.bad > 0 {
-        return FOUND;
+        return Status::Found;
     }
     if counts.unchecked > 0 {
-        UNCHECKED
+        Status::Unchecked
     } else {
-        DONE
+        Status::Done
     }
 }
 
 /// Writes a line for each block that isn't good, and the counts.
-pub(crate) fn fixity<A, S, W, E>(alloc: A, source: S, out: &mut W, err: &mut E) -> (u8, S)
+pub(crate) fn fixity<A, S, W, E>(alloc: A, source: S, out: &mut W, err: &mut E) -> (Status, S)
 where
     A: Allocator + Copy,
     S: Source + Drop,

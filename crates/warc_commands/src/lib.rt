@@ -29,4 +29,4 @@ pub use program::{perform, refuse};
 pub use runs::{RunSource, System, run};
 
 // What the calls above take, so that a caller needs this crate alone.
-pub use warc_arguments::{Command, CommandFault, Draft, EXPLANATIONS, Request, parse};
+pub use warc_arguments::{Command, CommandFault, Draft, EXPLANATIONS, Request, Status, parse};

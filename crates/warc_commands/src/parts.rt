@@ -5,9 +5,10 @@ ghost use Rattle.warc_commands.specs.Parts.{PartEnds, position_of};
 ghost use Rattle.warc_commands.specs.Reads.{ReadsTimes};
 
 use crate::extract::report_extract;
-use crate::program::{FAILED, report, report_refusal};
+use crate::program::{report, report_refusal};
 use std::alloc::Allocator;
 use warc::{Listing, Part};
+use warc_arguments::Status;
 use warc_field::decimal;
 use warc_frame::{MAX_ARCHIVE, Sink, Source};
 
@@ -29,7 +30,7 @@ pub(crate) fn give<A, S, W, E>(
     source: S,
     out: &mut W,
     err: &mut E,
-) -> (u8, S)
+) -> (Status, S)
 where
     A: Allocator + Copy,
     S: Source + Drop,
@@ -44,7 +45,7 @@ where
 {
     let Some(position) = position_of(position.as_bytes()) else {
         report("warc: bad position\n", err);
-        return (FAILED, source);
+        return (Status::Failed, source);
     };
     let mut archive = match Listing::open(alloc, source) {
         Ok(archive) => archive,

@@ -4,14 +4,14 @@ ghost use Rattle.warc_commands.specs.Devices.{devices};
 ghost use Rattle.warc_commands.specs.Payloads.{PayloadLinesEnd, PayloadsEnd, PayloadsListed, payload_status};
 ghost use Rattle.warc_commands.specs.Reads.{AsksNear};
 
-use crate::fixity::UNCHECKED;
-use crate::program::{DONE, FOUND, report_cut, report_refusal};
+use crate::program::{report_cut, report_refusal};
 use std::alloc::Allocator;
 use warc::{PayloadFixity, Payloads};
+use warc_arguments::Status;
 use warc_frame::{OutFault, Sink, Source};
 
 /// Writes a line for each payload that isn't good, and the counts.
-pub(crate) fn payloads<A, S, W, E>(alloc: A, source: S, out: &mut W, err: &mut E) -> (u8, S)
+pub(crate) fn payloads<A, S, W, E>(alloc: A, source: S, out: &mut W, err: &mut E) -> (Status, S)
 where
     A: Allocator + Copy,
     S: Source + Drop,
@@ -35,13 +35,13 @@ where
     )
 }
 
-/// Writes the lines of payloads, or reports why there are none, and answers the exit status.
+/// Writes the lines of payloads, or reports why there are none, and answers the status.
 fn report_payloads<A, S, W, E>(
     archive: &PayloadFixity<S, A>,
     payloads: &Result<Payloads<A>, OutFault>,
     out: &mut W,
     err: &mut E,
-) -> u8
+) -> Status
 where
     A: Allocator + Copy,
     S: Source,
@@ -62,7 +62,7 @@ fn report_judged<A, S, W, E>(
     payloads: &Payloads<A>,
     out: &mut W,
     err: &mut E,
-) -> u8
+) -> Status
 where
     A: Allocator + Copy,
     S: Source,
@@ -78,16 +78,16 @@ where
 }
 
 /// The status where all was written.
-fn status_of<A: Allocator>(payloads: &Payloads<A>) -> u8
+fn status_of<A: Allocator>(payloads: &Payloads<A>) -> Status
     ensures value { result ≡ payload_status payloads.now }
-    ensures cases { (result ≡ 0) ⊎ ((result ≡ 1) ⊎ (result ≡ 4)) }
+    ensures cases { (result ≡ Status.Done) ⊎ ((result ≡ Status.Found) ⊎ (result ≡ Status.Unchecked)) }
 {
     if payloads.counts().bad > 0 {
-        return FOUND;
+        return Status::Found;
     }
     if payloads.are_verified() {
-        DONE
+        Status::Done
     } else {
-        UNCHECKED
+        Status::Unchecked
     }
 }

@@ -8,10 +8,11 @@ ghost use Rattle.warc_commands.specs.Pieces.{PiecesEnd, ReportsEach, has_damage,
 ghost use Rattle.warc_commands.specs.Reads.{AsksNear};
 ghost use Rattle.warc_commands.specs.Walking.{PutsPieces, SendsPieces};
 
-use crate::program::{DONE, REFUSED, report_cut, report_refusal};
+use crate::program::{report_cut, report_refusal};
 use crate::walk::{Found, Step, Tally, next_step};
 use itoa::Buffer;
 use std::alloc::Allocator;
+use warc_arguments::Status;
 use warc_frame::{Fault, OutBuffer, OutFault, SendFault, Sink, Source, put_all};
 use warc_pieces::{Piece, Pieces};
 
@@ -117,8 +118,8 @@ fn send_pieces<S: Source, A: Allocator + Copy, W: Sink>(
     Ok(found)
 }
 
-/// Reports what stopped reading, if anything did, and answers the exit status.
-fn report_stop<E: Sink>(found: Found, err: &mut E) -> u8
+/// Reports what stopped reading, if anything did, and answers the status.
+fn report_stop<E: Sink>(found: Found, err: &mut E) -> Status
     ensures reported { ReportsEach (stop_lines found.stop) (E.seen err.old) (E.seen err.new) }
     ensures status { (pieces : List Given) → found.tally.is_damaged ≡ has_damage pieces
         → result ≡ pieces_status found.stop pieces }
@@ -127,9 +128,9 @@ fn report_stop<E: Sink>(found: Found, err: &mut E) -> u8
         return report_refusal(fault, err);
     }
     if found.tally.is_damaged {
-        REFUSED
+        Status::Refused
     } else {
-        DONE
+        Status::Done
     }
 }
 
@@ -138,7 +139,7 @@ fn print<S: Source, A: Allocator + Copy, W: Sink, E: Sink>(
     pieces: &mut Pieces<S, A>,
     out: &mut W,
     err: &mut E,
-) -> u8
+) -> Status
     requires { (pieces.old.at ≡ 0) × (pieces.old.failure ≡ None) }
     ensures ends { PiecesEnd (devices (S.seen pieces.old.source) (W.seen out.old) (E.seen err.old)) (devices
         (S.seen pieces.new.source) (W.seen out.new) (E.seen err.new)) result }
@@ -152,7 +153,7 @@ fn print<S: Source, A: Allocator + Copy, W: Sink, E: Sink>(
 }
 
 /// Prints a line for each piece.
-pub(crate) fn pieces<A, S, W, E>(alloc: A, source: S, out: &mut W, err: &mut E) -> (u8, S)
+pub(crate) fn pieces<A, S, W, E>(alloc: A, source: S, out: &mut W, err: &mut E) -> (Status, S)
 where
     A: Allocator + Copy,
     S: Source + Drop,

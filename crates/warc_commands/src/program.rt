@@ -31,29 +31,15 @@ use arrayvec::ArrayString;
 use itoa::Buffer;
 use std::alloc::Allocator;
 use warc::{Form, Listing, Part};
-use warc_arguments::{Command, CommandFault};
+use warc_arguments::{Command, CommandFault, Status};
 use warc_frame::{Fault, FaultKind, OutFault, Sink, Source, send_all};
-
-/// The exit status where all was done.
-pub(crate) const DONE: u8 = 0;
-
-/// The exit status where the archive was checked and something was found, or what was asked for isn't there.
-pub(crate) const FOUND: u8 = 1;
-
-/// The exit status where the archive was refused.
-pub(crate) const REFUSED: u8 = 2;
-
-/// The exit status where a read, a write or a growth of the memory failed.
-pub(crate) const FAILED: u8 = 3;
 
 /// The most bytes of a line of the program.
 pub(crate) const LINE: usize = 128;
 
 /// Does what a command says. The output goes to `out`, and a line on what went wrong to `err`, where failed writes are
-/// ignored. Returns the source and the exit status: 0 done; 1 checked and something was found, or what was asked for
-/// isn't there; 2 the archive is refused; 3 a bad date, size, position or number, a record that isn't made, or a read,
-/// a write or a growth of the memory failed; 4 some block or payload can't be checked. A date, a size, a position and a
-/// list are judged before the source is read, and a number is explained without it.
+/// ignored. Returns how the run ended, and the source. A date, a size, a position and a list are judged before the
+/// source is read, and a number is explained without it.
 ///
 /// `listed` holds the bytes of the list that a command reads beside its source (`Command::list_path`).
 ///
@@ -66,7 +52,7 @@ pub fn perform<A, S, W, E>(
     source: S,
     out: &mut W,
     err: &mut E,
-) -> (u8, S)
+) -> (Status, S)
 where
     A: Allocator + Copy,
     S: Source + Drop,
@@ -82,7 +68,7 @@ where
     ensures reads { CommandReads command.now (S.seen source) (S.seen result.1) }
 
     // Nothing is written where the archive is refused, whatever the source holds, but by `pieces` and `salvage`.
-    ensures refused { writes_front command.now ≡ false → result.0 ≡ 2 → ((W.seen out.new).reports ≡
+    ensures refused { writes_front command.now ≡ false → result.0 ≡ Status.Refused → ((W.seen out.new).reports ≡
         (W.seen out.old).reports) × ((W.seen out.new).faults ≡ (W.seen out.old).faults) }
     ensures answers { IsStatusOf command.now result.0 }
 {
@@ -177,7 +163,7 @@ where
     }
 }
 
-fn list<A, S, W, E>(alloc: A, source: S, out: &mut W, err: &mut E) -> (u8, S)
+fn list<A, S, W, E>(alloc: A, source: S, out: &mut W, err: &mut E) -> (Status, S)
 where
     A: Allocator + Copy,
     S: Source + Drop,
@@ -195,13 +181,13 @@ where
         Err((fault, source)) => return (report_refusal(fault, err), source),
     };
     match listing.list(out) {
-        Ok(()) => (DONE, listing.into_source()),
+        Ok(()) => (Status::Done, listing.into_source()),
         Err(fault) => (report_cut(fault, err), listing.into_source()),
     }
 }
 
 /// Writes an archive anew in a form.
-fn write_anew<A, S, W, E>(alloc: A, form: Form, source: S, out: &mut W, err: &mut E) -> (u8, S)
+fn write_anew<A, S, W, E>(alloc: A, form: Form, source: S, out: &mut W, err: &mut E) -> (Status, S)
 where
     A: Allocator + Copy,
     S: Source + Drop,
@@ -219,13 +205,13 @@ where
         Err((fault, source)) => return (report_refusal(fault, err), source),
     };
     match archive.write_as(form, out) {
-        Ok(()) => (DONE, archive.into_source()),
+        Ok(()) => (Status::Done, archive.into_source()),
         Err(fault) => (report_cut(fault, err), archive.into_source()),
     }
 }
 
-/// Reports why an archive isn't opened, and answers the exit status.
-pub(crate) fn report_refusal<E: Sink>(fault: Fault, err: &mut E) -> u8
+/// Reports why an archive isn't opened, and answers the status.
+pub(crate) fn report_refusal<E: Sink>(fault: Fault, err: &mut E) -> Status
     ensures reported { Reports (fault_line fault) (E.seen err.old) (E.seen err.new) }
     ensures status { result ≡ status_of_kind fault.kind }
 {
@@ -233,22 +219,22 @@ pub(crate) fn report_refusal<E: Sink>(fault: Fault, err: &mut E) -> u8
     status_of(fault.kind)
 }
 
-/// Reports why an output ends early, and answers the exit status.
-pub(crate) fn report_cut<E: Sink>(fault: OutFault, err: &mut E) -> u8
+/// Reports why an output ends early, and answers the status.
+pub(crate) fn report_cut<E: Sink>(fault: OutFault, err: &mut E) -> Status
     ensures reported { Reports (reported_line (out_fault_text fault)) (E.seen err.old) (E.seen err.new) }
-    ensures status { result ≡ 3 }
+    ensures status { result ≡ Status.Failed }
 {
     report(line_of_cut(fault).as_str(), err);
-    FAILED
+    Status::Failed
 }
 
 /// The status where an archive isn't opened.
-fn status_of(kind: FaultKind) -> u8
+fn status_of(kind: FaultKind) -> Status
     ensures { result ≡ status_of_kind kind }
 {
     match kind {
-        FaultKind::Read | FaultKind::Memory => FAILED,
-        _ => REFUSED,
+        FaultKind::Read | FaultKind::Memory => Status::Failed,
+        _ => Status::Refused,
     }
 }
 
@@ -300,27 +286,26 @@ pub(crate) fn line_of(text: &str) -> ArrayString<LINE>
     line
 }
 
-/// Reports why words name no command: `clap`'s text goes to `out` if it was asked for, and else to `err`. The answer is
-/// the exit status: 0 if it was asked for and written, else 3.
-pub fn refuse<W: Sink, E: Sink>(fault: &CommandFault, out: &mut W, err: &mut E) -> u8
+/// Reports why words name no command: `clap`'s text goes to `out` if it was asked for, and else to `err`.
+pub fn refuse<W: Sink, E: Sink>(fault: &CommandFault, out: &mut W, err: &mut E) -> Status
     ensures { FaultEnds fault.now (W.seen out.old) (W.seen out.new) (E.seen err.old) (E.seen err.new) result }
 {
     match fault {
         CommandFault::Usage { text, asked: true } => show(text.as_str(), out, err),
         CommandFault::Usage { text, asked: false } => {
             report(text.as_str(), err);
-            FAILED
+            Status::Failed
         }
         CommandFault::Memory => report_cut(OutFault::Memory(0), err),
     }
 }
 
 /// Writes a text that was asked for.
-pub(crate) fn show<W: Sink, E: Sink>(text: &str, out: &mut W, err: &mut E) -> u8
+pub(crate) fn show<W: Sink, E: Sink>(text: &str, out: &mut W, err: &mut E) -> Status
     ensures { IsShown text.now (W.seen out.old) (W.seen out.new) (E.seen err.old) (E.seen err.new) result }
 {
     match send_all(out, text.as_bytes()) {
-        Ok(()) => DONE,
+        Ok(()) => Status::Done,
         Err(fault) => report_cut(OutFault::Write(fault.sent), err),
     }
 }

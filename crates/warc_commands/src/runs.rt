@@ -8,11 +8,11 @@ ghost use Rattle.warc_commands.specs.Running.{Offer, CommandEnds, IsListAt, IsLi
 ghost use Rattle.warc_arguments.specs.Command.{list_word, reads_once};
 ghost use Rattle.warc_frame.specs.Seen.{IfHeld, Seen};
 
-use crate::program::{FAILED, line_of, perform, refuse, report, report_cut};
+use crate::program::{line_of, perform, refuse, report, report_cut};
 use crate::write::read_front;
 use std::alloc::Global;
 use std::io::{self, ErrorKind};
-use warc_arguments::{Command, CommandLine};
+use warc_arguments::{Command, CommandLine, Status};
 use warc_frame::{MemSource, OutFault, Sink, Source};
 
 /// The most bytes of standard input that are kept in memory.
@@ -70,20 +70,20 @@ enum Location {
     Nowhere,
 }
 
-/// Does what a command line says: all of `main` but opening. The answer is the exit status, and what was read: a failed
+/// Does what a command line says: all of `main` but opening. The answer is how it ended, and what was read: a failed
 /// read is reported only if a read of that source failed. Words that aren't text, for which there is an error in place
-/// of the line, and a file that doesn't open are reported on `err`, with status 3. The path `-` is standard input: at
-/// any offset if it is a file, as it comes if the command can ask for each offset once, in order, and else read into
-/// memory, at most 2^30 bytes of it. The path `/dev/stdin` is always read into memory. A command that reads nothing
-/// opens nothing. A list that a command reads beside its archive is read into memory, at most 2^30 bytes of it, after
-/// the archive was opened; it can't be standard input if the archive is.
+/// of the line, and a file that doesn't open are reported on `err`, with the status `Failed`. The path `-` is standard
+/// input: at any offset if it is a file, as it comes if the command can ask for each offset once, in order, and else
+/// read into memory, at most 2^30 bytes of it. The path `/dev/stdin` is always read into memory. A command that reads
+/// nothing opens nothing. A list that a command reads beside its archive is read into memory, at most 2^30 bytes of it,
+/// after the archive was opened; it can't be standard input if the archive is.
 pub fn run<Y, W, E>(
     alloc: Global,
     system: &Y,
     line: &io::Result<CommandLine<'_>>,
     out: &mut W,
     err: &mut E,
-) -> (u8, RunSource<Y::File, Y::Stream>)
+) -> (Status, RunSource<Y::File, Y::Stream>)
 where
     Y: System,
     W: Sink,
@@ -110,7 +110,7 @@ fn run_command<Y, W, E>(
     command: &Command<'_>,
     out: &mut W,
     err: &mut E,
-) -> (u8, RunSource<Y::File, Y::Stream>)
+) -> (Status, RunSource<Y::File, Y::Stream>)
 where
     Y: System,
     W: Sink,
@@ -179,7 +179,7 @@ fn run_file<Y, W, E>(
     command: &Command<'_>,
     out: &mut W,
     err: &mut E,
-) -> (u8, RunSource<Y::File, Y::Stream>)
+) -> (Status, RunSource<Y::File, Y::Stream>)
 where
     Y: System,
     W: Sink,
@@ -201,7 +201,7 @@ fn run_on_file<Y, W, E>(
     file: Y::File,
     out: &mut W,
     err: &mut E,
-) -> (u8, RunSource<Y::File, Y::Stream>)
+) -> (Status, RunSource<Y::File, Y::Stream>)
 where
     Y: System,
     W: Sink,
@@ -225,7 +225,7 @@ fn list_of<Y, E>(
     system: &Y,
     command: &Command<'_>,
     err: &mut E,
-) -> Result<Vec<u8>, (u8, RunSource<Y::File, Y::Stream>)>
+) -> Result<Vec<u8>, (Status, RunSource<Y::File, Y::Stream>)>
 where
     Y: System,
     E: Sink,
@@ -247,7 +247,7 @@ fn list_at<Y, E>(
     system: &Y,
     path: &str,
     err: &mut E,
-) -> Result<Vec<u8>, (u8, RunSource<Y::File, Y::Stream>)>
+) -> Result<Vec<u8>, (Status, RunSource<Y::File, Y::Stream>)>
 where
     Y: System,
     E: Sink,
@@ -277,8 +277,12 @@ where
     }
 }
 
-/// All bytes of a source, if they are few enough; else the exit status.
-fn read_list<S: Source, E: Sink>(alloc: Global, source: &mut S, err: &mut E) -> Result<Vec<u8>, u8>
+/// All bytes of a source, if they are few enough; else the status.
+fn read_list<S: Source, E: Sink>(
+    alloc: Global,
+    source: &mut S,
+    err: &mut E,
+) -> Result<Vec<u8>, Status>
     ensures few { IfOk result (λ list. length list.items ≤ max_input) }
     ensures are { IfOk result (λ list. IfHeld (S.seen source.old).holds (λ all. list.items ≡ all)) }
     ensures silent { IfOk result (λ list. E.seen err.new ≡ E.seen err.old) }
@@ -302,7 +306,7 @@ fn run_input<Y, W, E>(
     command: &Command<'_>,
     out: &mut W,
     err: &mut E,
-) -> (u8, RunSource<Y::File, Y::Stream>)
+) -> (Status, RunSource<Y::File, Y::Stream>)
 where
     Y: System,
     W: Sink,
@@ -323,7 +327,7 @@ fn run_pipe<Y, W, E>(
     command: &Command<'_>,
     out: &mut W,
     err: &mut E,
-) -> (u8, RunSource<Y::File, Y::Stream>)
+) -> (Status, RunSource<Y::File, Y::Stream>)
 where
     Y: System,
     W: Sink,
@@ -349,7 +353,7 @@ fn run_memory<Y, W, E>(
     long: &str,
     out: &mut W,
     err: &mut E,
-) -> (u8, RunSource<Y::File, Y::Stream>)
+) -> (Status, RunSource<Y::File, Y::Stream>)
 where
     Y: System,
     W: Sink,
@@ -373,7 +377,7 @@ fn run_read<Y, W, E>(
     long: &str,
     out: &mut W,
     err: &mut E,
-) -> (u8, RunSource<Y::File, Y::Stream>)
+) -> (Status, RunSource<Y::File, Y::Stream>)
 where
     Y: System,
     W: Sink,
@@ -401,7 +405,7 @@ fn run_bytes<W: Sink, E: Sink>(
     long: &str,
     out: &mut W,
     err: &mut E,
-) -> u8
+) -> Status
     requires { length long.now ≤ 100 }
     ensures { MemoryEnds (nat_le (length bytes.items) max_input) long.now command.now list.now bytes.items (outputs
         (W.seen out.old) (E.seen err.old)) (outputs (W.seen out.new) (E.seen err.new)) result }
@@ -421,7 +425,7 @@ fn run_in_memory<W: Sink, E: Sink>(
     bytes: Vec<u8>,
     out: &mut W,
     err: &mut E,
-) -> u8
+) -> Status
     ensures { IsRunInMemory command.now list.now bytes.items (outputs (W.seen out.old) (E.seen err.old)) (outputs
         (W.seen out.new) (E.seen err.new)) result }
 {
@@ -438,7 +442,7 @@ fn run_over<S, W, E>(
     source: S,
     out: &mut W,
     err: &mut E,
-) -> (u8, S)
+) -> (Status, S)
 where
     S: Source + Drop,
     W: Sink,
@@ -449,12 +453,12 @@ where
     perform(alloc, command, list, source, out, err)
 }
 
-/// Reports why a run can't begin: the text, or that memory was refused; and answers the exit status.
-fn stop<E: Sink>(error: &io::Error, why: &str, err: &mut E) -> u8
+/// Reports why a run can't begin: the text, or that memory was refused; and answers the status.
+fn stop<E: Sink>(error: &io::Error, why: &str, err: &mut E) -> Status
     requires { length why.now ≤ 100 }
     ensures reported { Reports (reported_line (stop_text why.now (error_kind error.now)))
         (E.seen err.old) (E.seen err.new) }
-    ensures status { result ≡ 3 }
+    ensures status { result ≡ Status.Failed }
 {
     match error.kind() {
         ErrorKind::OutOfMemory => report_cut(OutFault::Memory(0), err),
@@ -462,12 +466,12 @@ fn stop<E: Sink>(error: &io::Error, why: &str, err: &mut E) -> u8
     }
 }
 
-/// Reports a short text, and answers the exit status.
-fn report_stop<E: Sink>(why: &str, err: &mut E) -> u8
+/// Reports a short text, and answers the status.
+fn report_stop<E: Sink>(why: &str, err: &mut E) -> Status
     requires { length why.now ≤ 100 }
     ensures reported { Reports (reported_line why.now) (E.seen err.old) (E.seen err.new) }
-    ensures status { result ≡ 3 }
+    ensures status { result ≡ Status.Failed }
 {
     report(line_of(why).as_str(), err);
-    FAILED
+    Status::Failed
 }

@@ -5,11 +5,12 @@ ghost use Rattle.warc_commands.specs.Program.{Reports, status_of_kind};
 ghost use Rattle.warc_commands.specs.Reads.{ReadsTimes};
 ghost use Rattle.warc_commands.specs.Salvage.{SalvageEnds, ReportsAmount, amount_line, salvage_status};
 
-use crate::program::{DONE, LINE, report, report_cut, report_refusal};
+use crate::program::{LINE, report, report_cut, report_refusal};
 use arrayvec::ArrayString;
 use itoa::Buffer;
 use std::alloc::Allocator;
 use warc::open_front;
+use warc_arguments::Status;
 use warc_frame::{Fault, Sink, Source};
 
 /// The line of how many records and bytes went out.
@@ -38,8 +39,8 @@ pub(crate) fn report_line<E: Sink>(word: &str, records: u64, bytes: u64, err: &m
     report(line_of_amount(word, records, bytes).as_str(), err);
 }
 
-/// Reports a fault and how many records and bytes before it went out, and answers the exit status.
-fn report_salvaged<E: Sink>(fault: Fault, records: usize, bytes: u64, err: &mut E) -> u8
+/// Reports a fault and how many records and bytes before it went out, and answers the status.
+fn report_salvaged<E: Sink>(fault: Fault, records: usize, bytes: u64, err: &mut E) -> Status
     ensures reported { ReportsAmount (Some fault) records bytes (E.seen err.old) (E.seen err.new) }
     ensures status { result ≡ status_of_kind fault.kind }
 {
@@ -50,21 +51,21 @@ fn report_salvaged<E: Sink>(fault: Fault, records: usize, bytes: u64, err: &mut 
 
 /// Reports the fault after the records that were written, if there is one, and how many they are; and answers the exit
 /// status.
-fn report_amount<E: Sink>(found: Option<Fault>, records: usize, bytes: u64, err: &mut E) -> u8
+fn report_amount<E: Sink>(found: Option<Fault>, records: usize, bytes: u64, err: &mut E) -> Status
     ensures reported { ReportsAmount found records bytes (E.seen err.old) (E.seen err.new) }
     ensures status { result ≡ salvage_status found }
 {
     match found {
         None => {
             report_line("good", records as u64, bytes, err);
-            DONE
+            Status::Done
         }
         Some(fault) => report_salvaged(fault, records, bytes, err),
     }
 }
 
 /// Writes the records before the first fault, byte for byte.
-pub(crate) fn salvage<A, S, W, E>(alloc: A, source: S, out: &mut W, err: &mut E) -> (u8, S)
+pub(crate) fn salvage<A, S, W, E>(alloc: A, source: S, out: &mut W, err: &mut E) -> (Status, S)
 where
     A: Allocator + Copy,
     S: Source + Drop,

@@ -9,12 +9,13 @@ ghost use Rattle.warc_commands.specs.Reads.{AsksNear};
 ghost use Rattle.warc_commands.specs.Program.{Reports};
 ghost use Rattle.warc_commands.specs.Walking.{CopiesPieces, IsGoodOf, IsTallyOf, ReadsGood, SendsRuns};
 
-use crate::program::{DONE, LINE, REFUSED, report, report_cut, report_refusal};
+use crate::program::{LINE, report, report_cut, report_refusal};
 use crate::salvage::report_line;
 use crate::walk::{Found, Step, Tally, next_step};
 use arrayvec::ArrayString;
 use itoa::Buffer;
 use std::alloc::Allocator;
+use warc_arguments::Status;
 use warc_frame::{Fault, OutBuffer, OutFault, PIECE, Sink, Source};
 use warc_pieces::{Piece, Pieces};
 
@@ -115,23 +116,23 @@ fn send_runs<S: Source, A: Allocator + Copy, W: Sink, E: Sink>(
     Ok(found)
 }
 
-/// Reports how many records and bytes went out, and answers the exit status.
-fn report_sum<E: Sink>(tally: Tally, err: &mut E) -> u8
+/// Reports how many records and bytes went out, and answers the status.
+fn report_sum<E: Sink>(tally: Tally, err: &mut E) -> Status
     ensures reported { (pieces : List Given) → IsTallyOf tally pieces
         → Reports (salvaged_line None pieces) (E.seen err.old) (E.seen err.new) }
     ensures status { (pieces : List Given) → IsTallyOf tally pieces → result ≡ pieces_status None pieces }
 {
     if tally.is_damaged {
         report_line("salvaged", tally.records, tally.bytes, err);
-        REFUSED
+        Status::Refused
     } else {
         report_line("good", tally.records, tally.bytes, err);
-        DONE
+        Status::Done
     }
 }
 
-/// Reports what stopped reading, if anything did, and what went out, and answers the exit status.
-fn report_found<E: Sink>(found: Found, err: &mut E) -> u8
+/// Reports what stopped reading, if anything did, and what went out, and answers the status.
+fn report_found<E: Sink>(found: Found, err: &mut E) -> Status
     ensures reported { (pieces : List Given) → IsTallyOf found.tally pieces → ReportsEach (stop_lines found.stop
         ++ salvaged_line found.stop pieces ∷ []) (E.seen err.old) (E.seen err.new) }
     ensures status { (pieces : List Given) → IsTallyOf found.tally pieces
@@ -152,7 +153,7 @@ fn salvage_pieces<S: Source, A: Allocator + Copy, W: Sink, E: Sink>(
     pieces: &mut Pieces<S, A>,
     out: &mut W,
     err: &mut E,
-) -> u8
+) -> Status
     requires { (pieces.old.at ≡ 0) × (pieces.old.failure ≡ None) }
     ensures ends { SalvageAllEnds (devices (S.seen pieces.old.source) (W.seen out.old) (E.seen err.old)) (devices
         (S.seen pieces.new.source) (W.seen out.new) (E.seen err.new)) result }
@@ -166,7 +167,7 @@ fn salvage_pieces<S: Source, A: Allocator + Copy, W: Sink, E: Sink>(
 }
 
 /// Writes all good records, byte for byte.
-pub(crate) fn salvage_all<A, S, W, E>(alloc: A, source: S, out: &mut W, err: &mut E) -> (u8, S)
+pub(crate) fn salvage_all<A, S, W, E>(alloc: A, source: S, out: &mut W, err: &mut E) -> (Status, S)
 where
     A: Allocator + Copy,
     S: Source + Drop,

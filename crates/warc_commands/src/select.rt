@@ -8,12 +8,13 @@ ghost use Rattle.warc_commands.specs.Reads.{ReadsTimes};
 ghost use Rattle.warc_commands.specs.Selected.{AreWanted, ChosenEnds, ReadsSome, SelectEnds, SendEnds, list_fault_text};
 
 use crate::lists::{ListFault, first_absent, put_in_order, read_list};
-use crate::program::{DONE, FAILED, FOUND, LINE, report, report_cut, report_refusal};
+use crate::program::{LINE, report, report_cut, report_refusal};
 use crate::salvage::report_line;
 use arrayvec::ArrayString;
 use itoa::Buffer;
 use std::alloc::{AllocError, Allocator};
 use warc::Listing;
+use warc_arguments::Status;
 use warc_frame::{OutFault, Sink, Source};
 
 /// Which records are written: those at the positions that a list names, or all others.
@@ -30,7 +31,7 @@ pub(crate) fn select<A, S, W, E>(
     source: S,
     out: &mut W,
     err: &mut E,
-) -> (u8, S)
+) -> (Status, S)
 where
     A: Allocator + Copy,
     S: Source + Drop,
@@ -63,7 +64,7 @@ fn write_named<A, S, W, E>(
     except: bool,
     out: &mut W,
     err: &mut E,
-) -> u8
+) -> Status
 where
     A: Allocator + Copy,
     S: Source,
@@ -76,7 +77,7 @@ where
 {
     if let Some(absent) = first_absent(&named, archive.count()) {
         report_number("E1 NoRecord ", absent, err);
-        return FOUND;
+        return Status::Found;
     }
     match choose(archive, named, except) {
         Ok(chosen) => send(archive, &chosen, out, err),
@@ -108,7 +109,7 @@ fn send<A, S, W, E>(
     positions: &[usize],
     out: &mut W,
     err: &mut E,
-) -> u8
+) -> Status
 where
     A: Allocator + Copy,
     S: Source,
@@ -124,21 +125,21 @@ where
     match archive.select(positions, out) {
         Ok(()) => {
             report_line("selected", positions.len() as u64, size, err);
-            DONE
+            Status::Done
         }
         Err(fault) => report_cut(fault, err),
     }
 }
 
-/// Reports why a list names no positions, and answers the exit status.
-pub(crate) fn report_list<E: Sink>(fault: ListFault, err: &mut E) -> u8
+/// Reports why a list names no positions, and answers the status.
+pub(crate) fn report_list<E: Sink>(fault: ListFault, err: &mut E) -> Status
     ensures reported { Reports (reported_line (list_fault_text fault)) (E.seen err.old) (E.seen err.new) }
-    ensures status { result ≡ 3 }
+    ensures status { result ≡ Status.Failed }
 {
     match fault {
         ListFault::Line(number) => {
             report_number("bad position in line ", number, err);
-            FAILED
+            Status::Failed
         }
         ListFault::Memory => report_cut(OutFault::Memory(0), err),
     }

@@ -11,12 +11,13 @@ ghost use Rattle.warc_commands.specs.Reads.{ReadsTimes};
 ghost use Rattle.warc_commands.specs.Selected.{SendEnds, selected_line};
 
 use crate::lists::{first_absent, put_in_order, read_list};
-use crate::program::{DONE, FOUND, LINE, report, report_cut, report_refusal};
+use crate::program::{LINE, report, report_cut, report_refusal};
 use crate::select::{Wanted, report_list, report_number};
 use arrayvec::ArrayString;
 use itoa::Buffer;
 use std::alloc::Allocator;
 use warc::Archive;
+use warc_arguments::Status;
 use warc_frame::{OutFault, Sink, Source};
 
 /// Writes the records at the positions that a list names and those that they need, or all others that need none of
@@ -27,7 +28,7 @@ pub(crate) fn select_closed<A, S, W, E>(
     source: S,
     out: &mut W,
     err: &mut E,
-) -> (u8, S)
+) -> (Status, S)
 where
     A: Allocator + Copy,
     S: Source + Drop,
@@ -60,7 +61,7 @@ fn write_closed<A, S, W, E>(
     except: bool,
     out: &mut W,
     err: &mut E,
-) -> u8
+) -> Status
 where
     A: Allocator + Copy,
     S: Source,
@@ -75,7 +76,7 @@ where
 {
     if let Some(absent) = first_absent(&named, archive.count()) {
         report_number("E1 NoRecord ", absent, err);
-        return FOUND;
+        return Status::Found;
     }
     let mut positions = named;
     put_in_order(&mut positions);
@@ -89,7 +90,7 @@ fn close_and_send<A, S, W, E>(
     except: bool,
     out: &mut W,
     err: &mut E,
-) -> u8
+) -> Status
 where
     A: Allocator + Copy,
     S: Source,
@@ -155,7 +156,7 @@ fn send_closed<A, S, W, E>(
     beside: Beside,
     out: &mut W,
     err: &mut E,
-) -> u8
+) -> Status
 where
     A: Allocator + Copy,
     S: Source,
@@ -172,7 +173,7 @@ where
     match archive.select(positions, out) {
         Ok(()) => {
             report_selected(positions.len(), size, beside, err);
-            DONE
+            Status::Done
         }
         Err(fault) => report_cut(fault, err),
     }

@@ -4,9 +4,10 @@ ghost use Rattle.warc_commands.specs.Devices.{devices};
 ghost use Rattle.warc_commands.specs.Program.{SplitEnds, size_of};
 ghost use Rattle.warc_commands.specs.Reads.{ReadsTimes};
 
-use crate::program::{DONE, FAILED, report, report_cut, report_refusal};
+use crate::program::{report, report_cut, report_refusal};
 use std::alloc::Allocator;
 use warc::Listing;
+use warc_arguments::Status;
 use warc_field::decimal;
 use warc_frame::{MAX_BLOCK, Sink, Source};
 
@@ -27,7 +28,7 @@ pub(crate) fn split<A, S, W, E>(
     source: S,
     out: &mut W,
     err: &mut E,
-) -> (u8, S)
+) -> (Status, S)
 where
     A: Allocator + Copy,
     S: Source + Drop,
@@ -42,14 +43,14 @@ where
 {
     let Some(size) = size_of(size.as_bytes()) else {
         report("warc: bad size\n", err);
-        return (FAILED, source);
+        return (Status::Failed, source);
     };
     let mut archive = match Listing::open(alloc, source) {
         Ok(archive) => archive,
         Err((fault, source)) => return (report_refusal(fault, err), source),
     };
     match archive.split(size, out) {
-        Ok(()) => (DONE, archive.into_source()),
+        Ok(()) => (Status::Done, archive.into_source()),
         Err(fault) => (report_cut(fault, err), archive.into_source()),
     }
 }

@@ -13,10 +13,11 @@ ghost use Rattle.warc_commands.specs.Stored.{StoredEnds, StoredReplayEnds, coded
 use crate::bodies::report_body;
 use crate::extract::{line_of_answer, report_replay};
 use crate::parts::position_of;
-use crate::program::{DONE, FAILED, report, report_refusal};
+use crate::program::{report, report_refusal};
 use std::alloc::Allocator;
 use warc::{Archive, BodyFault, StoredAt};
 use warc_answer::{Answer, Reason, ReplayFault};
+use warc_arguments::Status;
 use warc_frame::{OutBuffer, Sink, Source, put_all};
 use warc_value::Moment;
 
@@ -27,7 +28,7 @@ pub(crate) fn stored<A, S, W, E>(
     source: S,
     out: &mut W,
     err: &mut E,
-) -> (u8, S)
+) -> (Status, S)
 where
     A: Allocator + Copy,
     S: Source + Drop,
@@ -44,13 +45,19 @@ where
         Some(position) => stored_at(alloc, position, source, out, err),
         None => {
             report("warc: bad position\n", err);
-            (FAILED, source)
+            (Status::Failed, source)
         }
     }
 }
 
 /// Writes what is stored of the origin of the capture at a position.
-fn stored_at<A, S, W, E>(alloc: A, position: usize, source: S, out: &mut W, err: &mut E) -> (u8, S)
+fn stored_at<A, S, W, E>(
+    alloc: A,
+    position: usize,
+    source: S,
+    out: &mut W,
+    err: &mut E,
+) -> (Status, S)
 where
     A: Allocator + Copy,
     S: Source + Drop,
@@ -79,7 +86,7 @@ pub(crate) fn stored_as_of<A, S, W, E>(
     source: S,
     out: &mut W,
     err: &mut E,
-) -> (u8, S)
+) -> (Status, S)
 where
     A: Allocator + Copy,
     S: Source + Drop,
@@ -109,15 +116,18 @@ where
     }
 }
 
-/// Reports what is said of what is stored, or why it isn't written, or not whole, and answers the exit status.
-fn report_stored<E: Sink, A: Allocator>(answer: &Result<StoredAt<A>, BodyFault>, err: &mut E) -> u8
+/// Reports what is said of what is stored, or why it isn't written, or not whole, and answers the status.
+fn report_stored<E: Sink, A: Allocator>(
+    answer: &Result<StoredAt<A>, BodyFault>,
+    err: &mut E,
+) -> Status
     ensures reported { Reports (stored_line (answer_seen answer.now)) (E.seen err.old) (E.seen err.new) }
     ensures status { result ≡ stored_status (answer_seen answer.now) }
 {
     match answer {
         Ok(at) => {
             report_answer(at, err);
-            DONE
+            Status::Done
         }
         Err(fault) => report_body(Err(*fault), err),
     }

@@ -4,13 +4,14 @@ ghost use Rattle.warc_commands.specs.Devices.{devices};
 ghost use Rattle.warc_commands.specs.Reads.{ReadsInOrder};
 ghost use Rattle.warc_commands.specs.Summaries.{SummaryEnds};
 
-use crate::program::{DONE, report_cut, report_refusal};
+use crate::program::{report_cut, report_refusal};
 use std::alloc::Allocator;
 use warc::Summarized;
+use warc_arguments::Status;
 use warc_frame::{Sink, Source};
 
 /// Writes how many records an archive has, of which kinds, and from when to when.
-pub(crate) fn summary<A, S, W, E>(alloc: A, source: S, out: &mut W, err: &mut E) -> (u8, S)
+pub(crate) fn summary<A, S, W, E>(alloc: A, source: S, out: &mut W, err: &mut E) -> (Status, S)
 where
     A: Allocator + Copy,
     S: Source + Drop,
@@ -28,7 +29,7 @@ where
         Err((fault, source)) => return (report_refusal(fault, err), source),
     };
     match summarized.summary().write(out) {
-        Ok(()) => (DONE, summarized.into_source()),
+        Ok(()) => (Status::Done, summarized.into_source()),
         Err(fault) => (report_cut(fault, err), summarized.into_source()),
     }
 }

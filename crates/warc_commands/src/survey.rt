@@ -4,13 +4,14 @@ ghost use Rattle.warc_commands.specs.Devices.{devices};
 ghost use Rattle.warc_commands.specs.Reads.{AsksNear};
 ghost use Rattle.warc_commands.specs.Surveys.{SurveyEnds};
 
-use crate::program::{DONE, report_cut, report_refusal};
+use crate::program::{report_cut, report_refusal};
 use std::alloc::Allocator;
 use warc::Surveyed;
+use warc_arguments::Status;
 use warc_frame::{Sink, Source};
 
 /// Writes what the six commands write, each after a line with its name. What they find changes no status.
-pub(crate) fn survey<A, S, W, E>(alloc: A, source: S, out: &mut W, err: &mut E) -> (u8, S)
+pub(crate) fn survey<A, S, W, E>(alloc: A, source: S, out: &mut W, err: &mut E) -> (Status, S)
 where
     A: Allocator + Copy,
     S: Source + Drop,
@@ -28,7 +29,7 @@ where
         Err((fault, source)) => return (report_refusal(fault, err), source),
     };
     match surveyed.write(out) {
-        Ok(()) => (DONE, surveyed.into_source()),
+        Ok(()) => (Status::Done, surveyed.into_source()),
         Err(fault) => (report_cut(fault, err), surveyed.into_source()),
     }
 }

@@ -8,20 +8,20 @@ ghost use Rattle.warc_commands.specs.Uris.{UriEnds, uri_fault_text};
 ghost use Rattle.warc_arguments.specs.Digits.{uri_named};
 
 use crate::extract::{AsOf, replay};
-use crate::program::{FAILED, report, report_cut};
+use crate::program::{report, report_cut};
 use std::alloc::Allocator;
-use warc_arguments::{UriFault, bytes_of};
+use warc_arguments::{Status, UriFault, bytes_of};
 use warc_frame::{OutFault, Sink, Source};
 
-/// Reports why digits name no URI, and answers the exit status.
-pub(crate) fn report_fault<E: Sink>(fault: UriFault, err: &mut E) -> u8
+/// Reports why digits name no URI, and answers the status.
+pub(crate) fn report_fault<E: Sink>(fault: UriFault, err: &mut E) -> Status
     ensures reported { Reports (reported_line (uri_fault_text fault)) (E.seen err.old) (E.seen err.new) }
-    ensures status { result ≡ 3 }
+    ensures status { result ≡ Status.Failed }
 {
     match fault {
         UriFault::Digits => {
             report("warc: bad hex\n", err);
-            FAILED
+            Status::Failed
         }
         UriFault::Memory => report_cut(OutFault::Memory(0), err),
     }
@@ -36,7 +36,7 @@ pub(crate) fn replay_named<A, S, W, E>(
     source: S,
     out: &mut W,
     err: &mut E,
-) -> (u8, S)
+) -> (Status, S)
 where
     A: Allocator + Copy,
     S: Source + Drop,
@@ -64,7 +64,7 @@ fn replay_in_hex<A, S, W, E>(
     source: S,
     out: &mut W,
     err: &mut E,
-) -> (u8, S)
+) -> (Status, S)
 where
     A: Allocator + Copy,
     S: Source + Drop,

@@ -10,9 +10,9 @@ ghost use Rattle.warc_commands.specs.Program.{IsUnsent, MakeEnds, Reports, plan_
 ghost use Rattle.warc_commands.specs.Reads.{ReadsForRecord, file_piece};
 ghost use Rattle.warc_frame.specs.Ranges.{IsReadAt};
 
-use crate::program::{DONE, FAILED, line_of, report, report_cut};
+use crate::program::{line_of, report, report_cut};
 use std::alloc::Allocator;
-use warc_arguments::Draft;
+use warc_arguments::{Draft, Status};
 use warc_frame::{Framed, MAX_BLOCK, OutFault, Sink, Source};
 use warc_record::Kind;
 use warc_write::{MakeFault, make, refusal_of_long, render_one};
@@ -169,7 +169,7 @@ pub(crate) fn write<A, S, W, E>(
     source: S,
     out: &mut W,
     err: &mut E,
-) -> (u8, S)
+) -> (Status, S)
 where
     A: Allocator + Copy,
     S: Source + Drop,
@@ -193,16 +193,16 @@ where
         Err(fault) => return (report_unmade(fault, err), source),
     };
     match render_one(&framed, out) {
-        Ok(()) => (DONE, source),
+        Ok(()) => (Status::Done, source),
         Err(fault) => (report_cut(fault, err), source),
     }
 }
 
-/// Reports why no record is made, and answers the exit status.
-fn report_unmade<E: Sink>(fault: MakeFault, err: &mut E) -> u8
+/// Reports why no record is made, and answers the status.
+fn report_unmade<E: Sink>(fault: MakeFault, err: &mut E) -> Status
     ensures reported { Reports (reported_line (make_fault_text fault)) (E.seen err.old) (E.seen err.new) }
-    ensures status { result ≡ 3 }
+    ensures status { result ≡ Status.Failed }
 {
     report(line_of(fault.name()).as_str(), err);
-    FAILED
+    Status::Failed
 }

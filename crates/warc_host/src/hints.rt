@@ -3,12 +3,7 @@
 use crate::files::Failure;
 use crate::shown::is_escaped;
 use std::{env, fmt, io};
-use warc_arguments::{Command, Request};
-
-/// The exit status where the archive was refused, and where a run failed.
-const REFUSED: u8 = 2;
-
-const FAILED: u8 = 3;
+use warc_arguments::{Command, Request, Status};
 
 /// The words of the command line, the program's name being the first.
 pub fn words(rt: &HostRuntime) -> io::Result<Vec<String>> {
@@ -18,7 +13,7 @@ pub fn words(rt: &HostRuntime) -> io::Result<Vec<String>> {
 /// How a run ended: its status, the compression that its input looks like, and the system's last error.
 #[derive(Clone, Copy)]
 pub struct Ended {
-    pub status: u8,
+    pub status: Status,
     pub packing: Option<&'static str>,
     pub reason: Option<Failure>,
 }
@@ -31,13 +26,13 @@ pub fn hint(
     request: &Request<'_>,
     ended: Ended,
 ) -> io::Result<()> {
-    if ended.status == REFUSED {
+    if ended.status == Status::Refused {
         return match ended.packing {
             Some(packing) => hint_packing(rt, words, packing),
             None => hint_pieces(rt, &request.command),
         };
     }
-    if ended.status == FAILED
+    if ended.status == Status::Failed
         && let Some(failure) = ended.reason
     {
         let path = Quoted(path_of(request, failure));

@@ -10,14 +10,11 @@ use files::Files;
 use std::cell::Cell;
 use std::io::{self, IsTerminal};
 use std::process::ExitCode;
-use warc_arguments::{Command, CommandFault, CommandLine, Request};
+use warc_arguments::{Command, CommandFault, CommandLine, Request, Status};
 use warc_commands::run;
 use warc_frame::{Sink, send_all};
 use warc_host::{CountedSink, Ended, ErasingSink, Host, Progress, ShownSink, hint, words};
 use wrong_words::{hint_empty, hint_fault, hint_word};
-
-/// The exit status where a write failed.
-const FAILED: u8 = 3;
 
 /// What is reported where standard output is a file that the command reads.
 const SAME_FILE: &str = "warc: the output is a file that is read\n";
@@ -56,7 +53,7 @@ fn writes_over(host: &Host<'_>, command: &Command<'_>) -> bool {
     is_list || host.is_output(command.path())
 }
 
-/// Does what a command line says, and returns the exit status. Nothing is read or written where the output is a file
+/// Does what a command line says, and returns how it ended. Nothing is read or written where the output is a file
 /// that the command reads.
 fn status_of<'a, W: Sink, E: Sink>(
     files: &Files<'a>,
@@ -64,12 +61,12 @@ fn status_of<'a, W: Sink, E: Sink>(
     request: &Option<Request<'_>>,
     out: &mut W,
     err: &mut E,
-) -> u8 {
+) -> Status {
     if let Some(request) = request
         && writes_over(&files.host, &request.command)
     {
         let _ = send_all(err, SAME_FILE.as_bytes());
-        return FAILED;
+        return Status::Failed;
     }
     let (status, _) = run(files.host.rt.alloc(), files, line, out, err);
     status
@@ -80,7 +77,7 @@ fn give_hints(
     files: &Files<'_>,
     line: &CommandLine<'_>,
     request: &Request<'_>,
-    status: u8,
+    status: Status,
     report: &[u8],
 ) {
     let Host {
@@ -107,7 +104,7 @@ fn say_more(
     files: &Files<'_>,
     line: &CommandLine<'_>,
     is_terminal: bool,
-    status: u8,
+    status: Status,
     report: &[u8],
 ) {
     let rt = files.host.rt;
@@ -115,7 +112,7 @@ fn say_more(
         Ok(request) if is_terminal || request.hints => {
             give_hints(files, line, request, status, report);
         }
-        Ok(request) if status == FAILED && request.command.list_path().is_some() => {
+        Ok(request) if status == Status::Failed && request.command.list_path().is_some() => {
             let ended = Ended {
                 status,
                 packing: None,
@@ -130,12 +127,12 @@ fn say_more(
     }
 }
 
-/// Runs a command line over the files and the outputs of the system, and returns the exit status.
+/// Runs a command line over the files and the outputs of the system, and returns how it ended.
 fn run_line(
     files: &Files<'_>,
     line: &io::Result<CommandLine<'_>>,
     request: Option<Request<'_>>,
-) -> u8 {
+) -> Status {
     let Host { rt, progress, .. } = &files.host;
     let is_text = !request.is_some_and(|it| it.command.gives_bytes());
     let shown = ShownSink::new(rt.stdout(), is_text && rt.stdout().is_terminal());
@@ -143,7 +140,11 @@ fn run_line(
     let is_terminal = rt.stderr().is_terminal();
     let mut err = ErasingSink::new(ShownSink::new(rt.stderr(), is_terminal), progress);
     let status = status_of(files, line, &request, &mut out, &mut err);
-    let status = if out.sink.end() { status } else { FAILED };
+    let status = if out.sink.end() {
+        status
+    } else {
+        Status::Failed
+    };
     err.sink.end();
     progress.erase();
     if let Ok(line) = line {
@@ -152,8 +153,8 @@ fn run_line(
     status
 }
 
-/// Runs the program over the words, the files and the outputs of the system, and returns the exit status.
-fn run_program(rt: &HostRuntime) -> u8 {
+/// Runs the program over the words, the files and the outputs of the system, and returns how it ended.
+fn run_program(rt: &HostRuntime) -> Status {
     let words = words(rt);
     let line = read_line(rt, &words);
     let request = request_of(&line);
@@ -171,5 +172,5 @@ fn run_program(rt: &HostRuntime) -> u8 {
 }
 
 fn main(rt: HostRuntime) -> ExitCode {
-    ExitCode::from(run_program(&rt))
+    ExitCode::from(run_program(&rt).code())
 }

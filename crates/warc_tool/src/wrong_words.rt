@@ -1,7 +1,7 @@
 //! Lines for people about a word of the command line that a run couldn't use, or found nothing at.
 
 use std::io;
-use warc_arguments::{Command, Request};
+use warc_arguments::{Command, Request, Status};
 
 /// How many digits a date has in a CDX file and in the addresses of the Wayback Machine.
 const CDX_DATE_LEN: usize = 14;
@@ -46,11 +46,11 @@ pub fn hint_fault(rt: &HostRuntime, words: &[String], fault: &str) -> io::Result
 pub fn hint_empty(
     rt: &HostRuntime,
     command: &Command<'_>,
-    status: u8,
+    status: Status,
     is_unread: bool,
 ) -> io::Result<()> {
     match command {
-        Command::List { archive: _ } if status == 0 && is_unread => {
+        Command::List { archive: _ } if status == Status::Done && is_unread => {
             eprintln!(rt; "the file is empty: an archive of no records")
         }
         _ => Ok(()),

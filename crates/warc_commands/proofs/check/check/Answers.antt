@@ -1,7 +1,7 @@
-use Rattle.std.proofs.Common.{ℕ, inl, inr, min, refl, ap, ◌∙◌}
+use Rattle.std.proofs.Common.{ℕ, inl, inr, refl, ap, ◌∙◌}
 use Rattle.warc_reading.specs.Archive.{contents}
-use Rattle.warc_checking.specs.Checking.{findings_of_archive}
-use Rattle.warc_commands.proofs.ProgramLemmas.{good_records_of, not_opened, status_by}
+use Rattle.warc_commands.specs.Program.{status_of_count}
+use Rattle.warc_commands.proofs.ProgramLemmas.{good_records_of, not_opened}
 use Rattle.warc_checking.proofs.RecordsLemmas.{unread}
 use Rattle.warc_commands.proofs.ReadLemmas.{opened_in_order}
 use Rattle.warc_commands.proofs.check.check.Goals as goal
@@ -19,7 +19,7 @@ returns-in-Ok-check-clause-ends g c = inl (record {
         records = rs;
         are = good_records_of archive.listed;
         reported = reports.reported;
-        status_is = c.status_of_count.ensures.value ∙ ap (λ n. min n 1) reports.number ∙ status_by (findings_of_archive rs);
+        status_is = c.status_of_count.ensures.value ∙ ap status_of_count reports.number;
       };
   unfailed = c.in-Ok-check.ensures.cause;
   sound = ap (λ s. (g.S.Source.seen s).faults) c.into_source.ensures ∙ c.in-Ok.ensures.reads.cause;

@@ -1,13 +1,14 @@
 use Rattle.std.proofs.Common.{◌≡◌, ℕ, List, Option, Some, inl, inr, refl, sym, ap, subst, ◌∙◌}
 use Rattle.warc_replay.specs.Parts.{extract_result}
 use Rattle.warc_replay.specs.declared.record.part.Part.{Part}
+use Rattle.warc_arguments.specs.declared.status.Status.{Status}
 use Rattle.warc_commands.specs.Devices.{Devices}
 use Rattle.warc_commands.specs.Parts.{PartEnds, position_of}
 use Rattle.warc_commands.proofs.ProgramLemmas.{failed_as, may_have_failed_as, not_opened}
 use Rattle.warc_commands.proofs.ReadLemmas.{opened, part_read, twice_at_most, unread}
 use Rattle.warc_commands.proofs.parts.give.Goals as goal
 
-part_by : (part : Part) (word : List ℕ) (n : ℕ) (old new : Devices) (status : ℕ) → Some n ≡ position_of word → PartEnds part (Some n) old new status → PartEnds part (position_of word) old new status
+part_by : (part : Part) (word : List ℕ) (n : ℕ) (old new : Devices) (status : Status) → Some n ≡ position_of word → PartEnds part (Some n) old new status → PartEnds part (position_of word) old new status
 part_by part word n old new status same ends = let P : Option ℕ → Type 0 = λ position. PartEnds part position old new status in subst P same ends
 
 pub returns-in-Err-clause-ends : goal.returns-in-Err-clause-ends

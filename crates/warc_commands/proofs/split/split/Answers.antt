@@ -1,12 +1,13 @@
 use Rattle.std.proofs.Common.{◌≡◌, ℕ, List, Option, Some, inl, inr, refl, ap, subst, ◌∙◌}
 use Rattle.warc_rewrite.specs.Forms.{split_texts}
+use Rattle.warc_arguments.specs.declared.status.Status.{Status}
 use Rattle.warc_commands.specs.Devices.{Devices}
 use Rattle.warc_commands.specs.Program.{SplitEnds, WriteEnds, size_of}
 use Rattle.warc_commands.proofs.ProgramLemmas.{all_written, part_written}
 use Rattle.warc_commands.proofs.ReadLemmas.{each_split, four_times_at_most, opened, unread}
 use Rattle.warc_commands.proofs.split.split.Goals as goal
 
-split_by : (word : List ℕ) (n : ℕ) (old new : Devices) (status : ℕ) → Some n ≡ size_of word → WriteEnds (split_texts n) old new status → SplitEnds (size_of word) old new status
+split_by : (word : List ℕ) (n : ℕ) (old new : Devices) (status : Status) → Some n ≡ size_of word → WriteEnds (split_texts n) old new status → SplitEnds (size_of word) old new status
 split_by word n old new status same ends = let P : Option ℕ → Type 0 = λ size. SplitEnds size old new status in subst P same ends
 
 pub returns-in-Ok-split-clause-ends : goal.returns-in-Ok-split-clause-ends
