@@ -1,9 +1,9 @@
 //! Runs of commands over archives in memory.
 
 use crate::endless::EndlessSource;
-use std::alloc::{AllocError, Allocator, Global};
-use warc_commands::{Command, Status, perform};
-use warc_frame::{MemSink, MemSource, Sink, Source};
+use std::alloc::{AllocError, Global};
+use warc_commands::{Command, Console, Heap, Input, Status, perform};
+use warc_frame::{MemSink, MemSource, Sink};
 use warc_stream::StreamSource;
 use warc_vectors::{Break, BrokenSource, BrokenWriter, ChangingSource, RefusingAllocator};
 
@@ -34,32 +34,27 @@ pub(crate) struct Asked<'a> {
     pub(crate) archive: &'a [u8],
 }
 
-/// The line, the status and the source of a run whose output goes to a sink. What the program keeps is taken from
+/// The console, the status and the source after a run whose output goes to a sink. What the program keeps is taken from
 /// `heap`.
-fn reported<S: Source + Drop, A: Allocator + Copy, W: Sink>(
+fn reported<S: Input, A: Heap, W: Sink>(
     heap: A,
     alloc: Global,
     asked: Asked<'_>,
     source: S,
-    out: &mut W,
-) -> (Vec<u8>, Status, S) {
-    let mut err = MemSink::new(Vec::new(alloc));
-    let (status, source) = perform(heap, asked.command, asked.list, source, out, &mut err);
-    (err.into_inner(), status, source)
+    out: W,
+) -> (Console<W, MemSink>, Status, S) {
+    let mut console = Console::new(out, MemSink::new(Vec::new(alloc)));
+    let (status, source) = perform(heap, asked.command, asked.list, source, &mut console);
+    (console, status, source)
 }
 
 /// The run of a command over a source, and the source.
-fn run<S: Source + Drop, A: Allocator + Copy>(
-    heap: A,
-    alloc: Global,
-    asked: Asked<'_>,
-    source: S,
-) -> (Ended, S) {
-    let mut out = MemSink::new(Vec::new(alloc));
-    let (err, status, source) = reported(heap, alloc, asked, source, &mut out);
+fn run<S: Input, A: Heap>(heap: A, alloc: Global, asked: Asked<'_>, source: S) -> (Ended, S) {
+    let out = MemSink::new(Vec::new(alloc));
+    let (console, status, source) = reported(heap, alloc, asked, source, out);
     let ended = Ended {
-        out: out.into_inner(),
-        err,
+        out: console.out.into_inner(),
+        err: console.err.sink.into_inner(),
         status,
     };
     (ended, source)
@@ -150,9 +145,10 @@ pub(crate) fn run_cut(
     (number, how): (u64, Break),
 ) -> Result<(Ended, Ended), AllocError> {
     let source = MemSource::new(asked.archive.to_vec(alloc)?, usize::MAX);
-    let mut sink = BrokenWriter::new(alloc, number, how).taking(most);
-    let (err, status, source) = reported(alloc, alloc, asked, source, &mut sink);
-    let out = sink.bytes().to_vec(alloc)?;
+    let sink = BrokenWriter::new(alloc, number, how).taking(most);
+    let (console, status, source) = reported(alloc, alloc, asked, source, sink);
+    let out = console.out.bytes().to_vec(alloc)?;
+    let err = console.err.sink.into_inner();
     let (again, _) = run(alloc, alloc, asked, source);
     Ok((Ended { out, err, status }, again))
 }

@@ -12,7 +12,7 @@ use Rattle.warc_arguments.specs.Command.{list_word, opens_nothing, path_word, re
 use Rattle.warc_arguments.specs.Parsed.{IsParsed, ReadLine}
 use Rattle.warc_arguments.specs.declared.status.Status.{Status}
 use Rattle.warc_arguments.specs.declared.status.Status.TheVariants.{Refused, Failed}
-use Rattle.warc_commands.specs.Devices.{devices}
+use Rattle.warc_commands.specs.Devices.{Outputs, devices}
 use Rattle.warc_commands.specs.Ends.{Ends, IsStatusOf, writes_front}
 use Rattle.warc_commands.specs.Program.{FaultEnds, IsNotRead, Reports, reported_line}
 use Rattle.warc_commands.specs.Reads.{CommandReads}
@@ -30,14 +30,6 @@ pub data Offer : Type 0 where
   opened : List ℕ → Result SeenSource Error → Offer
   redirected : Option SeenSource → Offer
   streamed : SeenSource → Offer
-
--- the two outputs of a run
-pub record Outputs : Type 0 where
-  pub out : Seen
-  pub err : Seen
-
-abbrev pub outputs : Seen → Seen → Outputs
-outputs out err = record { out = out; err = err }
 
 -- where the bytes of a command are, by its path
 abbrev pub place_at : List ℕ → Location

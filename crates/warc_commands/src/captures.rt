@@ -2,121 +2,100 @@
 ghost use Rattle.std.specs.Prelude.{◌≡◌, Some, None, option_map, true};
 ghost use Rattle.warc_replay.specs.Captured.{IsCaptured};
 ghost use Rattle.warc_commands.specs.Captures.{AnswerEnds, CapturesEnds, WritesListed};
-ghost use Rattle.warc_commands.specs.Devices.{devices};
+ghost use Rattle.warc_commands.specs.Devices.{used};
 ghost use Rattle.warc_commands.specs.Reads.{AsksNear};
 ghost use Rattle.warc_commands.specs.Uris.{UriEnds, uri_listed};
 ghost use Rattle.warc_lookup.specs.Indexed.{IsIndexed};
 
-use crate::program::{report, report_cut, report_refusal};
-use crate::uris::report_fault;
+use crate::console::{Console, Ended, Heap, Input, Reporter};
 use std::alloc::Allocator;
 use warc::{Archive, Captures};
 use warc_arguments::{Status, UriFault, bytes_of};
 use warc_frame::{OutFault, Sink, Source};
 
-/// Writes a line for each capture, of all or of the URI that a word names.
-pub(crate) fn captures<A, S, W, E>(
-    alloc: A,
-    in_hex: bool,
-    uri: Option<&str>,
-    source: S,
-    out: &mut W,
-    err: &mut E,
-) -> (Status, S)
-where
-    A: Allocator + Copy,
-    S: Source + Drop,
-    W: Sink,
-    E: Sink,
-    ensures ends { UriEnds CapturesEnds in_hex (uri_listed in_hex (option_map (λ u. u.now) uri.entry))
-        (devices (S.seen source) (W.seen out.old) (E.seen err.old))
-        (devices (S.seen result.1) (W.seen out.new) (E.seen err.new)) result.0 }
+impl<W: Sink, E: Sink> Console<W, E> {
+    /// Writes a line for each capture, of all or of the URI that a word names.
+    pub(crate) fn captures<A: Heap, S: Input>(
+        &mut self,
+        alloc: A,
+        in_hex: bool,
+        uri: Option<&str>,
+        source: S,
+    ) -> Ended<S>
+        ensures ends { UriEnds CapturesEnds in_hex (uri_listed in_hex (option_map (λ u. u.now) uri.entry))
+            (used (S.seen source) W.seen E.seen self.old)
+            (used (S.seen result.1) W.seen E.seen self.new) result.0 }
 
-    // The source still holds what it held.
-    ensures kept { (S.seen result.1).holds ≡ (S.seen source).holds }
-    ensures reads { AsksNear (S.seen source) (S.seen result.1) }
-{
-    if in_hex {
-        return captures_in_hex(alloc, uri, source, out, err);
+        // The source still holds what it held.
+        ensures kept { (S.seen result.1).holds ≡ (S.seen source).holds }
+        ensures reads { AsksNear (S.seen source) (S.seen result.1) }
+    {
+        if in_hex {
+            return self.captures_in_hex(alloc, uri, source);
+        }
+        match uri {
+            Some(uri) => self.list_captures_of(alloc, uri.as_bytes(), source),
+            None => self.list_captures(alloc, source),
+        }
     }
-    match uri {
-        Some(uri) => list_of(alloc, uri.as_bytes(), source, out, err),
-        None => list_all(alloc, source, out, err),
+
+    /// Writes a line for each capture of the URI whose digits a word has.
+    fn captures_in_hex<A: Heap, S: Input>(
+        &mut self,
+        alloc: A,
+        uri: Option<&str>,
+        source: S,
+    ) -> Ended<S>
+        ensures ends { UriEnds CapturesEnds true (uri_listed true (option_map (λ u. u.now) uri.entry))
+            (used (S.seen source) W.seen E.seen self.old)
+            (used (S.seen result.1) W.seen E.seen self.new) result.0 }
+
+        // The source still holds what it held.
+        ensures kept { (S.seen result.1).holds ≡ (S.seen source).holds }
+        ensures reads { AsksNear (S.seen source) (S.seen result.1) }
+    {
+        let Some(word) = uri else {
+            return (self.err.report_uri(UriFault::Digits), source);
+        };
+        match bytes_of(alloc, word) {
+            Ok(uri) => self.list_captures_of(alloc, &uri, source),
+            Err(fault) => (self.err.report_uri(fault), source),
+        }
     }
-}
 
-/// Writes a line for each capture of the URI whose digits a word has.
-fn captures_in_hex<A, S, W, E>(
-    alloc: A,
-    uri: Option<&str>,
-    source: S,
-    out: &mut W,
-    err: &mut E,
-) -> (Status, S)
-where
-    A: Allocator + Copy,
-    S: Source + Drop,
-    W: Sink,
-    E: Sink,
-    ensures ends { UriEnds CapturesEnds true (uri_listed true (option_map (λ u. u.now) uri.entry))
-        (devices (S.seen source) (W.seen out.old) (E.seen err.old))
-        (devices (S.seen result.1) (W.seen out.new) (E.seen err.new)) result.0 }
+    /// Writes a line for each capture. Blocks are judged side by side while the archive is read.
+    fn list_captures<A: Heap, S: Input>(&mut self, alloc: A, source: S) -> Ended<S>
+        ensures ends { CapturesEnds None (used (S.seen source) W.seen E.seen self.old)
+            (used (S.seen result.1) W.seen E.seen self.new) result.0 }
 
-    // The source still holds what it held.
-    ensures kept { (S.seen result.1).holds ≡ (S.seen source).holds }
-    ensures reads { AsksNear (S.seen source) (S.seen result.1) }
-{
-    let Some(word) = uri else {
-        return (report_fault(UriFault::Digits, err), source);
-    };
-    match bytes_of(alloc, word) {
-        Ok(uri) => list_of(alloc, &uri, source, out, err),
-        Err(fault) => (report_fault(fault, err), source),
+        // The source still holds what it held.
+        ensures kept { (S.seen result.1).holds ≡ (S.seen source).holds }
+        ensures reads { AsksNear (S.seen source) (S.seen result.1) }
+    {
+        let mut captures = match Captures::open(alloc, source) {
+            Ok(captures) => captures,
+            Err((fault, source)) => return (self.err.refuse(fault), source),
+        };
+        let answer = write_all(&mut captures, &mut self.out);
+        (self.err.report_count(answer), captures.into_source())
     }
-}
 
-/// Writes a line for each capture. Blocks are judged side by side while the archive is read.
-fn list_all<A, S, W, E>(alloc: A, source: S, out: &mut W, err: &mut E) -> (Status, S)
-where
-    A: Allocator + Copy,
-    S: Source + Drop,
-    W: Sink,
-    E: Sink,
-    ensures ends { CapturesEnds None (devices (S.seen source) (W.seen out.old) (E.seen err.old))
-        (devices (S.seen result.1) (W.seen out.new) (E.seen err.new)) result.0 }
+    /// Writes a line for each capture of a URI. No block is hashed but those of these captures.
+    fn list_captures_of<A: Heap, S: Input>(&mut self, alloc: A, uri: &[u8], source: S) -> Ended<S>
+        ensures ends { CapturesEnds (Some uri.now) (used (S.seen source) W.seen E.seen self.old)
+            (used (S.seen result.1) W.seen E.seen self.new) result.0 }
 
-    // The source still holds what it held.
-    ensures kept { (S.seen result.1).holds ≡ (S.seen source).holds }
-    ensures reads { AsksNear (S.seen source) (S.seen result.1) }
-{
-    let mut captures = match Captures::open(alloc, source) {
-        Ok(captures) => captures,
-        Err((fault, source)) => return (report_refusal(fault, err), source),
-    };
-    let answer = write_all(&mut captures, out);
-    (report_answer(answer, err), captures.into_source())
-}
-
-/// Writes a line for each capture of a URI. No block is hashed but those of these captures.
-fn list_of<A, S, W, E>(alloc: A, uri: &[u8], source: S, out: &mut W, err: &mut E) -> (Status, S)
-where
-    A: Allocator + Copy,
-    S: Source + Drop,
-    W: Sink,
-    E: Sink,
-    ensures ends { CapturesEnds (Some uri.now) (devices (S.seen source) (W.seen out.old) (E.seen err.old))
-        (devices (S.seen result.1) (W.seen out.new) (E.seen err.new)) result.0 }
-
-    // The source still holds what it held.
-    ensures kept { (S.seen result.1).holds ≡ (S.seen source).holds }
-    ensures reads { AsksNear (S.seen source) (S.seen result.1) }
-{
-    let mut archive = match Archive::open(alloc, source) {
-        Ok(archive) => archive,
-        Err((fault, source)) => return (report_refusal(fault, err), source),
-    };
-    let answer = write_of(&mut archive, uri, out);
-    (report_answer(answer, err), archive.into_source())
+        // The source still holds what it held.
+        ensures kept { (S.seen result.1).holds ≡ (S.seen source).holds }
+        ensures reads { AsksNear (S.seen source) (S.seen result.1) }
+    {
+        let mut archive = match Archive::open(alloc, source) {
+            Ok(archive) => archive,
+            Err((fault, source)) => return (self.err.refuse(fault), source),
+        };
+        let answer = write_of(&mut archive, uri, &mut self.out);
+        (self.err.report_count(answer), archive.into_source())
+    }
 }
 
 /// Writes the lines of all captures, and returns how many there are.
@@ -154,17 +133,19 @@ fn write_of<S: Source, W: Sink, A: Allocator + Copy>(
     Ok(listed.len())
 }
 
-/// Reports if no capture is listed, or why the lines end early, and answers the status.
-fn report_answer<E: Sink>(answer: Result<usize, OutFault>, err: &mut E) -> Status
-    ensures { AnswerEnds answer (E.seen err.old) (E.seen err.new) result }
-{
-    let count = match answer {
-        Ok(count) => count,
-        Err(fault) => return report_cut(fault, err),
-    };
-    if count > 0 {
-        return Status::Done;
+impl<E: Sink> Reporter<E> {
+    /// Reports if no capture is listed, or why the lines end early, and answers the status.
+    fn report_count(&mut self, answer: Result<usize, OutFault>) -> Status
+        ensures { AnswerEnds answer (E.seen self.old.sink) (E.seen self.new.sink) result }
+    {
+        let count = match answer {
+            Ok(count) => count,
+            Err(fault) => return self.fail(fault),
+        };
+        if count > 0 {
+            return Status::Done;
+        }
+        self.report("warc: P1 NoCapture\n");
+        Status::Found
     }
-    report("warc: P1 NoCapture\n", err);
-    Status::Found
 }

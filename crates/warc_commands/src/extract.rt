@@ -1,49 +1,37 @@
 //! The commands that give a block or a body of an archive, and the lines that they write.
 ghost use Rattle.std.specs.Prelude.{◌≡◌, ◌≤◌, ◌⊎◌, ◌++◌, length, Some, codes};
-ghost use Rattle.warc_value.specs.Dates.{Instant};
 ghost use Rattle.warc_answer.specs.ReasonText.{reason_text};
-ghost use Rattle.warc_commands.specs.Devices.{devices};
+ghost use Rattle.warc_commands.specs.Devices.{used};
 ghost use Rattle.warc_commands.specs.Program.{ExtractEnds, ReplayEnds, Reports, ReportsIf, answer_text, extract_line, extract_status, number_or_dash, replay_line, replay_status, reported_line, yes_or_no};
 ghost use Rattle.warc_commands.specs.Reads.{ReadsTimes};
 ghost use Rattle.warc_commands.specs.Stored.{ReplayedAs};
 
-use crate::program::{LINE, report, report_cut, report_refusal};
-use crate::stored::stored_as_of;
+use crate::console::{Console, Ended, Heap, Input, LINE, Reporter};
 use arrayvec::ArrayString;
 use itoa::Buffer;
-use std::alloc::Allocator;
 use warc::{Archive, ExtractFault};
 use warc_answer::{Answer, Reason, ReplayFault};
 use warc_arguments::Status;
-use warc_frame::{Sink, Source};
+use warc_frame::Sink;
 use warc_value::{Moment, read_date};
 
-/// Writes the block of the first record with an id.
-pub(crate) fn extract<A, S, W, E>(
-    alloc: A,
-    id: &str,
-    source: S,
-    out: &mut W,
-    err: &mut E,
-) -> (Status, S)
-where
-    A: Allocator + Copy,
-    S: Source + Drop,
-    W: Sink,
-    E: Sink,
-    ensures ends { ExtractEnds id.now (devices (S.seen source) (W.seen out.old) (E.seen err.old)) (devices
-        (S.seen result.1) (W.seen out.new) (E.seen err.new)) result.0 }
+impl<W: Sink, E: Sink> Console<W, E> {
+    /// Writes the block of the first record with an id.
+    pub(crate) fn extract<A: Heap, S: Input>(&mut self, alloc: A, id: &str, source: S) -> Ended<S>
+        ensures ends { ExtractEnds id.now (used (S.seen source) W.seen E.seen self.old)
+            (used (S.seen result.1) W.seen E.seen self.new) result.0 }
 
-    // The source still holds what it held.
-    ensures kept { (S.seen result.1).holds ≡ (S.seen source).holds }
-    ensures reads { ReadsTimes 2 (S.seen source) (S.seen result.1) }
-{
-    let mut archive = match Archive::open(alloc, source) {
-        Ok(archive) => archive,
-        Err((fault, source)) => return (report_refusal(fault, err), source),
-    };
-    let answer = archive.extract(id.as_bytes(), out);
-    (report_extract(answer, err), archive.into_source())
+        // The source still holds what it held.
+        ensures kept { (S.seen result.1).holds ≡ (S.seen source).holds }
+        ensures reads { ReadsTimes 2 (S.seen source) (S.seen result.1) }
+    {
+        let mut archive = match Archive::open(alloc, source) {
+            Ok(archive) => archive,
+            Err((fault, source)) => return (self.err.refuse(fault), source),
+        };
+        let answer = archive.extract(id.as_bytes(), &mut self.out);
+        (self.err.report_extract(answer), archive.into_source())
+    }
 }
 
 /// The date as of which a body is wanted, and whether it is wanted as it is stored.
@@ -53,96 +41,88 @@ pub(crate) struct AsOf<'a> {
     pub(crate) stored: bool,
 }
 
-/// Writes the body for a URI as of the first instant of a date.
-pub(crate) fn replay<A, S, W, E>(
-    alloc: A,
-    uri: &[u8],
-    as_of: AsOf<'_>,
-    source: S,
-    out: &mut W,
-    err: &mut E,
-) -> (Status, S)
-where
-    A: Allocator + Copy,
-    S: Source + Drop,
-    W: Sink,
-    E: Sink,
-    ensures ends { ReplayedAs as_of.entry.stored as_of.entry.date.now uri.now (devices (S.seen source) (W.seen out.old)
-        (E.seen err.old)) (devices (S.seen result.1) (W.seen out.new) (E.seen err.new)) result.0 }
+impl<W: Sink, E: Sink> Console<W, E> {
+    /// Writes the body for a URI as of the first instant of a date.
+    pub(crate) fn replay<A: Heap, S: Input>(
+        &mut self,
+        alloc: A,
+        uri: &[u8],
+        as_of: AsOf,
+        source: S,
+    ) -> Ended<S>
+        ensures ends { ReplayedAs as_of.entry.stored as_of.entry.date.now uri.now
+            (used (S.seen source) W.seen E.seen self.old) (used (S.seen result.1) W.seen E.seen self.new) result.0 }
 
-    // The source still holds what it held.
-    ensures kept { (S.seen result.1).holds ≡ (S.seen source).holds }
-    ensures reads { ReadsTimes 3 (S.seen source) (S.seen result.1) }
-{
-    let Some(moment) = read_date(as_of.date.as_bytes()) else {
-        report("warc: bad date\n", err);
-        return (Status::Failed, source);
-    };
-    if as_of.stored {
-        return stored_as_of(alloc, uri, &moment, source, out, err);
-    }
-    replay_as_of(alloc, uri, &moment, source, out, err)
-}
-
-/// Writes the body for a URI as of a moment.
-fn replay_as_of<A, S, W, E>(
-    alloc: A,
-    uri: &[u8],
-    moment: &Moment,
-    source: S,
-    out: &mut W,
-    err: &mut E,
-) -> (Status, S)
-where
-    A: Allocator + Copy,
-    S: Source + Drop,
-    W: Sink,
-    E: Sink,
-    ensures ends { ReplayEnds uri.now (Some moment.now) (devices (S.seen source) (W.seen out.old) (E.seen err.old))
-        (devices (S.seen result.1) (W.seen out.new) (E.seen err.new)) result.0 }
-
-    // The source still holds what it held.
-    ensures kept { (S.seen result.1).holds ≡ (S.seen source).holds }
-    ensures reads { ReadsTimes 3 (S.seen source) (S.seen result.1) }
-{
-    let mut archive = match Archive::open(alloc, source) {
-        Ok(archive) => archive,
-        Err((fault, source)) => return (report_refusal(fault, err), source),
-    };
-    let answer = archive.replay(uri, moment, out);
-    (report_replay(answer, err), archive.into_source())
-}
-
-/// Reports why a block isn't written, or not whole, and answers the status.
-pub(crate) fn report_extract<E: Sink>(answer: Result<u64, ExtractFault>, err: &mut E) -> Status
-    ensures reported { ReportsIf (extract_line answer) (E.seen err.old) (E.seen err.new) }
-    ensures status { result ≡ extract_status answer }
-{
-    match answer {
-        Ok(_) => Status::Done,
-        Err(ExtractFault::NoRecord) => {
-            report("warc: E1 NoRecord\n", err);
-            Status::Found
+        // The source still holds what it held.
+        ensures kept { (S.seen result.1).holds ≡ (S.seen source).holds }
+        ensures reads { ReadsTimes 3 (S.seen source) (S.seen result.1) }
+    {
+        let Some(moment) = read_date(as_of.date.as_bytes()) else {
+            self.err.report("warc: bad date\n");
+            return (Status::Failed, source);
+        };
+        if as_of.stored {
+            return self.stored_as_of(alloc, uri, &moment, source);
         }
-        Err(ExtractFault::Out(fault)) => report_cut(fault, err),
+        self.replay_as_of(alloc, uri, &moment, source)
+    }
+
+    /// Writes the body for a URI as of a moment.
+    fn replay_as_of<A: Heap, S: Input>(
+        &mut self,
+        alloc: A,
+        uri: &[u8],
+        moment: &Moment,
+        source: S,
+    ) -> Ended<S>
+        ensures ends { ReplayEnds uri.now (Some moment.now) (used (S.seen source) W.seen E.seen self.old)
+            (used (S.seen result.1) W.seen E.seen self.new) result.0 }
+
+        // The source still holds what it held.
+        ensures kept { (S.seen result.1).holds ≡ (S.seen source).holds }
+        ensures reads { ReadsTimes 3 (S.seen source) (S.seen result.1) }
+    {
+        let mut archive = match Archive::open(alloc, source) {
+            Ok(archive) => archive,
+            Err((fault, source)) => return (self.err.refuse(fault), source),
+        };
+        let answer = archive.replay(uri, moment, &mut self.out);
+        (self.err.report_replay(answer), archive.into_source())
     }
 }
 
-/// Reports what is said of a body, or why it isn't written, or not whole, and answers the status.
-pub(crate) fn report_replay<E: Sink>(answer: Result<Answer, ReplayFault>, err: &mut E) -> Status
-    ensures reported { Reports (replay_line answer) (E.seen err.old) (E.seen err.new) }
-    ensures status { result ≡ replay_status answer }
-{
-    match answer {
-        Ok(answer) => {
-            report(line_of_answer(&answer).as_str(), err);
-            Status::Done
+impl<E: Sink> Reporter<E> {
+    /// Reports why a block isn't written, or not whole, and answers the status.
+    pub(crate) fn report_extract(&mut self, answer: Result<u64, ExtractFault>) -> Status
+        ensures reported { ReportsIf (extract_line answer) (E.seen self.old.sink) (E.seen self.new.sink) }
+        ensures status { result ≡ extract_status answer }
+    {
+        match answer {
+            Ok(_) => Status::Done,
+            Err(ExtractFault::NoRecord) => {
+                self.report("warc: E1 NoRecord\n");
+                Status::Found
+            }
+            Err(ExtractFault::Out(fault)) => self.fail(fault),
         }
-        Err(ReplayFault::Reason(reason)) => {
-            report(line_of_reason(reason).as_str(), err);
-            Status::Found
+    }
+
+    /// Reports what is said of a body, or why it isn't written, or not whole, and answers the status.
+    pub(crate) fn report_replay(&mut self, answer: Result<Answer, ReplayFault>) -> Status
+        ensures reported { Reports (replay_line answer) (E.seen self.old.sink) (E.seen self.new.sink) }
+        ensures status { result ≡ replay_status answer }
+    {
+        match answer {
+            Ok(answer) => {
+                self.report(line_of_answer(&answer).as_str());
+                Status::Done
+            }
+            Err(ReplayFault::Reason(reason)) => {
+                self.report(line_of_reason(reason).as_str());
+                Status::Found
+            }
+            Err(ReplayFault::Out(fault)) => self.fail(fault),
         }
-        Err(ReplayFault::Out(fault)) => report_cut(fault, err),
     }
 }
 

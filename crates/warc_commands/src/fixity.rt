@@ -1,14 +1,13 @@
 //! The command that lists the blocks that don't have the digest that their records state.
 ghost use Rattle.std.specs.Prelude.{◌≡◌, ◌⊎◌};
-ghost use Rattle.warc_commands.specs.Devices.{devices};
+ghost use Rattle.warc_commands.specs.Devices.{used};
 ghost use Rattle.warc_commands.specs.Fixity.{FixityEnds, fixity_status};
 ghost use Rattle.warc_commands.specs.Reads.{ReadsInOrder};
 
-use crate::program::{report_cut, report_refusal};
-use std::alloc::Allocator;
+use crate::console::{Console, Ended, Heap, Input};
 use warc::{Counts, Fixity};
 use warc_arguments::Status;
-use warc_frame::{Sink, Source};
+use warc_frame::Sink;
 
 /// The status where all was written.
 fn status_of(counts: Counts) -> Status
@@ -25,26 +24,23 @@ fn status_of(counts: Counts) -> Status
     }
 }
 
-/// Writes a line for each block that isn't good, and the counts.
-pub(crate) fn fixity<A, S, W, E>(alloc: A, source: S, out: &mut W, err: &mut E) -> (Status, S)
-where
-    A: Allocator + Copy,
-    S: Source + Drop,
-    W: Sink,
-    E: Sink,
-    ensures ends { FixityEnds (devices (S.seen source) (W.seen out.old) (E.seen err.old)) (devices
-        (S.seen result.1) (W.seen out.new) (E.seen err.new)) result.0 }
+impl<W: Sink, E: Sink> Console<W, E> {
+    /// Writes a line for each block that isn't good, and the counts.
+    pub(crate) fn fixity<A: Heap, S: Input>(&mut self, alloc: A, source: S) -> Ended<S>
+        ensures ends { FixityEnds (used (S.seen source) W.seen E.seen self.old)
+            (used (S.seen result.1) W.seen E.seen self.new) result.0 }
 
-    // The source still holds what it held.
-    ensures kept { (S.seen result.1).holds ≡ (S.seen source).holds }
-    ensures reads { ReadsInOrder (S.seen source) (S.seen result.1) }
-{
-    let fixity = match Fixity::open(alloc, source) {
-        Ok(fixity) => fixity,
-        Err((fault, source)) => return (report_refusal(fault, err), source),
-    };
-    match fixity.list(out) {
-        Ok(()) => (status_of(fixity.counts()), fixity.into_source()),
-        Err(fault) => (report_cut(fault, err), fixity.into_source()),
+        // The source still holds what it held.
+        ensures kept { (S.seen result.1).holds ≡ (S.seen source).holds }
+        ensures reads { ReadsInOrder (S.seen source) (S.seen result.1) }
+    {
+        let fixity = match Fixity::open(alloc, source) {
+            Ok(fixity) => fixity,
+            Err((fault, source)) => return (self.err.refuse(fault), source),
+        };
+        match fixity.list(&mut self.out) {
+            Ok(()) => (status_of(fixity.counts()), fixity.into_source()),
+            Err(fault) => (self.err.fail(fault), fixity.into_source()),
+        }
     }
 }

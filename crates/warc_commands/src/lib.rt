@@ -1,9 +1,10 @@
-//! The commands of the program `warc`: what each does with a source and two sinks.
+//! The commands of the program `warc`: what each does with a source and a console.
 #![tactic(auto)]
 
 mod bodies;
 mod captures;
 mod check;
+mod console;
 mod explain;
 mod extract;
 mod fixity;
@@ -25,6 +26,7 @@ mod uris;
 mod walk;
 mod write;
 
+pub use console::{Console, Ended, Heap, Input, Reporter};
 pub use program::{perform, refuse};
 pub use runs::{RunSource, System, run};
 

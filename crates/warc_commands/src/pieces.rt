@@ -3,12 +3,12 @@ ghost use Rattle.std.specs.Prelude.{◌≡◌, List, None};
 ghost use Rattle.warc_frame.specs.Effects.{Puts};
 ghost use Rattle.warc_pieces.specs.declared.piece.Piece.{Piece as Given};
 ghost use Rattle.warc_pieces.specs.declared.piece.Piece.TheVariants.{Damage as GivenDamage, Records as GivenRecords};
-ghost use Rattle.warc_commands.specs.Devices.{devices};
+ghost use Rattle.warc_commands.specs.Devices.{used};
 ghost use Rattle.warc_commands.specs.Pieces.{PiecesEnd, ReportsEach, has_damage, piece_line, pieces_status, stop_lines};
 ghost use Rattle.warc_commands.specs.Reads.{AsksNear};
 ghost use Rattle.warc_commands.specs.Walking.{PutsPieces, SendsPieces};
 
-use crate::program::{report_cut, report_refusal};
+use crate::console::{Console, Ended, Heap, Input, Reporter};
 use crate::walk::{Found, Step, Tally, next_step};
 use itoa::Buffer;
 use std::alloc::Allocator;
@@ -118,58 +118,53 @@ fn send_pieces<S: Source, A: Allocator + Copy, W: Sink>(
     Ok(found)
 }
 
-/// Reports what stopped reading, if anything did, and answers the status.
-fn report_stop<E: Sink>(found: Found, err: &mut E) -> Status
-    ensures reported { ReportsEach (stop_lines found.stop) (E.seen err.old) (E.seen err.new) }
-    ensures status { (pieces : List Given) → found.tally.is_damaged ≡ has_damage pieces
-        → result ≡ pieces_status found.stop pieces }
-{
-    if let Some(fault) = found.stop {
-        return report_refusal(fault, err);
-    }
-    if found.tally.is_damaged {
-        Status::Refused
-    } else {
-        Status::Done
-    }
-}
-
-/// Prints the pieces that a reader gives.
-fn print<S: Source, A: Allocator + Copy, W: Sink, E: Sink>(
-    pieces: &mut Pieces<S, A>,
-    out: &mut W,
-    err: &mut E,
-) -> Status
-    requires { (pieces.old.at ≡ 0) × (pieces.old.failure ≡ None) }
-    ensures ends { PiecesEnd (devices (S.seen pieces.old.source) (W.seen out.old) (E.seen err.old)) (devices
-        (S.seen pieces.new.source) (W.seen out.new) (E.seen err.new)) result }
-    ensures kept { (S.seen pieces.new.source).holds ≡ (S.seen pieces.old.source).holds }
-    ensures reads { AsksNear (S.seen pieces.old.source) (S.seen pieces.new.source) }
-{
-    match send_pieces(pieces, out) {
-        Ok(found) => report_stop(found, err),
-        Err(fault) => report_cut(OutFault::Write(fault.sent), err),
+impl<E: Sink> Reporter<E> {
+    /// Reports what stopped reading, if anything did, and answers the status.
+    fn report_end(&mut self, found: Found) -> Status
+        ensures reported { ReportsEach (stop_lines found.stop) (E.seen self.old.sink) (E.seen self.new.sink) }
+        ensures status { (pieces : List Given) → found.tally.is_damaged ≡ has_damage pieces
+            → result ≡ pieces_status found.stop pieces }
+    {
+        if let Some(fault) = found.stop {
+            return self.refuse(fault);
+        }
+        if found.tally.is_damaged {
+            Status::Refused
+        } else {
+            Status::Done
+        }
     }
 }
 
-/// Prints a line for each piece.
-pub(crate) fn pieces<A, S, W, E>(alloc: A, source: S, out: &mut W, err: &mut E) -> (Status, S)
-where
-    A: Allocator + Copy,
-    S: Source + Drop,
-    W: Sink,
-    E: Sink,
-    ensures ends { PiecesEnd (devices (S.seen source) (W.seen out.old) (E.seen err.old)) (devices
-        (S.seen result.1) (W.seen out.new) (E.seen err.new)) result.0 }
+impl<W: Sink, E: Sink> Console<W, E> {
+    /// Prints the pieces that a reader gives.
+    fn print<S: Source, A: Heap>(&mut self, pieces: &mut Pieces<S, A>) -> Status
+        requires { (pieces.old.at ≡ 0) × (pieces.old.failure ≡ None) }
+        ensures ends { PiecesEnd (used (S.seen pieces.old.source) W.seen E.seen self.old)
+            (used (S.seen pieces.new.source) W.seen E.seen self.new) result }
+        ensures kept { (S.seen pieces.new.source).holds ≡ (S.seen pieces.old.source).holds }
+        ensures reads { AsksNear (S.seen pieces.old.source) (S.seen pieces.new.source) }
+    {
+        match send_pieces(pieces, &mut self.out) {
+            Ok(found) => self.err.report_end(found),
+            Err(fault) => self.err.fail(OutFault::Write(fault.sent)),
+        }
+    }
 
-    // The source still holds what it held.
-    ensures kept { (S.seen result.1).holds ≡ (S.seen source).holds }
-    ensures reads { AsksNear (S.seen source) (S.seen result.1) }
-{
-    let mut pieces = match Pieces::new(alloc, source) {
-        Ok(pieces) => pieces,
-        Err((fault, source)) => return (report_refusal(fault, err), source),
-    };
-    let status = print(&mut pieces, out, err);
-    (status, pieces.into_source())
+    /// Prints a line for each piece.
+    pub(crate) fn pieces<A: Heap, S: Input>(&mut self, alloc: A, source: S) -> Ended<S>
+        ensures ends { PiecesEnd (used (S.seen source) W.seen E.seen self.old)
+            (used (S.seen result.1) W.seen E.seen self.new) result.0 }
+
+        // The source still holds what it held.
+        ensures kept { (S.seen result.1).holds ≡ (S.seen source).holds }
+        ensures reads { AsksNear (S.seen source) (S.seen result.1) }
+    {
+        let mut pieces = match Pieces::new(alloc, source) {
+            Ok(pieces) => pieces,
+            Err((fault, source)) => return (self.err.refuse(fault), source),
+        };
+        let status = self.print(&mut pieces);
+        (status, pieces.into_source())
+    }
 }

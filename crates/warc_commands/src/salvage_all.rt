@@ -3,14 +3,13 @@ ghost use Rattle.std.specs.Prelude.{◌≡◌, ◌<◌, ◌++◌, List, [], ◌�
 ghost use Rattle.warc_frame.specs.Effects.{Emits, IsOfDevice};
 ghost use Rattle.warc_pieces.specs.Laws.{is_damage};
 ghost use Rattle.warc_pieces.specs.declared.piece.Piece.{Piece as Given};
-ghost use Rattle.warc_commands.specs.Devices.{devices};
+ghost use Rattle.warc_commands.specs.Devices.{used};
 ghost use Rattle.warc_commands.specs.Pieces.{SalvageAllEnds, ReportsEach, damage_line, damage_lines, pieces_status, salvaged_line, stop_lines};
 ghost use Rattle.warc_commands.specs.Reads.{AsksNear};
 ghost use Rattle.warc_commands.specs.Program.{Reports};
 ghost use Rattle.warc_commands.specs.Walking.{CopiesPieces, IsGoodOf, IsTallyOf, ReadsGood, SendsRuns};
 
-use crate::program::{LINE, report, report_cut, report_refusal};
-use crate::salvage::report_line;
+use crate::console::{Console, Ended, Heap, Input, LINE, Reporter};
 use crate::walk::{Found, Step, Tally, next_step};
 use arrayvec::ArrayString;
 use itoa::Buffer;
@@ -39,12 +38,14 @@ fn line_of_damage(offset: u64, len: u64, fault: Fault) -> ArrayString<LINE>
     line
 }
 
-/// Reports a piece if it is damage.
-fn report_damage<E: Sink>(piece: Piece, err: &mut E)
-    ensures { ReportsEach (damage_lines (piece ∷ [])) (E.seen err.old) (E.seen err.new) }
-{
-    if let Piece::Damage { offset, len, fault } = piece {
-        report(line_of_damage(offset, len, fault).as_str(), err);
+impl<E: Sink> Reporter<E> {
+    /// Reports a piece if it is damage.
+    fn report_damage(&mut self, piece: Piece)
+        ensures { ReportsEach (damage_lines (piece ∷ [])) (E.seen self.old.sink) (E.seen self.new.sink) }
+    {
+        if let Piece::Damage { offset, len, fault } = piece {
+            self.report(line_of_damage(offset, len, fault).as_str());
+        }
     }
 }
 
@@ -80,19 +81,19 @@ fn copy_runs<S: Source, A: Allocator + Copy, W: Sink, E: Sink>(
     scratch: &mut [u8],
     buffer: &mut OutBuffer,
     out: &mut W,
-    err: &mut E,
+    err: &mut Reporter<E>,
 ) -> Result<Found, OutFault>
     requires room { 0 < length scratch.old }
     requires begun { (pieces.old.at ≡ 0) × (pieces.old.failure ≡ None) }
     ensures { CopiesPieces (S.seen pieces.old.source) (S.seen pieces.new.source) (W.seen out.old) (W.seen out.new)
-        buffer.old buffer.new (E.seen err.old) (E.seen err.new) result }
+        buffer.old buffer.new (E.seen err.old.sink) (E.seen err.new.sink) result }
 {
     let mut tally = Tally::new();
     'copying: loop {
         match next_step(pieces, &mut tally) {
             Step::More(piece) => {
                 copy_run(piece, pieces, scratch, buffer, out)?;
-                report_damage(piece, err);
+                err.report_damage(piece);
             }
             Step::End(stop) => return Ok(Found { tally, stop }),
         }
@@ -103,11 +104,11 @@ fn copy_runs<S: Source, A: Allocator + Copy, W: Sink, E: Sink>(
 fn send_runs<S: Source, A: Allocator + Copy, W: Sink, E: Sink>(
     pieces: &mut Pieces<S, A>,
     out: &mut W,
-    err: &mut E,
+    err: &mut Reporter<E>,
 ) -> Result<Found, OutFault>
     requires { (pieces.old.at ≡ 0) × (pieces.old.failure ≡ None) }
     ensures { SendsRuns (S.seen pieces.old.source) (S.seen pieces.new.source) (W.seen out.old) (W.seen out.new)
-        (E.seen err.old) (E.seen err.new) result }
+        (E.seen err.old.sink) (E.seen err.new.sink) result }
 {
     let mut scratch = [0; PIECE];
     let mut buffer = OutBuffer::new();
@@ -116,74 +117,69 @@ fn send_runs<S: Source, A: Allocator + Copy, W: Sink, E: Sink>(
     Ok(found)
 }
 
-/// Reports how many records and bytes went out, and answers the status.
-fn report_sum<E: Sink>(tally: Tally, err: &mut E) -> Status
-    ensures reported { (pieces : List Given) → IsTallyOf tally pieces
-        → Reports (salvaged_line None pieces) (E.seen err.old) (E.seen err.new) }
-    ensures status { (pieces : List Given) → IsTallyOf tally pieces → result ≡ pieces_status None pieces }
-{
-    if tally.is_damaged {
-        report_line("salvaged", tally.records, tally.bytes, err);
-        Status::Refused
-    } else {
-        report_line("good", tally.records, tally.bytes, err);
-        Status::Done
+impl<E: Sink> Reporter<E> {
+    /// Reports how many records and bytes went out, and answers the status.
+    fn report_sum(&mut self, tally: Tally) -> Status
+        ensures reported { (pieces : List Given) → IsTallyOf tally pieces
+            → Reports (salvaged_line None pieces) (E.seen self.old.sink) (E.seen self.new.sink) }
+        ensures status { (pieces : List Given) → IsTallyOf tally pieces → result ≡ pieces_status None pieces }
+    {
+        if tally.is_damaged {
+            self.report_line("salvaged", tally.records, tally.bytes);
+            Status::Refused
+        } else {
+            self.report_line("good", tally.records, tally.bytes);
+            Status::Done
+        }
     }
-}
 
-/// Reports what stopped reading, if anything did, and what went out, and answers the status.
-fn report_found<E: Sink>(found: Found, err: &mut E) -> Status
-    ensures reported { (pieces : List Given) → IsTallyOf found.tally pieces → ReportsEach (stop_lines found.stop
-        ++ salvaged_line found.stop pieces ∷ []) (E.seen err.old) (E.seen err.new) }
-    ensures status { (pieces : List Given) → IsTallyOf found.tally pieces
-        → result ≡ pieces_status found.stop pieces }
-{
-    match found.stop {
-        None => report_sum(found.tally, err),
-        Some(fault) => {
-            let status = report_refusal(fault, err);
-            report_line("salvaged", found.tally.records, found.tally.bytes, err);
-            status
+    /// Reports what stopped reading, if anything did, and what went out, and answers the status.
+    fn report_found(&mut self, found: Found) -> Status
+        ensures reported { (pieces : List Given) → IsTallyOf found.tally pieces → ReportsEach (stop_lines found.stop
+            ++ salvaged_line found.stop pieces ∷ []) (E.seen self.old.sink) (E.seen self.new.sink) }
+        ensures status { (pieces : List Given) → IsTallyOf found.tally pieces
+            → result ≡ pieces_status found.stop pieces }
+    {
+        match found.stop {
+            None => self.report_sum(found.tally),
+            Some(fault) => {
+                let status = self.refuse(fault);
+                self.report_line("salvaged", found.tally.records, found.tally.bytes);
+                status
+            }
         }
     }
 }
 
-/// Writes all good records that a reader gives.
-fn salvage_pieces<S: Source, A: Allocator + Copy, W: Sink, E: Sink>(
-    pieces: &mut Pieces<S, A>,
-    out: &mut W,
-    err: &mut E,
-) -> Status
-    requires { (pieces.old.at ≡ 0) × (pieces.old.failure ≡ None) }
-    ensures ends { SalvageAllEnds (devices (S.seen pieces.old.source) (W.seen out.old) (E.seen err.old)) (devices
-        (S.seen pieces.new.source) (W.seen out.new) (E.seen err.new)) result }
-    ensures kept { (S.seen pieces.new.source).holds ≡ (S.seen pieces.old.source).holds }
-    ensures reads { AsksNear (S.seen pieces.old.source) (S.seen pieces.new.source) }
-{
-    match send_runs(pieces, out, err) {
-        Ok(found) => report_found(found, err),
-        Err(fault) => report_cut(fault, err),
+impl<W: Sink, E: Sink> Console<W, E> {
+    /// Writes all good records that a reader gives.
+    fn salvage_pieces<S: Source, A: Heap>(&mut self, pieces: &mut Pieces<S, A>) -> Status
+        requires { (pieces.old.at ≡ 0) × (pieces.old.failure ≡ None) }
+        ensures ends { SalvageAllEnds (used (S.seen pieces.old.source) W.seen E.seen self.old)
+            (used (S.seen pieces.new.source) W.seen E.seen self.new) result }
+        ensures kept { (S.seen pieces.new.source).holds ≡ (S.seen pieces.old.source).holds }
+        ensures reads { AsksNear (S.seen pieces.old.source) (S.seen pieces.new.source) }
+    {
+        match send_runs(pieces, &mut self.out, &mut self.err) {
+            Ok(found) => self.err.report_found(found),
+            Err(fault) => self.err.fail(fault),
+        }
     }
-}
 
-/// Writes all good records, byte for byte.
-pub(crate) fn salvage_all<A, S, W, E>(alloc: A, source: S, out: &mut W, err: &mut E) -> (Status, S)
-where
-    A: Allocator + Copy,
-    S: Source + Drop,
-    W: Sink,
-    E: Sink,
-    ensures ends { SalvageAllEnds (devices (S.seen source) (W.seen out.old) (E.seen err.old)) (devices
-        (S.seen result.1) (W.seen out.new) (E.seen err.new)) result.0 }
+    /// Writes all good records, byte for byte.
+    pub(crate) fn salvage_all<A: Heap, S: Input>(&mut self, alloc: A, source: S) -> Ended<S>
+        ensures ends { SalvageAllEnds (used (S.seen source) W.seen E.seen self.old)
+            (used (S.seen result.1) W.seen E.seen self.new) result.0 }
 
-    // The source still holds what it held.
-    ensures kept { (S.seen result.1).holds ≡ (S.seen source).holds }
-    ensures reads { AsksNear (S.seen source) (S.seen result.1) }
-{
-    let mut pieces = match Pieces::new(alloc, source) {
-        Ok(pieces) => pieces,
-        Err((fault, source)) => return (report_refusal(fault, err), source),
-    };
-    let status = salvage_pieces(&mut pieces, out, err);
-    (status, pieces.into_source())
+        // The source still holds what it held.
+        ensures kept { (S.seen result.1).holds ≡ (S.seen source).holds }
+        ensures reads { AsksNear (S.seen source) (S.seen result.1) }
+    {
+        let mut pieces = match Pieces::new(alloc, source) {
+            Ok(pieces) => pieces,
+            Err((fault, source)) => return (self.err.refuse(fault), source),
+        };
+        let status = self.salvage_pieces(&mut pieces);
+        (status, pieces.into_source())
+    }
 }

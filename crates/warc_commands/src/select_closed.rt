@@ -4,15 +4,15 @@ ghost use Rattle.warc_frame.specs.Seen.{IfHeld};
 ghost use Rattle.warc_lookup.specs.Indexed.{IsIndexed};
 ghost use Rattle.warc_rewrite.specs.Selecting.{ArePositions, ReadsRecords, at_positions};
 ghost use Rattle.warc_commands.specs.Closed.{ClosedEnds, ClosureEnds, GivesClosed, NamedEnds, ReadsClosed, beside, beside_text};
-ghost use Rattle.warc_commands.specs.Devices.{devices};
+ghost use Rattle.warc_commands.specs.Devices.{used};
 ghost use Rattle.warc_commands.specs.Named.{bad_line, positions_in};
 ghost use Rattle.warc_commands.specs.Program.{Reports};
 ghost use Rattle.warc_commands.specs.Reads.{ReadsTimes};
 ghost use Rattle.warc_commands.specs.Selected.{SendEnds, selected_line};
 
+use crate::console::{Console, Ended, Heap, Input, LINE, Reporter};
 use crate::lists::{first_absent, put_in_order, read_list};
-use crate::program::{LINE, report, report_cut, report_refusal};
-use crate::select::{Wanted, report_list, report_number};
+use crate::select::Wanted;
 use arrayvec::ArrayString;
 use itoa::Buffer;
 use std::alloc::Allocator;
@@ -20,96 +20,80 @@ use warc::Archive;
 use warc_arguments::Status;
 use warc_frame::{OutFault, Sink, Source};
 
-/// Writes the records at the positions that a list names and those that they need, or all others that need none of
-/// them, byte for byte.
-pub(crate) fn select_closed<A, S, W, E>(
-    alloc: A,
-    wanted: Wanted<'_>,
-    source: S,
-    out: &mut W,
-    err: &mut E,
-) -> (Status, S)
-where
-    A: Allocator + Copy,
-    S: Source + Drop,
-    W: Sink,
-    E: Sink,
-    ensures ends { ClosedEnds wanted.entry.except (bad_line wanted.entry.list.now) (positions_in wanted.entry.list.now)
-        (devices (S.seen source) (W.seen out.old) (E.seen err.old)) (devices (S.seen result.1) (W.seen out.new)
-        (E.seen err.new)) result.0 }
+impl<W: Sink, E: Sink> Console<W, E> {
+    /// Writes the records at the positions that a list names and those that they need, or all others that need none of
+    /// them, byte for byte.
+    pub(crate) fn select_closed<A: Heap, S: Input>(
+        &mut self,
+        alloc: A,
+        of: Wanted,
+        source: S,
+    ) -> Ended<S>
+        ensures ends { ClosedEnds of.entry.except (bad_line of.entry.list.now)
+            (positions_in of.entry.list.now)
+            (used (S.seen source) W.seen E.seen self.old) (used (S.seen result.1) W.seen E.seen self.new) result.0 }
 
-    // The source still holds what it held.
-    ensures kept { (S.seen result.1).holds ≡ (S.seen source).holds }
-    ensures reads { ReadsTimes 3 (S.seen source) (S.seen result.1) }
-{
-    let named = match read_list(alloc, wanted.list) {
-        Ok(named) => named,
-        Err(fault) => return (report_list(fault, err), source),
-    };
-    let mut archive = match Archive::open(alloc, source) {
-        Ok(archive) => archive,
-        Err((fault, source)) => return (report_refusal(fault, err), source),
-    };
-    let status = write_closed(&mut archive, named, wanted.except, out, err);
-    (status, archive.into_source())
-}
-
-/// Writes what these positions name of an archive, if each has a record.
-fn write_closed<A, S, W, E>(
-    archive: &mut Archive<S, A>,
-    named: Vec<usize, A>,
-    except: bool,
-    out: &mut W,
-    err: &mut E,
-) -> Status
-where
-    A: Allocator + Copy,
-    S: Source,
-    W: Sink,
-    E: Sink,
-    ensures ends { IfHeld (S.seen archive.old.listing.source).holds (λ bytes. IsIndexed bytes archive.old) →
-        NamedEnds except named.items archive.old.listing.rows (devices (S.seen archive.old.listing.source)
-        (W.seen out.old) (E.seen err.old)) (devices (S.seen archive.new.listing.source) (W.seen out.new)
-        (E.seen err.new)) result }
-    ensures reads { ReadsClosed archive.old.listing.rows (S.seen archive.old.listing.source)
-        (S.seen archive.new.listing.source) }
-{
-    if let Some(absent) = first_absent(&named, archive.count()) {
-        report_number("E1 NoRecord ", absent, err);
-        return Status::Found;
+        // The source still holds what it held.
+        ensures kept { (S.seen result.1).holds ≡ (S.seen source).holds }
+        ensures reads { ReadsTimes 3 (S.seen source) (S.seen result.1) }
+    {
+        let named = match read_list(alloc, of.list) {
+            Ok(named) => named,
+            Err(fault) => return (self.err.report_list(fault), source),
+        };
+        let mut archive = match Archive::open(alloc, source) {
+            Ok(archive) => archive,
+            Err((fault, source)) => return (self.err.refuse(fault), source),
+        };
+        let status = self.write_closed(&mut archive, named, of.except);
+        (status, archive.into_source())
     }
-    let mut positions = named;
-    put_in_order(&mut positions);
-    close_and_send(archive, &positions, except, out, err)
-}
 
-/// Finds what is to be written by positions in their order, and writes it.
-fn close_and_send<A, S, W, E>(
-    archive: &mut Archive<S, A>,
-    positions: &[usize],
-    except: bool,
-    out: &mut W,
-    err: &mut E,
-) -> Status
-where
-    A: Allocator + Copy,
-    S: Source,
-    W: Sink,
-    E: Sink,
-    requires { ArePositions (length archive.old.listing.rows) positions.now }
-    ensures ends { IfHeld (S.seen archive.old.listing.source).holds (λ bytes. IsIndexed bytes archive.old) →
-        ClosureEnds except positions.now archive.old.listing.rows (devices (S.seen archive.old.listing.source)
-        (W.seen out.old) (E.seen err.old)) (devices (S.seen archive.new.listing.source) (W.seen out.new)
-        (E.seen err.new)) result }
-    ensures reads { ReadsClosed archive.old.listing.rows (S.seen archive.old.listing.source)
-        (S.seen archive.new.listing.source) }
-{
-    match close(archive, positions, except) {
-        Ok(chosen) => {
-            let besides = count_beside(archive.count(), positions.len(), chosen.len(), except);
-            send_closed(archive, &chosen, Beside { except, besides }, out, err)
+    /// Writes what these positions name of an archive, if each has a record.
+    fn write_closed<A: Heap, S: Source>(
+        &mut self,
+        archive: &mut Archive<S, A>,
+        named: Vec<usize, A>,
+        except: bool,
+    ) -> Status
+        ensures ends { IfHeld (S.seen archive.old.listing.source).holds (λ bytes. IsIndexed bytes archive.old) →
+            NamedEnds except named.items archive.old.listing.rows
+            (used (S.seen archive.old.listing.source) W.seen E.seen self.old)
+            (used (S.seen archive.new.listing.source) W.seen E.seen self.new) result }
+        ensures reads { ReadsClosed archive.old.listing.rows (S.seen archive.old.listing.source)
+            (S.seen archive.new.listing.source) }
+    {
+        if let Some(absent) = first_absent(&named, archive.count()) {
+            self.err.report_number("E1 NoRecord ", absent);
+            return Status::Found;
         }
-        Err(fault) => report_cut(fault, err),
+        let mut positions = named;
+        put_in_order(&mut positions);
+        self.close_and_send(archive, &positions, except)
+    }
+
+    /// Finds what is to be written by positions in their order, and writes it.
+    fn close_and_send<A: Heap, S: Source>(
+        &mut self,
+        archive: &mut Archive<S, A>,
+        positions: &[usize],
+        except: bool,
+    ) -> Status
+        requires { ArePositions (length archive.old.listing.rows) positions.now }
+        ensures ends { IfHeld (S.seen archive.old.listing.source).holds (λ bytes. IsIndexed bytes archive.old) →
+            ClosureEnds except positions.now archive.old.listing.rows
+            (used (S.seen archive.old.listing.source) W.seen E.seen self.old)
+            (used (S.seen archive.new.listing.source) W.seen E.seen self.new) result }
+        ensures reads { ReadsClosed archive.old.listing.rows (S.seen archive.old.listing.source)
+            (S.seen archive.new.listing.source) }
+    {
+        match close(archive, positions, except) {
+            Ok(chosen) => {
+                let besides = count_beside(archive.count(), positions.len(), chosen.len(), except);
+                self.send_closed(archive, &chosen, Beside { except, besides })
+            }
+            Err(fault) => self.err.fail(fault),
+        }
     }
 }
 
@@ -148,49 +132,48 @@ struct Beside {
     besides: usize,
 }
 
-/// Writes the records at positions, and reports how many they are and how many bytes they have, and how many records
-/// there are beside the named ones.
-fn send_closed<A, S, W, E>(
-    archive: &mut Archive<S, A>,
-    positions: &[usize],
-    beside: Beside,
-    out: &mut W,
-    err: &mut E,
-) -> Status
-where
-    A: Allocator + Copy,
-    S: Source,
-    W: Sink,
-    E: Sink,
-    requires { ArePositions (length archive.old.listing.rows) positions.now }
-    ensures ends { SendEnds (beside_text beside.except beside.besides) archive.old.listing.rows positions.now (devices
-        (S.seen archive.old.listing.source) (W.seen out.old) (E.seen err.old)) (devices
-        (S.seen archive.new.listing.source) (W.seen out.new) (E.seen err.new)) result }
-    ensures reads { ReadsRecords (at_positions archive.old.listing.rows positions.now)
-        (S.seen archive.old.listing.source) (S.seen archive.new.listing.source) }
-{
-    let size = archive.selected_len(positions);
-    match archive.select(positions, out) {
-        Ok(()) => {
-            report_selected(positions.len(), size, beside, err);
-            Status::Done
+impl<W: Sink, E: Sink> Console<W, E> {
+    /// Writes the records at positions, and reports how many they are and how many bytes they have, and how many
+    /// records there are beside the named ones.
+    fn send_closed<A: Heap, S: Source>(
+        &mut self,
+        archive: &mut Archive<S, A>,
+        positions: &[usize],
+        beside: Beside,
+    ) -> Status
+        requires { ArePositions (length archive.old.listing.rows) positions.now }
+        ensures ends { SendEnds (beside_text beside.except beside.besides) archive.old.listing.rows positions.now
+            (used (S.seen archive.old.listing.source) W.seen E.seen self.old)
+            (used (S.seen archive.new.listing.source) W.seen E.seen self.new) result }
+        ensures reads { ReadsRecords (at_positions archive.old.listing.rows positions.now)
+            (S.seen archive.old.listing.source) (S.seen archive.new.listing.source) }
+    {
+        let size = archive.selected_len(positions);
+        match archive.select(positions, &mut self.out) {
+            Ok(()) => {
+                self.err.report_selected(positions.len(), size, beside);
+                Status::Done
+            }
+            Err(fault) => self.err.fail(fault),
         }
-        Err(fault) => report_cut(fault, err),
     }
 }
 
-/// Reports how many records and bytes went out, and how many records there are beside the named ones.
-fn report_selected<E: Sink>(records: usize, bytes: u64, beside: Beside, err: &mut E)
-    ensures { Reports (selected_line records bytes (beside_text beside.except beside.besides)) (E.seen err.old)
-        (E.seen err.new) }
-{
-    if beside.except {
-        let line = line_of_selected(records, bytes, beside.besides, " left out besides");
-        report(line.as_str(), err);
-        return;
+impl<E: Sink> Reporter<E> {
+    /// Reports how many records and bytes went out, and how many records there are beside the named ones.
+    fn report_selected(&mut self, records: usize, bytes: u64, beside: Beside)
+        ensures { Reports (selected_line records bytes (beside_text beside.except beside.besides))
+            (E.seen self.old.sink)
+            (E.seen self.new.sink) }
+    {
+        if beside.except {
+            let line = line_of_selected(records, bytes, beside.besides, " left out besides");
+            self.report(line.as_str());
+            return;
+        }
+        let line = line_of_selected(records, bytes, beside.besides, " of them needed");
+        self.report(line.as_str());
     }
-    let line = line_of_selected(records, bytes, beside.besides, " of them needed");
-    report(line.as_str(), err);
 }
 
 /// The line of how many records and bytes went out, and how many records there are beside the named ones.

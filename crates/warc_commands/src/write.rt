@@ -5,12 +5,12 @@ ghost use Rattle.warc_frame.specs.Failing.{HasFailedBy};
 ghost use Rattle.warc_frame.specs.Record.{max_block};
 ghost use Rattle.warc_write.specs.Making.{Makes, made, make_fault_text};
 ghost use Rattle.warc_commands.specs.Asking.{AsksFar, ReadsFront};
-ghost use Rattle.warc_commands.specs.Devices.{devices};
+ghost use Rattle.warc_commands.specs.Devices.{used};
 ghost use Rattle.warc_commands.specs.Program.{IsUnsent, MakeEnds, Reports, plan_of, reported_line};
 ghost use Rattle.warc_commands.specs.Reads.{ReadsForRecord, file_piece};
 ghost use Rattle.warc_frame.specs.Ranges.{IsReadAt};
 
-use crate::program::{line_of, report, report_cut};
+use crate::console::{Console, Ended, Heap, Input, Reporter, line_of};
 use std::alloc::Allocator;
 use warc_arguments::{Draft, Status};
 use warc_frame::{Framed, MAX_BLOCK, OutFault, Sink, Source};
@@ -162,47 +162,46 @@ fn refusal_of(draft: &Draft<'_>) -> MakeFault
     )
 }
 
-/// Writes one record, whose block is the bytes of the source. They are read first, unless they are too many.
-pub(crate) fn write<A, S, W, E>(
-    alloc: A,
-    draft: &Draft<'_>,
-    source: S,
-    out: &mut W,
-    err: &mut E,
-) -> (Status, S)
-where
-    A: Allocator + Copy,
-    S: Source + Drop,
-    W: Sink,
-    E: Sink,
-    ensures ends { MakeEnds draft.now (devices (S.seen source) (W.seen out.old) (E.seen err.old)) (devices
-        (S.seen result.1) (W.seen out.new) (E.seen err.new)) result.0 }
+impl<W: Sink, E: Sink> Console<W, E> {
+    /// Writes one record, whose block is the bytes of the source. They are read first, unless they are too many.
+    pub(crate) fn write<A: Heap, S: Input>(
+        &mut self,
+        alloc: A,
+        draft: &Draft<'_>,
+        source: S,
+    ) -> Ended<S>
+        ensures ends { MakeEnds draft.now (used (S.seen source) W.seen E.seen self.old)
+            (used (S.seen result.1) W.seen E.seen self.new) result.0 }
 
-    // The source still holds what it held.
-    ensures kept { (S.seen result.1).holds ≡ (S.seen source).holds }
-    ensures reads { ReadsForRecord (S.seen source) (S.seen result.1) }
-{
-    let mut source = source;
-    let block = match read_block(alloc, &mut source) {
-        Ok(Some(block)) => block,
-        Ok(None) => return (report_unmade(refusal_of(draft), err), source),
-        Err(fault) => return (report_cut(fault, err), source),
-    };
-    let framed = match make_by(alloc, draft, &block) {
-        Ok(framed) => framed,
-        Err(fault) => return (report_unmade(fault, err), source),
-    };
-    match render_one(&framed, out) {
-        Ok(()) => (Status::Done, source),
-        Err(fault) => (report_cut(fault, err), source),
+        // The source still holds what it held.
+        ensures kept { (S.seen result.1).holds ≡ (S.seen source).holds }
+        ensures reads { ReadsForRecord (S.seen source) (S.seen result.1) }
+    {
+        let mut source = source;
+        let block = match read_block(alloc, &mut source) {
+            Ok(Some(block)) => block,
+            Ok(None) => return (self.err.report_unmade(refusal_of(draft)), source),
+            Err(fault) => return (self.err.fail(fault), source),
+        };
+        let framed = match make_by(alloc, draft, &block) {
+            Ok(framed) => framed,
+            Err(fault) => return (self.err.report_unmade(fault), source),
+        };
+        match render_one(&framed, &mut self.out) {
+            Ok(()) => (Status::Done, source),
+            Err(fault) => (self.err.fail(fault), source),
+        }
     }
 }
 
-/// Reports why no record is made, and answers the status.
-fn report_unmade<E: Sink>(fault: MakeFault, err: &mut E) -> Status
-    ensures reported { Reports (reported_line (make_fault_text fault)) (E.seen err.old) (E.seen err.new) }
-    ensures status { result ≡ Status.Failed }
-{
-    report(line_of(fault.name()).as_str(), err);
-    Status::Failed
+impl<E: Sink> Reporter<E> {
+    /// Reports why no record is made, and answers the status.
+    fn report_unmade(&mut self, fault: MakeFault) -> Status
+        ensures reported { Reports (reported_line (make_fault_text fault)) (E.seen self.old.sink)
+            (E.seen self.new.sink) }
+        ensures status { result ≡ Status.Failed }
+    {
+        self.report(line_of(fault.name()).as_str());
+        Status::Failed
+    }
 }

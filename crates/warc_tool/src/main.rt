@@ -11,8 +11,8 @@ use std::cell::Cell;
 use std::io::{self, IsTerminal};
 use std::process::ExitCode;
 use warc_arguments::{Command, CommandFault, CommandLine, Request, Status};
-use warc_commands::run;
-use warc_frame::{Sink, send_all};
+use warc_commands::{Console, run};
+use warc_frame::Sink;
 use warc_host::{CountedSink, Ended, ErasingSink, Host, Progress, ShownSink, hint, words};
 use wrong_words::{hint_empty, hint_fault, hint_word};
 
@@ -59,16 +59,15 @@ fn status_of<'a, W: Sink, E: Sink>(
     files: &Files<'a>,
     line: &io::Result<CommandLine<'_>>,
     request: &Option<Request<'_>>,
-    out: &mut W,
-    err: &mut E,
+    console: &mut Console<W, E>,
 ) -> Status {
     if let Some(request) = request
         && writes_over(&files.host, &request.command)
     {
-        let _ = send_all(err, SAME_FILE.as_bytes());
+        console.err.report(SAME_FILE);
         return Status::Failed;
     }
-    let (status, _) = run(files.host.rt.alloc(), files, line, out, err);
+    let (status, _) = run(files.host.rt.alloc(), files, line, console);
     status
 }
 
@@ -136,15 +135,16 @@ fn run_line(
     let Host { rt, progress, .. } = &files.host;
     let is_text = !request.is_some_and(|it| it.command.gives_bytes());
     let shown = ShownSink::new(rt.stdout(), is_text && rt.stdout().is_terminal());
-    let mut out = CountedSink::new(shown, progress);
     let is_terminal = rt.stderr().is_terminal();
-    let mut err = ErasingSink::new(ShownSink::new(rt.stderr(), is_terminal), progress);
-    let status = status_of(files, line, &request, &mut out, &mut err);
-    let status = if out.sink.end() {
+    let err = ErasingSink::new(ShownSink::new(rt.stderr(), is_terminal), progress);
+    let mut console = Console::new(CountedSink::new(shown, progress), err);
+    let status = status_of(files, line, &request, &mut console);
+    let status = if console.out.sink.end() {
         status
     } else {
         Status::Failed
     };
+    let err = &mut console.err.sink;
     err.sink.end();
     progress.erase();
     if let Ok(line) = line {

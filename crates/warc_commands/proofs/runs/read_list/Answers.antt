@@ -7,7 +7,7 @@ pub returns-then-len-gt-MOST_INPUT-clause-cut : goal.returns-then-len-gt-MOST_IN
 returns-then-len-gt-MOST_INPUT-clause-cut g c = λ out. inl (record {
   long = λ all held. long_of max_input c.in-Ok.list.items all (c.in-Ok.ensures.bytes all held) (omega (arith, c.if-len-gt-MOST_INPUT.true, c.len.ensures));
   sound = c.in-Ok.ensures.failed;
-  stopped = record { untouched = refl; reported = c.report_stop.ensures.reported; status_is = c.report_stop.ensures.status };
+  stopped = record { untouched = refl; reported = c.stop.ensures.reported; status_is = c.stop.ensures.status };
 })
 
 pub returns-clause-are : goal.returns-clause-are

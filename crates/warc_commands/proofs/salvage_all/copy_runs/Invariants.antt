@@ -8,7 +8,7 @@ abbrev pub invariant-copying : goal.invariant-copying
 invariant-copying g l = record {
   room : 0 < length l.scratch;
   has : HasCopied (g.S.Source.seen l.fn.pieces.source) (g.S.Source.seen l.pieces.source) l.pieces.at l.pieces.failure l.tally (g.W.Sink.seen l.fn.out) (g.W.Sink.seen l.out) l.fn.buffer l.buffer
-      (g.E.Sink.seen l.fn.err) (g.E.Sink.seen l.err);
+      (g.E.Sink.seen l.fn.err.sink) (g.E.Sink.seen l.err.sink);
 }
 
 abbrev pub decreases-copying : goal.decreases-copying
