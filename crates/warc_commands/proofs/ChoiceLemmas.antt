@@ -107,15 +107,8 @@ module _ {rows : List Row} {old mid : SeenSource} (opens : Opens IsArchiveOf old
   chosen_before except named (inr (inl is)) = inr (inl (record { absent = is.absent; first = is.first; sound = is.sound ∙ opens.reads.cause; untouched = is.untouched; reported = is.reported; status_is = is.status_is }))
   chosen_before except named (inr (inr is)) = inr (inr (record { sound = is.sound ∙ opens.reads.cause; untouched = is.untouched; reported = is.reported; status_is = is.status_is }))
 
-  pub selected_by : (except : Bool) (bad : Option ℕ) (named wanted : List ℕ) → (bad ≡ None) × (named ≡ wanted) → ChosenEnds except named rows (devices mid out err) new status
-      → SelectEnds except bad wanted (devices old out err) new status
-  selected_by except bad named wanted (none, same) ends =
-      let P : Option ℕ → Type 0 = λ o. SelectEnds except o wanted (devices old out err) new status in
-      let Q : List ℕ → Type 0 = λ l. SelectEnds except None l (devices old out err) new status in
-      subst P (sym none) (subst Q same (inl (record { rows = rows; are = opens.accepted; ends = chosen_before except named ends })))
-
-pub select_by : {except : Bool} {bad : Option ℕ} {named wanted : List ℕ} {rows : List Row} {old mid last new : SeenSource} {out out' err err' : Seen} {status : Status} → (bad ≡ None) × (named ≡ wanted)
-    → Opens IsArchiveOf old mid (Ok rows) → new ≡ last → ChosenEnds except named rows (devices mid out err) (devices last out' err') status → SelectEnds except bad wanted (devices old out err) (devices new out' err') status
-select_by {except} {bad} {named} {wanted} {rows} {old} {mid} {last} {new} {out} {out'} {err} {err'} {status} is opens same ends =
-    let P : SeenSource → Type 0 = λ t. SelectEnds except bad wanted (devices old out err) (devices t out' err') status in
-    subst P (sym same) (selected_by opens out err (devices last out' err') status except bad named wanted is ends)
+pub select_by : {except : Bool} {named : List ℕ} {rows : List Row} {old mid last new : SeenSource} {out out' err err' : Seen} {status : Status} → Opens IsArchiveOf old mid (Ok rows) → new ≡ last
+    → ChosenEnds except named rows (devices mid out err) (devices last out' err') status → SelectEnds except None named (devices old out err) (devices new out' err') status
+select_by {except} {named} {rows} {old} {mid} {last} {new} {out} {out'} {err} {err'} {status} opens same ends =
+    let P : SeenSource → Type 0 = λ t. SelectEnds except None named (devices old out err) (devices t out' err') status in
+    subst P (sym same) (inl (record { rows = rows; are = opens.accepted; ends = chosen_before opens out err (devices last out' err') status except named ends }))

@@ -1,5 +1,6 @@
 -- How a closed selection ends.
-use Rattle.std.proofs.Common.{◌≡◌, ℕ, Bool, true, false, List, [], length, Option, None, Result, Ok, Err, inl, inr, refl, sym, ap, subst, ◌∙◌, arith}
+use Rattle.std.proofs.Common.{◌≡◌, ℕ, Bool, true, false, List, [], length, Option, None, Some, Result, Ok, Err, inl, inr, refl, sym, ap, subst, ◌∙◌, arith}
+use Rattle.std.specs.Prelude.{◌++◌, codes, decimal}
 use Rattle.std.specs.declared.vec.Vec.{Vec}
 use Rattle.warc_frame.specs.Seen.{IfHeld, Seen, SeenSource}
 use Rattle.warc_frame.specs.FaultText.{out_fault_text}
@@ -14,12 +15,18 @@ use Rattle.warc_rewrite.specs.Closure.{GivesNeeded, GivesOthers}
 use Rattle.warc_rewrite.specs.Selecting.{ReadsRecords, at_positions}
 use Rattle.warc_arguments.specs.declared.status.Status.{Status}
 use Rattle.warc_arguments.specs.declared.status.Status.TheVariants.{Failed}
-use Rattle.warc_commands.specs.Closed.{ClosedEnds, ClosureEnds, GivesClosed, NamedEnds, ReadsClosed, beside, beside_text}
+use Rattle.warc_commands.specs.Closed.{ClosedEnds, ClosureEnds, GivesClosed, NamedEnds, ReadsClosed, SelectedAs, beside, beside_text}
 use Rattle.warc_commands.specs.Devices.{Devices, devices}
-use Rattle.warc_commands.specs.Program.{Reports, reported_line}
-use Rattle.warc_commands.specs.Selected.{ReadsSome, SendEnds}
+use Rattle.warc_commands.specs.Named.{Names, bad_line}
+use Rattle.warc_commands.specs.Program.{IsBadWord, Reports, reported_line}
+use Rattle.warc_commands.specs.Reads.{SelectReads}
+use Rattle.warc_commands.specs.Selected.{ReadsSome, SendEnds, list_fault_text}
+use Rattle.warc_commands.specs.Uris.{IsStarved}
+use Rattle.warc_commands.specs.declared.lists.ListFault.{ListFault}
+use Rattle.warc_commands.specs.declared.lists.ListFault.TheVariants.{Line, Memory as NoMemory}
 use Rattle.warc_commands.proofs.ChoiceLemmas.{sent_before}
 use Rattle.warc_commands.proofs.ProgramLemmas.{has_failed, may_have_failed}
+use Rattle.warc_commands.proofs.ReadLemmas.{thrice_at_most, twice_at_most, unread}
 
 -- ---- the closure
 
@@ -128,21 +135,49 @@ module _ {rows : List Row} {old mid : SeenSource} (kept : mid.holds ≡ old.hold
 pub holds_indexed : {S : Type 0} {archive : Archived S} {old mid : SeenSource} → Opens IsIndexed old mid (Ok archive) → IfHeld mid.holds (λ bytes. IsIndexed bytes archive)
 holds_indexed opens bytes held = opens.accepted bytes (sym opens.reads.kept ∙ held)
 
-module _ {S : Type 0} {archive : Archived S} {old mid : SeenSource} (opens : Opens IsIndexed old mid (Ok archive)) (out err : Seen) (new : Devices) (status : Status) where
-  closed_as : (except : Bool) (bad : Option ℕ) (named wanted : List ℕ) → (bad ≡ None) × (named ≡ wanted) → NamedEnds except named archive.listing.rows (devices mid out err) new status
-      → ClosedEnds except bad wanted (devices old out err) new status
-  closed_as except bad named wanted (none, same) ends =
-      let P : Option ℕ → Type 0 = λ o. ClosedEnds except o wanted (devices old out err) new status in
-      let Q : List ℕ → Type 0 = λ l. ClosedEnds except None l (devices old out err) new status in
-      subst P (sym none) (subst Q same (inl (record {
-        rows = archive.listing.rows;
-        are = λ bytes held. (opens.accepted bytes held).listed;
-        ends = named_before opens.reads.kept opens.reads.cause out err new status except named ends;
-      })))
+pub closed_by : {S : Type 0} {archive : Archived S} {except : Bool} {named : List ℕ} {old mid last new : SeenSource} {out out' err err' : Seen} {status : Status} → Opens IsIndexed old mid (Ok archive) → new ≡ last
+    → NamedEnds except named archive.listing.rows (devices mid out err) (devices last out' err') status → ClosedEnds except None named (devices old out err) (devices new out' err') status
+closed_by {S} {archive} {except} {named} {old} {mid} {last} {new} {out} {out'} {err} {err'} {status} opens same ends =
+    let P : SeenSource → Type 0 = λ t. ClosedEnds except None named (devices old out err) (devices t out' err') status in
+    subst P (sym same) (inl (record {
+      rows = archive.listing.rows;
+      are = λ bytes held. (opens.accepted bytes held).listed;
+      ends = named_before opens.reads.kept opens.reads.cause out err (devices last out' err') status except named ends;
+    }))
 
-pub closed_by : {S : Type 0} {archive : Archived S} {except : Bool} {bad : Option ℕ} {named wanted : List ℕ} {old mid last new : SeenSource} {out out' err err' : Seen} {status : Status} → (bad ≡ None) × (named ≡ wanted)
-    → Opens IsIndexed old mid (Ok archive) → new ≡ last → NamedEnds except named archive.listing.rows (devices mid out err) (devices last out' err') status
-    → ClosedEnds except bad wanted (devices old out err) (devices new out' err') status
-closed_by {S} {archive} {except} {bad} {named} {wanted} {old} {mid} {last} {new} {out} {out'} {err} {err'} {status} is opens same ends =
-    let P : SeenSource → Type 0 = λ t. ClosedEnds except bad wanted (devices old out err) (devices t out' err') status in
-    subst P (sym same) (closed_as opens out err (devices last out' err') status except bad named wanted is ends)
+-- ---- with `--closed` or without it
+
+starved_as : (closed except : Bool) (bad : Option ℕ) (named : List ℕ) (old new : Devices) (status : Status) → IsStarved old new status → SelectedAs closed except bad named old new status
+starved_as false except None named old new status is = inr (inr is)
+starved_as false except (Some line) named old new status is = inr is
+starved_as true except None named old new status is = inr (inr is)
+starved_as true except (Some line) named old new status is = inr is
+
+bad_as : (closed except : Bool) (line : ℕ) (named : List ℕ) (old new : Devices) (status : Status) → IsBadWord (codes "bad position in line " ++ decimal line) old new status → SelectedAs closed except (Some line) named old new status
+bad_as false except line named old new status is = inl is
+bad_as true except line named old new status is = inl is
+
+-- a list names no positions: nothing was read
+pub list_refused : (closed except : Bool) (list named : List ℕ) (fault : ListFault) (source : SeenSource) (out err err' : Seen) (status : Status) → Names {A = ℕ} list (Err fault)
+    → Reports (reported_line (list_fault_text fault)) err err' → status ≡ Failed → SelectedAs closed except (bad_line list) named (devices source out err) (devices source out err') status
+list_refused closed except list named (Line number) source out err err' status names reports is =
+    subst (λ (o : Option ℕ). SelectedAs closed except o named (devices source out err) (devices source out err') status) (sym names)
+    (bad_as closed except number named (devices source out err) (devices source out err') status (record { unread = refl; untouched = refl; reported = reports; status_is = is }))
+list_refused closed except list named NoMemory source out err err' status names reports is =
+    starved_as closed except (bad_line list) named (devices source out err) (devices source out err') status (record { unread = refl; untouched = refl; reported = reports; status_is = is })
+
+-- the positions are those that the lines of a list name
+pub selected_as : (closed mode except : Bool) (bad : Option ℕ) (named wanted : List ℕ) (old new : Devices) (status : Status) → closed ≡ mode → (bad ≡ None) × (named ≡ wanted)
+    → SelectedAs mode except None named old new status → SelectedAs closed except bad wanted old new status
+selected_as closed mode except bad named wanted old new status by (none, same) ends =
+    let P : Bool → Type 0 = λ b. SelectedAs b except bad wanted old new status in
+    let Q : Option ℕ → Type 0 = λ o. SelectedAs mode except o wanted old new status in
+    let R : List ℕ → Type 0 = λ l. SelectedAs mode except None l old new status in
+    subst P (sym by) (subst Q (sym none) (subst R same ends))
+
+pub select_reads : (closed mode : Bool) (old new : SeenSource) → closed ≡ mode → SelectReads mode old new → SelectReads closed old new
+select_reads closed mode old new by reads = let P : Bool → Type 0 = λ b. SelectReads b old new in subst P (sym by) reads
+
+pub select_unread : (closed : Bool) (s : SeenSource) → SelectReads closed s s
+select_unread false s = twice_at_most (unread s)
+select_unread true s = thrice_at_most (unread s)

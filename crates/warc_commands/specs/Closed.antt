@@ -20,7 +20,7 @@ use Rattle.warc_arguments.specs.declared.status.Status.{Status}
 use Rattle.warc_arguments.specs.declared.status.Status.TheVariants.{Failed}
 use Rattle.warc_commands.specs.Devices.{Devices}
 use Rattle.warc_commands.specs.Program.{IsBadWord, IsNotOpened, Reports, reported_line}
-use Rattle.warc_commands.specs.Selected.{AreTheNamed, IsAbsent, ReadsSome, SendEnds}
+use Rattle.warc_commands.specs.Selected.{AreTheNamed, IsAbsent, ReadsSome, SelectEnds, SendEnds}
 use Rattle.warc_commands.specs.Uris.{IsStarved}
 
 -- the positions of what is written: the named ones and those of all that their records need, or those of the records
@@ -99,6 +99,11 @@ ClosedEnds except (Some line) named old new status =
     IsBadWord (codes "bad position in line " ++ decimal line) old new status ⊎ IsStarved old new status
 ClosedEnds except None named old new status =
     IsOpenedToClose except named old new status ⊎ (IsNotOpened old new status ⊎ IsStarved old new status)
+
+-- how `select` ends, with `--closed` or without it
+abbrev pub SelectedAs : Bool → Bool → Option ℕ → List ℕ → Devices → Devices → Status → Type 0
+SelectedAs false except bad named old new status = SelectEnds except bad named old new status
+SelectedAs true except bad named old new status = ClosedEnds except bad named old new status
 
 -- heads were read, each byte of them at most once, and then some records, each byte at most once
 pub record ReadsClosed (rows : List Row) (old new : SeenSource) : Type 0 where

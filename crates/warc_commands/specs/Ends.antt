@@ -7,9 +7,8 @@ use Rattle.warc_arguments.specs.Digits.{uri_named}
 use Rattle.warc_arguments.specs.Explanations.{explained}
 use Rattle.warc_arguments.specs.declared.status.Status.{Status}
 use Rattle.warc_arguments.specs.declared.status.Status.TheVariants.{Done, Found, Refused, Failed, Unchecked}
-use Rattle.warc_commands.specs.Bodies.{BodyEnds}
 use Rattle.warc_commands.specs.Devices.{Devices}
-use Rattle.warc_commands.specs.Closed.{ClosedEnds}
+use Rattle.warc_commands.specs.Closed.{SelectedAs}
 use Rattle.warc_commands.specs.Explaining.{ExplainEnds}
 use Rattle.warc_commands.specs.Fixity.{FixityEnds}
 use Rattle.warc_commands.specs.Parts.{PartEnds, position_of}
@@ -19,8 +18,7 @@ use Rattle.warc_commands.specs.Captures.{CapturesEnds}
 use Rattle.warc_commands.specs.Salvage.{SalvageEnds}
 use Rattle.warc_commands.specs.Named.{bad_line, positions_in}
 use Rattle.warc_commands.specs.Pieces.{PiecesEnd, SalvageAllEnds}
-use Rattle.warc_commands.specs.Selected.{SelectEnds}
-use Rattle.warc_commands.specs.Stored.{ReplayedAs, StoredEnds}
+use Rattle.warc_commands.specs.Stored.{GivenAs, ReplayedAs}
 use Rattle.warc_commands.specs.Summaries.{SummaryEnds}
 use Rattle.warc_commands.specs.Surveys.{SurveyEnds}
 use Rattle.warc_commands.specs.Uris.{UriEnds, uri_listed}
@@ -34,17 +32,15 @@ Ends (command.Check archive) list old new status = CheckEnds old new status
 Ends (command.Extract archive id) list old new status = ExtractEnds id.now old new status
 Ends (command.Replay archive uri date hex stored) list old new status =
     UriEnds (ReplayedAs stored date.now) hex (uri_named hex uri.now) old new status
-Ends (command.Body archive position false) list old new status = BodyEnds (position_of position.now) old new status
-Ends (command.Body archive position true) list old new status = StoredEnds (position_of position.now) old new status
+Ends (command.Body archive position stored) list old new status =
+    GivenAs stored (position_of position.now) old new status
 Ends (command.Captures archive uri hex) list old new status =
     UriEnds CapturesEnds hex (uri_listed hex (option_map (λ u. u.now) uri)) old new status
 Ends (command.Rewrite archive) list old new status = WriteEnds (texts_as Canonical) old new status
 Ends (command.Convert archive) list old new status = WriteEnds (texts_as Converted) old new status
 Ends (command.Split archive size) list old new status = SplitEnds (size_of size.now) old new status
-Ends (command.Select archive positions except false) list old new status =
-    SelectEnds except (bad_line list) (positions_in list) old new status
-Ends (command.Select archive positions except true) list old new status =
-    ClosedEnds except (bad_line list) (positions_in list) old new status
+Ends (command.Select archive positions except closed) list old new status =
+    SelectedAs closed except (bad_line list) (positions_in list) old new status
 Ends (command.Write draft file) list old new status = MakeEnds draft old new status
 Ends (command.Head archive position) list old new status = PartEnds Head (position_of position.now) old new status
 Ends (command.Block archive position) list old new status = PartEnds Block (position_of position.now) old new status

@@ -1,5 +1,5 @@
 -- Which bytes of its source a command asks for, and in how many reads at most.
-use Rattle.std.specs.Prelude.{◌≡◌, ℕ, ◌+◌, ◌*◌, ◌≤◌, false, true, length}
+use Rattle.std.specs.Prelude.{◌≡◌, ℕ, ◌+◌, ◌*◌, ◌≤◌, Bool, false, true, length}
 use Rattle.warc_frame.specs.Record.{max_archive, max_block}
 use Rattle.warc_frame.specs.Seen.{AsksOnly, IfHeld, InOrder, SeenSource}
 use Rattle.warc_arguments.specs.declared.command.Command.{Command}
@@ -30,6 +30,11 @@ pub record ReadsForRecord (old new : SeenSource) : Type 0 where
   pub close : IfHeld old.holds (λ bytes. AsksOnly (λ at. at ≤ 2 * length bytes + file_piece) old new)
   pub cost : IfHeld old.holds (λ bytes. new.reads ≤ old.reads + 2 * length bytes + 2)
 
+-- what `select` reads: for a closed selection, heads once more
+abbrev pub SelectReads : Bool → SeenSource → SeenSource → Type 0
+SelectReads false old new = ReadsTimes 2 old new
+SelectReads true old new = ReadsTimes 3 old new
+
 -- what a run of the command reads: an archive is opened in one read for each byte, and one, in order; what is written
 -- of it is read again, once, and twice the joined blocks of a body, of which the first time to judge them. A block that
 -- is split is read three times: to judge it, for the digests of its segments, and to be copied. For a closed selection
@@ -48,8 +53,7 @@ CommandReads (command.Convert archive) old new = ReadsTimes 2 old new
 CommandReads (command.Split archive size) old new = ReadsTimes 4 old new
 CommandReads (command.Replay archive uri date hex stored) old new = ReadsTimes 3 old new
 CommandReads (command.Body archive position stored) old new = ReadsTimes 3 old new
-CommandReads (command.Select archive positions except false) old new = ReadsTimes 2 old new
-CommandReads (command.Select archive positions except true) old new = ReadsTimes 3 old new
+CommandReads (command.Select archive positions except closed) old new = SelectReads closed old new
 CommandReads (command.Write draft file) old new = ReadsForRecord old new
 CommandReads (command.Captures archive uri hex) old new = AsksNear old new
 CommandReads (command.Survey archive) old new = AsksNear old new

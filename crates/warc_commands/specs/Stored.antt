@@ -18,6 +18,7 @@ use Rattle.warc_replay.specs.declared.fault.BodyFault.{BodyFault}
 use Rattle.warc_replay.specs.declared.fault.BodyFault.TheVariants.{NoRecord, NoCapture, Replay}
 use Rattle.warc_arguments.specs.declared.status.Status.{Status}
 use Rattle.warc_arguments.specs.declared.status.Status.TheVariants.{Done, Found, Failed}
+use Rattle.warc_commands.specs.Bodies.{BodyEnds}
 use Rattle.warc_commands.specs.Devices.{Devices}
 use Rattle.warc_commands.specs.Program.{AreGoodRecordsOf, IsBadWord, IsNotOpened, ReplayEnds, Reports, answer_text, reported_line}
 
@@ -93,3 +94,8 @@ StoredReplayEnds uri (Some moment) old new status =
 abbrev pub ReplayedAs : Bool → List ℕ → List ℕ → Devices → Devices → Status → Type 0
 ReplayedAs false date uri old new status = ReplayEnds uri (instant_of date) old new status
 ReplayedAs true date uri old new status = StoredReplayEnds uri (instant_of date) old new status
+
+-- how `body` ends, with `--stored` or without it
+abbrev pub GivenAs : Bool → Option ℕ → Devices → Devices → Status → Type 0
+GivenAs false position old new status = BodyEnds position old new status
+GivenAs true position old new status = StoredEnds position old new status

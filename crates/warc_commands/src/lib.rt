@@ -13,16 +13,15 @@ mod parts;
 mod payloads;
 mod pieces;
 mod program;
+mod replays;
 mod runs;
 mod salvage;
 mod salvage_all;
 mod select;
 mod select_closed;
 mod split;
-mod stored;
 mod summary;
 mod survey;
-mod uris;
 mod walk;
 mod write;
 

@@ -7,7 +7,7 @@ ghost use Rattle.warc_commands.specs.Reads.{CommandReads, ReadsInOrder, ReadsTim
 ghost use Rattle.warc_rewrite.specs.Forms.{texts_as};
 
 use crate::console::{Console, Ended, Heap, Input};
-use crate::extract::AsOf;
+use crate::replays::{AsOf, Page};
 use crate::select::Wanted;
 use warc::{Form, Listing, Part};
 use warc_arguments::{Command, CommandFault, Status};
@@ -56,18 +56,18 @@ pub fn perform<A: Heap, S: Input, W: Sink, E: Sink>(
                 date,
                 stored: *stored,
             };
-            console.replay_named(alloc, *in_hex, uri, as_of, source)
+            let page = Page {
+                uri,
+                in_hex: *in_hex,
+                as_of,
+            };
+            console.replay(alloc, page, source)
         }
         Command::Body {
             archive: _,
             position,
-            stored: false,
-        } => console.body(alloc, position, source),
-        Command::Body {
-            archive: _,
-            position,
-            stored: true,
-        } => console.stored(alloc, position, source),
+            stored,
+        } => console.body(alloc, position, *stored, source),
         Command::Captures {
             archive: _,
             uri,
@@ -80,25 +80,14 @@ pub fn perform<A: Heap, S: Input, W: Sink, E: Sink>(
             archive: _,
             positions: _,
             except,
-            closed: false,
+            closed,
         } => {
-            let wanted = Wanted {
+            let of = Wanted {
                 list: listed,
                 except: *except,
+                closed: *closed,
             };
-            console.select(alloc, wanted, source)
-        }
-        Command::Select {
-            archive: _,
-            positions: _,
-            except,
-            closed: true,
-        } => {
-            let wanted = Wanted {
-                list: listed,
-                except: *except,
-            };
-            console.select_closed(alloc, wanted, source)
+            console.select(alloc, of, source)
         }
         Command::Write { draft, file: _ } => console.write(alloc, draft, source),
         Command::Head {

@@ -1,10 +1,11 @@
 //! The command that writes some records byte for byte.
-ghost use Rattle.std.specs.Prelude.{◌≡◌, ◌<◌, ◌≤◌, ◌++◌, All, IfOk, [], decimal, length};
+ghost use Rattle.std.specs.Prelude.{◌≡◌, ◌<◌, ◌≤◌, ◌++◌, All, IfOk, None, [], decimal, length};
 ghost use Rattle.warc_rewrite.specs.Selecting.{ArePositions, ReadsRecords, at_positions};
+ghost use Rattle.warc_commands.specs.Closed.{SelectedAs};
 ghost use Rattle.warc_commands.specs.Devices.{used};
 ghost use Rattle.warc_commands.specs.Named.{bad_line, positions_in};
 ghost use Rattle.warc_commands.specs.Program.{Reports, reported_line};
-ghost use Rattle.warc_commands.specs.Reads.{ReadsTimes};
+ghost use Rattle.warc_commands.specs.Reads.{ReadsTimes, SelectReads};
 ghost use Rattle.warc_commands.specs.Selected.{AreWanted, ChosenEnds, ReadsSome, SelectEnds, SendEnds, list_fault_text};
 
 use crate::console::{Console, Ended, Heap, Input, LINE, Reporter};
@@ -16,33 +17,56 @@ use warc::Listing;
 use warc_arguments::Status;
 use warc_frame::{OutFault, Sink, Source};
 
-/// Which records are written: those at the positions that a list names, or all others.
+/// Which records are written: those at the positions that a list names, or all others; and whether with all that they
+/// need.
 #[derive(Clone, Copy)]
 pub(crate) struct Wanted<'a> {
     pub(crate) list: &'a [u8],
     pub(crate) except: bool,
+    pub(crate) closed: bool,
 }
 
 impl<W: Sink, E: Sink> Console<W, E> {
     /// Writes the records at the positions that a list names, or all others, byte for byte.
     pub(crate) fn select<A: Heap, S: Input>(&mut self, alloc: A, of: Wanted, source: S) -> Ended<S>
-        ensures ends { SelectEnds of.entry.except (bad_line of.entry.list.now)
+        ensures ends { SelectedAs of.entry.closed of.entry.except (bad_line of.entry.list.now)
             (positions_in of.entry.list.now)
             (used (S.seen source) W.seen E.seen self.old) (used (S.seen result.1) W.seen E.seen self.new) result.0 }
 
         // The source still holds what it held.
         ensures kept { (S.seen result.1).holds ≡ (S.seen source).holds }
-        ensures reads { ReadsTimes 2 (S.seen source) (S.seen result.1) }
+        ensures reads { SelectReads of.entry.closed (S.seen source) (S.seen result.1) }
     {
         let named = match read_list(alloc, of.list) {
             Ok(named) => named,
             Err(fault) => return (self.err.report_list(fault), source),
         };
+        if of.closed {
+            return self.select_closed(alloc, named, of.except, source);
+        }
+        self.select_alone(alloc, named, of.except, source)
+    }
+
+    /// Writes the records at these positions, or all others.
+    fn select_alone<A: Heap, S: Input>(
+        &mut self,
+        alloc: A,
+        named: Vec<usize, A>,
+        except: bool,
+        source: S,
+    ) -> Ended<S>
+        ensures ends { SelectEnds except None named.items (used (S.seen source) W.seen E.seen self.old)
+            (used (S.seen result.1) W.seen E.seen self.new) result.0 }
+
+        // The source still holds what it held.
+        ensures kept { (S.seen result.1).holds ≡ (S.seen source).holds }
+        ensures reads { ReadsTimes 2 (S.seen source) (S.seen result.1) }
+    {
         let mut archive = match Listing::open(alloc, source) {
             Ok(archive) => archive,
             Err((fault, source)) => return (self.err.refuse(fault), source),
         };
-        let status = self.write_named(&mut archive, named, of.except);
+        let status = self.write_named(&mut archive, named, except);
         (status, archive.into_source())
     }
 

@@ -1,18 +1,16 @@
-//! The command that writes some records byte for byte, and with them what they need.
-ghost use Rattle.std.specs.Prelude.{◌≡◌, ◌≤◌, ◌++◌, codes, decimal, length};
+//! How some records are written byte for byte, and with them what they need.
+ghost use Rattle.std.specs.Prelude.{◌≡◌, None, ◌≤◌, ◌++◌, codes, decimal, length};
 ghost use Rattle.warc_frame.specs.Seen.{IfHeld};
 ghost use Rattle.warc_lookup.specs.Indexed.{IsIndexed};
 ghost use Rattle.warc_rewrite.specs.Selecting.{ArePositions, ReadsRecords, at_positions};
 ghost use Rattle.warc_commands.specs.Closed.{ClosedEnds, ClosureEnds, GivesClosed, NamedEnds, ReadsClosed, beside, beside_text};
 ghost use Rattle.warc_commands.specs.Devices.{used};
-ghost use Rattle.warc_commands.specs.Named.{bad_line, positions_in};
 ghost use Rattle.warc_commands.specs.Program.{Reports};
 ghost use Rattle.warc_commands.specs.Reads.{ReadsTimes};
 ghost use Rattle.warc_commands.specs.Selected.{SendEnds, selected_line};
 
 use crate::console::{Console, Ended, Heap, Input, LINE, Reporter};
-use crate::lists::{first_absent, put_in_order, read_list};
-use crate::select::Wanted;
+use crate::lists::{first_absent, put_in_order};
 use arrayvec::ArrayString;
 use itoa::Buffer;
 use std::alloc::Allocator;
@@ -21,31 +19,26 @@ use warc_arguments::Status;
 use warc_frame::{OutFault, Sink, Source};
 
 impl<W: Sink, E: Sink> Console<W, E> {
-    /// Writes the records at the positions that a list names and those that they need, or all others that need none of
-    /// them, byte for byte.
+    /// Writes the records at these positions and those that they need, or all others that need none of them.
     pub(crate) fn select_closed<A: Heap, S: Input>(
         &mut self,
         alloc: A,
-        of: Wanted,
+        named: Vec<usize, A>,
+        except: bool,
         source: S,
     ) -> Ended<S>
-        ensures ends { ClosedEnds of.entry.except (bad_line of.entry.list.now)
-            (positions_in of.entry.list.now)
-            (used (S.seen source) W.seen E.seen self.old) (used (S.seen result.1) W.seen E.seen self.new) result.0 }
+        ensures ends { ClosedEnds except None named.items (used (S.seen source) W.seen E.seen self.old)
+            (used (S.seen result.1) W.seen E.seen self.new) result.0 }
 
         // The source still holds what it held.
         ensures kept { (S.seen result.1).holds ≡ (S.seen source).holds }
         ensures reads { ReadsTimes 3 (S.seen source) (S.seen result.1) }
     {
-        let named = match read_list(alloc, of.list) {
-            Ok(named) => named,
-            Err(fault) => return (self.err.report_list(fault), source),
-        };
         let mut archive = match Archive::open(alloc, source) {
             Ok(archive) => archive,
             Err((fault, source)) => return (self.err.refuse(fault), source),
         };
-        let status = self.write_closed(&mut archive, named, of.except);
+        let status = self.write_closed(&mut archive, named, except);
         (status, archive.into_source())
     }
 
