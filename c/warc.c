@@ -73,18 +73,21 @@ size_t warc_rt_check(warc_handle *handle, uint8_t *text, size_t text_length, war
 size_t warc_rt_fixity(const uint8_t *bytes, size_t length, uint8_t *text, size_t text_length, warc_problem *problem);
 size_t warc_rt_pieces(const uint8_t *bytes, size_t length, warc_piece *pieces, size_t pieces_length,
                       warc_problem *problem);
-bool warc_rt_rewrite(const uint8_t *bytes, size_t length, uint64_t start, uint8_t *part, size_t room, uint64_t *filled,
-                     warc_problem *problem);
-bool warc_rt_convert(const uint8_t *bytes, size_t length, uint64_t start, uint8_t *part, size_t room, uint64_t *filled,
-                     warc_problem *problem);
-bool warc_rt_split(const uint8_t *bytes, size_t length, uint64_t size, uint64_t start, uint8_t *part, size_t room,
-                   uint64_t *filled, warc_problem *problem);
-bool warc_rt_select(const uint8_t *bytes, size_t length, const uint64_t *positions, size_t count, bool except,
-                    bool closed, uint64_t start, uint8_t *part, size_t room, uint64_t *filled, warc_problem *problem);
+bool warc_rt_next_rewritten(warc_handle *handle, const uint8_t *bytes, size_t length, const warc_cursor *cursor,
+                            uint8_t *text, size_t text_length, warc_portion *portion, warc_problem *problem);
+bool warc_rt_next_converted(warc_handle *handle, const uint8_t *bytes, size_t length, const warc_cursor *cursor,
+                            uint8_t *text, size_t text_length, warc_portion *portion, warc_problem *problem);
+bool warc_rt_next_split(warc_handle *handle, const uint8_t *bytes, size_t length, uint64_t size,
+                        const warc_cursor *cursor, uint8_t *text, size_t text_length, warc_portion *portion,
+                        warc_problem *problem);
+bool warc_rt_next_selected(warc_handle *handle, const uint8_t *bytes, size_t length, const uint64_t *positions,
+                           size_t count, const warc_cursor *cursor, warc_portion *portion, warc_problem *problem);
+size_t warc_rt_chosen(warc_handle *handle, const uint64_t *positions, size_t count, bool except, bool closed,
+                      uint64_t *chosen, size_t chosen_length, warc_problem *problem);
 bool warc_rt_make(const uint8_t *kind, size_t kind_length, const uint8_t *uri, size_t uri_length, const uint8_t *date,
                   size_t date_length, const uint8_t *uuid, size_t uuid_length, const uint8_t *type, size_t type_length,
-                  const uint8_t *block, size_t block_length, uint64_t start, uint8_t *part, size_t room,
-                  uint64_t *filled, warc_problem *problem);
+                  const uint8_t *block, size_t block_length, uint8_t *text, size_t text_length, warc_portion *portion,
+                  warc_problem *problem);
 
 /* No head of a record is longer, and a field takes at least four bytes of it: `a:` and CRLF. */
 enum { MOST_TEXTS = 65536, MOST_FIELDS = MOST_TEXTS / 4, MOST_HTTP_FIELDS = 256 };
@@ -563,53 +566,120 @@ size_t warc_fixity(warc_archive *archive, uint8_t *text, size_t text_length, war
     return put_text(archive, FIXITY, text, text_length, problem);
 }
 
-/* ---- Writing. The proved functions put the part of an output that begins at an offset into a buffer. So the output is
- * made once for each part, up to its end: most outputs are one part or two. */
+/* ---- Writing, portion by portion */
 
-/* The first part is small, since most outputs are. */
-enum { FIRST_PART = 1 << 20, LATER_PART = 1 << 26 };
+/* Whether the arguments are good that each call for a portion has. */
+static bool are_for_portion(const warc_cursor *cursor, const warc_portion *portion, const uint8_t *text,
+                            size_t text_length) {
+    return cursor != NULL && portion != NULL && fits(text, text_length, 1);
+}
+
+bool warc_next_rewritten(warc_archive *archive, const warc_cursor *cursor, warc_portion *portion, uint8_t *text,
+                         size_t text_length, warc_problem *problem) {
+    warc_problem none;
+    if (problem == NULL) problem = &none;
+    if (!begin(archive != NULL && are_for_portion(cursor, portion, text, text_length), problem)) return false;
+    const warc_cursor at = *cursor;
+    return warc_rt_next_rewritten(&archive->handle, archive->bytes, archive->length, &at, room_or_nothing(text),
+                                  text_length, portion, problem);
+}
+
+bool warc_next_converted(warc_archive *archive, const warc_cursor *cursor, warc_portion *portion, uint8_t *text,
+                         size_t text_length, warc_problem *problem) {
+    warc_problem none;
+    if (problem == NULL) problem = &none;
+    if (!begin(archive != NULL && are_for_portion(cursor, portion, text, text_length), problem)) return false;
+    const warc_cursor at = *cursor;
+    return warc_rt_next_converted(&archive->handle, archive->bytes, archive->length, &at, room_or_nothing(text),
+                                  text_length, portion, problem);
+}
+
+bool warc_next_split(warc_archive *archive, uint64_t size, const warc_cursor *cursor, warc_portion *portion,
+                     uint8_t *text, size_t text_length, warc_problem *problem) {
+    warc_problem none;
+    if (problem == NULL) problem = &none;
+    bool are_good = archive != NULL && size != 0 && are_for_portion(cursor, portion, text, text_length);
+    if (!begin(are_good, problem)) return false;
+    const warc_cursor at = *cursor;
+    return warc_rt_next_split(&archive->handle, archive->bytes, archive->length, size, &at, room_or_nothing(text),
+                              text_length, portion, problem);
+}
+
+/* Positions that are passed, or as many as none. */
+static const uint64_t *positions_or_nothing(const uint64_t *positions) {
+    return positions != NULL ? positions : (const void *)nothing;
+}
+
+bool warc_next_selected(warc_archive *archive, const uint64_t *positions, size_t count, const warc_cursor *cursor,
+                        warc_portion *portion, warc_problem *problem) {
+    warc_problem none;
+    if (problem == NULL) problem = &none;
+    bool are_good = archive != NULL && fits(positions, count, sizeof *positions)
+        && are_for_portion(cursor, portion, NULL, 0);
+    if (!begin(are_good, problem)) return false;
+    const warc_cursor at = *cursor;
+    return warc_rt_next_selected(&archive->handle, archive->bytes, archive->length, positions_or_nothing(positions),
+                                 count, &at, portion, problem);
+}
+
+size_t warc_chosen(warc_archive *archive, const uint64_t *positions, size_t count, bool except, bool closed,
+                   uint64_t *chosen, size_t chosen_length, warc_problem *problem) {
+    warc_problem none;
+    if (problem == NULL) problem = &none;
+    bool are_good = archive != NULL && fits(positions, count, sizeof *positions)
+        && fits(chosen, chosen_length, sizeof *chosen);
+    if (!begin(are_good, problem)) return 0;
+    return warc_rt_chosen(&archive->handle, positions_or_nothing(positions), count, except, closed,
+                          room_or_nothing(chosen), chosen_length, problem);
+}
+
+/* Whether passed bytes are there. */
+static bool are_there(const warc_bytes *passed) { return fits(passed->bytes, passed->length, 1); }
+
+/* Whether all that a record is made of is there. */
+static bool is_there(const warc_draft *draft) {
+    return draft != NULL && are_there(&draft->kind) && are_there(&draft->uri) && are_there(&draft->date)
+        && are_there(&draft->uuid) && are_there(&draft->type) && are_there(&draft->block);
+}
+
+bool warc_made(const warc_draft *draft, warc_portion *portion, uint8_t *text, size_t text_length,
+               warc_problem *problem) {
+    warc_problem none;
+    if (problem == NULL) problem = &none;
+    if (!begin(is_there(draft) && portion != NULL && fits(text, text_length, 1), problem)) return false;
+    return warc_rt_make(bytes_or_nothing(draft->kind.bytes), draft->kind.length, bytes_or_nothing(draft->uri.bytes),
+                        draft->uri.length, bytes_or_nothing(draft->date.bytes), draft->date.length,
+                        bytes_or_nothing(draft->uuid.bytes), draft->uuid.length, bytes_or_nothing(draft->type.bytes),
+                        draft->type.length, bytes_or_nothing(draft->block.bytes), draft->block.length,
+                        room_or_nothing(text), text_length, portion, problem);
+}
+
+/* ---- Writing to a descriptor */
 
 /* What is written: an archive in a form, some of its records, or one record. */
 typedef struct {
     enum { REWRITTEN, CONVERTED, SPLIT, SELECTED, MADE } form;
-    const uint8_t *bytes;
-    size_t length;
+    warc_archive *archive;
     uint64_t size;
     const uint64_t *positions;
     size_t count;
-    bool except;
-    bool closed;
     const warc_draft *draft;
 } output;
 
-/* Puts the part of a record's output that begins at an offset. */
-static bool put_made(const warc_draft *draft, uint64_t start, uint8_t *part, size_t room, uint64_t *filled,
-                     warc_problem *problem) {
-    return warc_rt_make(bytes_or_nothing(draft->kind.bytes), draft->kind.length, bytes_or_nothing(draft->uri.bytes),
-                        draft->uri.length, bytes_or_nothing(draft->date.bytes), draft->date.length,
-                        bytes_or_nothing(draft->uuid.bytes), draft->uuid.length, bytes_or_nothing(draft->type.bytes),
-                        draft->type.length, bytes_or_nothing(draft->block.bytes), draft->block.length, start, part,
-                        room, filled, problem);
+/* The bytes that the spans of an output are of. */
+static const uint8_t *spanned(const output *what) {
+    return what->form == MADE ? bytes_or_nothing(what->draft->block.bytes) : what->archive->bytes;
 }
 
-/* Puts the part of some records that begins at an offset. */
-static bool put_selected(const output *what, uint64_t start, uint8_t *part, size_t room, uint64_t *filled,
-                         warc_problem *problem) {
-    return warc_rt_select(what->bytes, what->length, what->positions, what->count, what->except, what->closed, start,
-                          part, room, filled, problem);
-}
-
-/* Puts the part of an output that begins at an offset. False with a problem, or where the part is full. */
-static bool put_part(const output *what, uint64_t start, uint8_t *part, size_t room, uint64_t *filled,
-                     warc_problem *problem) {
-    set(problem, 0);
-    *filled = 0;
+/* The next portion of an output. False with a problem, or where nothing is left. */
+static bool next_portion(const output *what, const warc_cursor *cursor, warc_portion *portion, uint8_t *text,
+                         size_t room, warc_problem *problem) {
     switch (what->form) {
-    case REWRITTEN: return warc_rt_rewrite(what->bytes, what->length, start, part, room, filled, problem);
-    case CONVERTED: return warc_rt_convert(what->bytes, what->length, start, part, room, filled, problem);
-    case SPLIT: return warc_rt_split(what->bytes, what->length, what->size, start, part, room, filled, problem);
-    case SELECTED: return put_selected(what, start, part, room, filled, problem);
-    default: return put_made(what->draft, start, part, room, filled, problem);
+    case REWRITTEN: return warc_next_rewritten(what->archive, cursor, portion, text, room, problem);
+    case CONVERTED: return warc_next_converted(what->archive, cursor, portion, text, room, problem);
+    case SPLIT: return warc_next_split(what->archive, what->size, cursor, portion, text, room, problem);
+    case SELECTED: return warc_next_selected(what->archive, what->positions, what->count, cursor, portion, problem);
+    default: return cursor->place == 0 && warc_made(what->draft, portion, text, room, problem);
     }
 }
 
@@ -660,94 +730,226 @@ static bool are_of_file(const uint8_t *bytes, size_t length, int descriptor) {
     return found;
 }
 
-/* Writes a part, and answers how many bytes of it went out. A write that fails or takes nothing isn't tried again. */
-static size_t write_part(int file, const uint8_t *part, size_t length) {
-    size_t sent = 0;
-    while (sent < length) {
-        ssize_t taken = write_quietly(file, part + sent, length - sent);
-        if (taken <= 0) break;
-        sent += (size_t)taken;
+/* How many bytes are held back, so that short pieces go out together, and how much room there is at first for a text.
+ * Most heads are shorter. */
+enum { HELD = 1 << 17, FIRST_TEXT = 1 << 14 };
+
+/* A descriptor that is written to, bytes that are held back, and bytes after these that are elsewhere in memory. */
+typedef struct {
+    int file;
+    uint8_t *held;
+    size_t count;
+    const uint8_t *span;
+    size_t span_length;
+    uint64_t *sent;
+} sink;
+
+/* Writes bytes. A write that fails or takes nothing isn't tried again. */
+static bool send_bytes(sink *to, const uint8_t *bytes, size_t length) {
+    while (length > 0) {
+        ssize_t taken = write_quietly(to->file, bytes, length);
+        if (taken <= 0) return false;
+        *to->sent += (uint64_t)taken;
+        bytes += taken;
+        length -= (size_t)taken;
     }
-    return sent;
+    return true;
 }
 
-/* Makes room for a later part, if there is memory for it. */
-static void enlarge(uint8_t **part, size_t *room) {
-    uint8_t *larger = *room < LATER_PART ? realloc(*part, LATER_PART) : NULL;
-    if (larger != NULL) {
-        *part = larger;
-        *room = LATER_PART;
-    }
+/* Writes what is held back. */
+static bool send_held(sink *to) {
+    size_t count = to->count;
+    to->count = 0;
+    return send_bytes(to, to->held, count);
 }
 
-/* Writes an output part by part. `*sent` is how many bytes went out. */
-static bool write_parts(const output *what, int file, uint8_t **part, uint64_t *sent, warc_problem *problem) {
-    for (size_t room = FIRST_PART;; enlarge(part, &room)) {
-        uint64_t filled;
-        bool is_done = put_part(what, *sent, *part, room, &filled, problem);
-        size_t taken = write_part(file, *part, (size_t)filled);
-        *sent += taken;
-        if (taken < filled) {
+/* Holds bytes back, or writes them after those that are held. */
+static bool put(sink *to, const uint8_t *bytes, size_t length) {
+    if (length > HELD - to->count && !send_held(to)) return false;
+    if (length > HELD) return send_bytes(to, bytes, length);
+    if (length > 0) memcpy(to->held + to->count, bytes, length);
+    to->count += length;
+    return true;
+}
+
+/* Puts the bytes that are elsewhere. */
+static bool put_last_span(sink *to) {
+    size_t length = to->span_length;
+    to->span_length = 0;
+    return put(to, to->span, length);
+}
+
+/* Puts bytes that stay where they are until the output ends. Spans that follow one another go out as one. */
+static bool put_span(sink *to, const uint8_t *bytes, size_t length) {
+    if (to->span_length > 0 && to->span + to->span_length == bytes) {
+        to->span_length += length;
+        return true;
+    }
+    if (!put_last_span(to)) return false;
+    to->span = bytes;
+    to->span_length = length;
+    return true;
+}
+
+/* Puts bytes that don't stay. */
+static bool put_bytes(sink *to, const uint8_t *bytes, size_t length) {
+    return length == 0 || (put_last_span(to) && put(to, bytes, length));
+}
+
+/* Puts a portion. */
+static bool put_portion(sink *to, const output *what, const warc_portion *portion, const uint8_t *text) {
+    return put_bytes(to, text, (size_t)portion->before)
+        && put_span(to, spanned(what) + portion->span.offset, (size_t)portion->span.length)
+        && put_bytes(to, text + portion->before, (size_t)portion->after);
+}
+
+/* Writes all that was put. */
+static bool end_output(sink *to) { return put_last_span(to) && send_held(to); }
+
+/* Makes room for a longer text. */
+static bool enlarge(uint8_t **text, size_t *room, uint64_t length, warc_problem *problem) {
+    uint8_t *larger = length <= PTRDIFF_MAX ? realloc(*text, (size_t)length) : NULL;
+    if (larger == NULL) {
+        set(problem, WARC_NO_MEMORY);
+        return false;
+    }
+    *text = larger;
+    *room = (size_t)length;
+    return true;
+}
+
+/* Puts all portions of an output, each made once. False with a problem. */
+static bool put_portions(sink *to, const output *what, uint8_t **text, warc_problem *problem) {
+    size_t room = FIRST_TEXT;
+    warc_portion portion;
+    for (warc_cursor cursor = {0}; next_portion(what, &cursor, &portion, *text, room, problem);) {
+        if (portion.before + portion.after > room) {
+            if (!enlarge(text, &room, 2 * (portion.before + portion.after), problem)) return false;
+            continue;
+        }
+        if (!put_portion(to, what, &portion, *text)) {
             set(problem, WARC_WRITE_FAILED);
             return false;
         }
-        if (is_done || filled < room) return is_done;
+        cursor = portion.next;
     }
+    return problem->code == 0;
 }
 
-/* Writes an output whose arguments are good. */
-static bool write_output(const output *what, int file, uint64_t *sent, warc_problem *problem) {
-    uint8_t *part = file < 0 ? NULL : malloc(FIRST_PART);
-    if (part == NULL) {
-        set(problem, file < 0 ? WARC_WRITE_FAILED : WARC_NO_MEMORY);
+/* Writes an output whose arguments are good. What comes before a problem goes out. */
+static bool write_portions(const output *what, int file, uint8_t *held, uint8_t **text, uint64_t *sent,
+                           warc_problem *problem) {
+    sink to = {.file = file, .held = held, .sent = sent};
+    bool is_done = put_portions(&to, what, text, problem);
+    if (problem->code != WARC_WRITE_FAILED && !end_output(&to)) {
+        set(problem, WARC_WRITE_FAILED);
         return false;
     }
-    bool is_done = write_parts(what, file, &part, sent, problem);
-    free(part);
+    return is_done;
+}
+
+/* Writes an output to a descriptor. `*sent` is 0 where all is written. */
+static bool write_output(const output *what, int file, uint64_t *sent, warc_problem *problem) {
+    uint8_t *held = malloc(HELD), *text = malloc(FIRST_TEXT);
+    bool is_done = false;
+    if (file < 0) {
+        set(problem, WARC_WRITE_FAILED);
+    } else if (held == NULL || text == NULL) {
+        set(problem, WARC_NO_MEMORY);
+    } else {
+        is_done = write_portions(what, file, held, &text, sent, problem);
+    }
+    free(held);
+    free(text);
     if (is_done) *sent = 0;
     return is_done;
 }
 
-/* Writes an output: nothing is sent if an argument is bad, or if the bytes are those of the file that is written. */
-static bool write_if_good(bool are_good, const output *what, int file, uint64_t *sent, warc_problem *problem) {
+/* Whether an archive may be written to a descriptor: its bytes aren't those of the file there. */
+static bool may_write(const warc_archive *archive, int file) {
+    return archive != NULL && !are_of_file(archive->bytes, archive->length, file);
+}
+
+/* Writes an output of an archive: nothing is sent if an argument is bad. */
+static bool write_archive(bool are_good, const output *what, int file, uint64_t *sent, warc_problem *problem) {
     warc_problem none;
     uint64_t unread;
     if (problem == NULL) problem = &none;
     if (sent == NULL) sent = &unread;
     *sent = 0;
-    are_good = are_good && !are_of_file(what->bytes, what->length, file);
-    return begin(are_good, problem) && write_output(what, file, sent, problem);
+    return begin(are_good && may_write(what->archive, file), problem) && write_output(what, file, sent, problem);
 }
 
-bool warc_rewrite(const uint8_t *bytes, size_t length, int file, uint64_t *sent, warc_problem *problem) {
-    output what = {.form = REWRITTEN, .bytes = bytes_or_nothing(bytes), .length = length};
-    return write_if_good(fits(bytes, length, 1), &what, file, sent, problem);
+bool warc_rewrite(warc_archive *archive, int file, uint64_t *sent, warc_problem *problem) {
+    output what = {.form = REWRITTEN, .archive = archive};
+    return write_archive(true, &what, file, sent, problem);
 }
 
-bool warc_convert(const uint8_t *bytes, size_t length, int file, uint64_t *sent, warc_problem *problem) {
-    output what = {.form = CONVERTED, .bytes = bytes_or_nothing(bytes), .length = length};
-    return write_if_good(fits(bytes, length, 1), &what, file, sent, problem);
+bool warc_convert(warc_archive *archive, int file, uint64_t *sent, warc_problem *problem) {
+    output what = {.form = CONVERTED, .archive = archive};
+    return write_archive(true, &what, file, sent, problem);
 }
 
-bool warc_split(const uint8_t *bytes, size_t length, uint64_t size, int file, uint64_t *sent, warc_problem *problem) {
-    output what = {.form = SPLIT, .bytes = bytes_or_nothing(bytes), .length = length, .size = size};
-    return write_if_good(size != 0 && fits(bytes, length, 1), &what, file, sent, problem);
+bool warc_split(warc_archive *archive, uint64_t size, int file, uint64_t *sent, warc_problem *problem) {
+    output what = {.form = SPLIT, .archive = archive, .size = size};
+    return write_archive(size != 0, &what, file, sent, problem);
 }
 
-bool warc_select(const uint8_t *bytes, size_t length, const uint64_t *positions, size_t count, bool except, bool closed,
-                 int file, uint64_t *sent, warc_problem *problem) {
-    output what = {.form = SELECTED, .bytes = bytes_or_nothing(bytes), .length = length, .count = count,
-                   .positions = positions ? positions : (const void *)nothing, .except = except, .closed = closed};
-    bool are_good = fits(bytes, length, 1) && fits(positions, count, sizeof *positions);
-    return write_if_good(are_good, &what, file, sent, problem);
+/* The positions that a selection writes, in memory of their own; null with a problem. No record is chosen twice. */
+static uint64_t *choose(warc_archive *archive, const uint64_t *positions, size_t count, bool except, bool closed,
+                        size_t *chosen_length, warc_problem *problem) {
+    size_t room = archive->count;
+    uint64_t *chosen = malloc(room > 0 ? room * sizeof *chosen : 1);
+    if (chosen == NULL) {
+        set(problem, WARC_NO_MEMORY);
+        return NULL;
+    }
+    *chosen_length = warc_chosen(archive, positions, count, except, closed, chosen, room, problem);
+    if (problem->code == 0) return chosen;
+    free(chosen);
+    return NULL;
 }
 
-/* Whether passed bytes are there. */
-static bool are_there(const warc_bytes *passed) { return fits(passed->bytes, passed->length, 1); }
+bool warc_select(warc_archive *archive, const uint64_t *positions, size_t count, bool except, bool closed, int file,
+                 uint64_t *sent, warc_problem *problem) {
+    warc_problem none;
+    uint64_t unread;
+    if (problem == NULL) problem = &none;
+    if (sent == NULL) sent = &unread;
+    *sent = 0;
+    if (!begin(may_write(archive, file) && fits(positions, count, sizeof *positions), problem)) return false;
+    output what = {.form = SELECTED, .archive = archive, .count = 0};
+    uint64_t *chosen = choose(archive, positions, count, except, closed, &what.count, problem);
+    what.positions = chosen;
+    bool is_done = chosen != NULL && write_output(&what, file, sent, problem);
+    free(chosen);
+    return is_done;
+}
+
+/* Writes a record whose block is mapped from the file that is written to: the block is copied before. */
+static bool write_copied(const warc_draft *draft, int file, uint64_t *sent, warc_problem *problem) {
+    uint8_t *block = malloc(draft->block.length);
+    if (block == NULL) {
+        set(problem, WARC_NO_MEMORY);
+        return false;
+    }
+    memcpy(block, draft->block.bytes, draft->block.length);
+    warc_draft copied = *draft;
+    copied.block.bytes = block;
+    output what = {.form = MADE, .draft = &copied};
+    bool is_done = write_output(&what, file, sent, problem);
+    free(block);
+    return is_done;
+}
 
 bool warc_make(const warc_draft *draft, int file, uint64_t *sent, warc_problem *problem) {
-    bool are_good = draft != NULL && are_there(&draft->kind) && are_there(&draft->uri) && are_there(&draft->date)
-        && are_there(&draft->uuid) && are_there(&draft->type) && are_there(&draft->block);
+    warc_problem none;
+    uint64_t unread;
+    if (problem == NULL) problem = &none;
+    if (sent == NULL) sent = &unread;
+    *sent = 0;
+    if (!begin(is_there(draft), problem)) return false;
+    if (are_of_file(draft->block.bytes, draft->block.length, file)) return write_copied(draft, file, sent, problem);
     output what = {.form = MADE, .draft = draft};
-    return write_if_good(are_good, &what, file, sent, problem);
+    return write_output(&what, file, sent, problem);
 }

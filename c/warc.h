@@ -63,12 +63,14 @@
  * one as warc_field_at does. warc_head_at and warc_block_at take theirs from the row. warc_open, warc_open_front,
  * warc_pieces, warc_field_at, warc_http_at, warc_http_field_at, warc_fixity, warc_problem_text and warc_abi_version
  * call functions over bytes that state their contracts themselves; warc_open answers true only for bytes that spell
- * good records, and otherwise gives their first fault, or says that memory ran out. warc_rewrite, warc_convert,
- * warc_split, warc_select and warc_make are one call of write_lent, split_lent, select_lent, select_closed_lent or
- * make_lent each, whose contract says what goes to a sink; that a descriptor takes these bytes is write's matter, and
- * warc.c puts the parts together. No contract says that a handle holds the archive that was opened: contracts see no
- * value of a struct that C keeps (docs/PROMISES.md). What this page demands of the caller isn't checked by anybody, and
- * warc.c, which checks pointers, keeps texts and finds fields in what was put, isn't proved.
+ * good records, and otherwise gives their first fault, or says that memory ran out. warc_next_rewritten,
+ * warc_next_converted, warc_next_split, warc_next_selected and warc_made are one call of put_next_as, put_next_split,
+ * put_next_selected or put_made each, whose contract says of which output, at which cursor, the portion is the next,
+ * and that its span is within the bytes; warc_chosen is one of put_chosen or put_closed. What goes to a descriptor is
+ * these portions one after another, which warc.c puts together; that the descriptor takes them is write's matter. No
+ * contract says that a handle holds the archive that was opened: contracts see no value of a struct that C keeps
+ * (docs/PROMISES.md). What this page demands of the caller isn't checked by anybody, and warc.c, which checks pointers,
+ * keeps texts and finds fields in what was put, isn't proved.
  */
 #ifndef WARC_H
 #define WARC_H
@@ -83,7 +85,7 @@ extern "C" {
 
 /* The version of this interface. It changes with any change of a call, a struct or a number here; a call that is added
  * leaves it as it is. */
-#define WARC_ABI_VERSION 3
+#define WARC_ABI_VERSION 4
 
 /* The version that the library has. It never fails. A program that loads the library compares it with
  * WARC_ABI_VERSION. */
@@ -379,36 +381,57 @@ size_t warc_check(warc_archive *archive, uint8_t *text, size_t text_length, warc
  * with a problem. Bytes that are no archive any more are refused with their fault. */
 size_t warc_fixity(warc_archive *archive, uint8_t *text, size_t text_length, warc_problem *problem);
 
-/* ---- Writing to a file descriptor, which stays open. Each call answers true if all is written, and then `*sent` is
- * 0. It answers false with WARC_WRITE_FAILED or WARC_NO_MEMORY where the output ends early, and `*sent` is how many
- * bytes of it went out. An interrupted write, one to a descriptor that would block, and one to a negative descriptor
- * fail: nothing is tried again. A write to a pipe that nobody reads fails and raises no SIGPIPE. With any other
- * problem nothing is written, and `*sent` is 0. `sent` may be null. Nothing is synced: that is the caller's.
+/* ---- What is written, portion by portion
  *
- * The output is made in parts of up to 64 MiB, and anew up to its end for each: the time grows with the square of an
- * output beyond that. The program `warc` makes it once. */
+ * An output is asked for portion by portion, each made once, and all of them one after another are the output. A cursor
+ * says where the next portion is: {0} before the first, and then what the portion before it says. A call answers true
+ * and sets `*portion`; false with {0} where nothing is left; and false with a problem: WARC_NO_MEMORY, or WARC_CHANGED
+ * where the bytes aren't what they were. After a problem the same cursor may be asked again. */
 
-/* Writes the archive that these bytes are in canonical form, as one of WARC/1.1, or with its records split into
- * segments of `size` bytes, as the program's commands do. Bytes that are refused are refused as by warc_open. A size
- * of 0 is WARC_BAD_ARGUMENT. The bytes must not be those of the file that is written to: where they are mapped from it,
- * as far as /proc/self/maps says, each of these calls is WARC_BAD_ARGUMENT before it reads or writes a byte, also where
- * the file was emptied when it was opened. Of bytes that were read into memory nobody can tell which file had them. */
-bool warc_rewrite(const uint8_t *bytes, size_t length, int file, uint64_t *sent, warc_problem *problem);
-bool warc_convert(const uint8_t *bytes, size_t length, int file, uint64_t *sent, warc_problem *problem);
-bool warc_split(const uint8_t *bytes, size_t length, uint64_t size, int file, uint64_t *sent, warc_problem *problem);
+/* Where the next portion of an output is. */
+typedef struct {
+    uint64_t place;
+    uint64_t segment;
+} warc_cursor;
 
-/* Writes records of the archive that these bytes are, byte for byte: those at `count` positions, or with `except` all
- * others. The positions come in any order, and any of them may be there twice: each record is written once, in the
- * archive's order. Fails with WARC_NO_RECORD where a position isn't that of a record, and as warc_rewrite does.
- * With `closed` answers stay: with each record all that it needs is written, the records on the way to its origin and
+/* A portion of an output: the first `before` bytes of its text, the bytes of its span, and the other `after` bytes of
+ * its text. The span is one of the archive's bytes, or of the block of a record that is made. `next` is the cursor
+ * after the portion. */
+typedef struct {
+    uint64_t before;
+    uint64_t after;
+    warc_span span;
+    warc_cursor next;
+} warc_portion;
+
+/* The next portion of the archive in canonical form, as one of WARC/1.1, or with its records split into segments of
+ * `size` bytes, as the program's commands write it: a record, or a segment of one. Its text is written as far as there
+ * is room: if `before + after` is more than `text_length`, ask again with the same cursor. 65,540 bytes hold any
+ * text. A segment's digest is computed with its portion. A size of 0 is WARC_BAD_ARGUMENT. */
+bool warc_next_rewritten(warc_archive *archive, const warc_cursor *cursor, warc_portion *portion, uint8_t *text,
+                         size_t text_length, warc_problem *problem);
+bool warc_next_converted(warc_archive *archive, const warc_cursor *cursor, warc_portion *portion, uint8_t *text,
+                         size_t text_length, warc_problem *problem);
+bool warc_next_split(warc_archive *archive, uint64_t size, const warc_cursor *cursor, warc_portion *portion,
+                     uint8_t *text, size_t text_length, warc_problem *problem);
+
+/* The next of the records at `count` positions, which are written byte for byte: it has no text. Fails with
+ * WARC_NO_RECORD where the position isn't that of a record, and never with WARC_NO_MEMORY. */
+bool warc_next_selected(warc_archive *archive, const uint64_t *positions, size_t count, const warc_cursor *cursor,
+                        warc_portion *portion, warc_problem *problem);
+
+/* The positions of the records that a selection writes, ascending, each once: those at `count` positions, or with
+ * `except` all others. The positions come in any order, and any of them may be there twice. Answers how many there are;
+ * if that is more than `chosen_length`, only the first ones are written. There are at most warc_count. Answers 0 with
+ * WARC_NO_RECORD where a position isn't that of a record, with WARC_NO_MEMORY or with WARC_CHANGED.
+ * With `closed` answers stay: with each record all that it needs is chosen, the records on the way to its origin and
  * the segments of all these; or with `except` no record that needs one of those at the positions. Then each capture
- * that is written gives what it gives among all records.
- * What is written is an archive. Without `closed` a revisit in it may give another reason than before, or the body of
- * another record that fits (the same id, URI and date, or digest), and a segmented record another gap, or a body, if a
- * record that it leads to is left out. Neither keeps what a replay chooses among captures of a URI, nor warcinfo and
- * request records. */
-bool warc_select(const uint8_t *bytes, size_t length, const uint64_t *positions, size_t count, bool except, bool closed,
-                 int file, uint64_t *sent, warc_problem *problem);
+ * that is written gives what it gives among all records. Without `closed` a revisit may give another reason than
+ * before, or the body of another record that fits (the same id, URI and date, or digest), and a segmented record
+ * another gap, or a body, if a record that it leads to is left out. Neither keeps what a replay chooses among captures
+ * of a URI, nor warcinfo and request records. */
+size_t warc_chosen(warc_archive *archive, const uint64_t *positions, size_t count, bool except, bool closed,
+                   uint64_t *chosen, size_t chosen_length, warc_problem *problem);
 
 /* Bytes that are passed. */
 typedef struct {
@@ -427,8 +450,33 @@ typedef struct {
     warc_bytes block;
 } warc_draft;
 
-/* Writes one record of WARC/1.1, with the digest of its block, as the command `warc write` does. Fails with
- * WARC_MADE_DATE to WARC_MADE_KIND where no record is made. It takes memory for the block once more. */
+/* One record of WARC/1.1, with the digest of its block, as the command `warc write` writes it: one portion, whose span
+ * is the draft's block. Fails with WARC_MADE_DATE to WARC_MADE_KIND where no record is made. It takes memory for the
+ * block once more. */
+bool warc_made(const warc_draft *draft, warc_portion *portion, uint8_t *text, size_t text_length,
+               warc_problem *problem);
+
+/* ---- Writing to a file descriptor, which stays open. Each call answers true if all is written, and then `*sent` is 0.
+ * It answers false with WARC_WRITE_FAILED, WARC_NO_MEMORY or WARC_CHANGED where the output ends early, and `*sent` is
+ * how many bytes of it went out. An interrupted write, one to a descriptor that would block, and one to a negative
+ * descriptor fail: nothing is tried again. A write to a pipe that nobody reads fails and raises no SIGPIPE. With any
+ * other problem nothing is written, and `*sent` is 0. `sent` may be null. Nothing is synced: that is the caller's. Each
+ * call takes 144 KiB while it runs, or some more for long heads, and warc_select 8 bytes for each record. */
+
+/* Writes the archive in canonical form, as one of WARC/1.1, or with its records split into segments of `size` bytes.
+ * The archive's bytes must not be those of the file that is written to: where they are mapped from it, as far as
+ * /proc/self/maps says, each of these calls is WARC_BAD_ARGUMENT before it reads or writes a byte, also where the file
+ * was emptied when it was opened. Of bytes that were read into memory nobody can tell which file had them. */
+bool warc_rewrite(warc_archive *archive, int file, uint64_t *sent, warc_problem *problem);
+bool warc_convert(warc_archive *archive, int file, uint64_t *sent, warc_problem *problem);
+bool warc_split(warc_archive *archive, uint64_t size, int file, uint64_t *sent, warc_problem *problem);
+
+/* Writes the records that warc_chosen chooses, byte for byte: what is written is an archive. Fails as warc_chosen and
+ * as warc_rewrite do. */
+bool warc_select(warc_archive *archive, const uint64_t *positions, size_t count, bool except, bool closed, int file,
+                 uint64_t *sent, warc_problem *problem);
+
+/* Writes the record of warc_made, and fails as it does. */
 bool warc_make(const warc_draft *draft, int file, uint64_t *sent, warc_problem *problem);
 
 #ifdef __cplusplus

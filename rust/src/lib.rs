@@ -41,5 +41,4 @@ pub use error::{Error, ErrorKind};
 pub use heads::{Fields, Headers, Http};
 pub use many::{AllHeaders, Records};
 pub use pieces::{pieces, Piece};
-pub use writing::{convert, make, rewrite, split, Draft, WriteError};
-pub use writing::{select, select_closed, select_others, select_others_closed};
+pub use writing::{make, Draft, WriteError};

@@ -2,11 +2,11 @@
 #![allow(unsafe_code)]
 
 use std::marker::PhantomData;
-use std::os::raw::{c_char, c_int};
+use std::os::raw::c_char;
 use std::ptr;
 use std::slice;
 
-pub const ABI_VERSION: u32 = 3;
+pub const ABI_VERSION: u32 = 4;
 
 #[repr(C)]
 #[derive(Clone, Copy, Default)]
@@ -63,6 +63,22 @@ pub struct Piece {
 }
 
 #[repr(C)]
+#[derive(Clone, Copy, Default)]
+pub struct Cursor {
+    pub place: u64,
+    pub segment: u64,
+}
+
+#[repr(C)]
+#[derive(Clone, Copy, Default)]
+pub struct Portion {
+    pub before: u64,
+    pub after: u64,
+    pub span: Span,
+    pub next: Cursor,
+}
+
+#[repr(C)]
 struct CArchive {
     hidden: [u8; 0],
 }
@@ -98,7 +114,6 @@ struct CDraft {
 
 type Text = unsafe extern "C" fn(*mut CArchive, *mut u8, usize, *mut Problem) -> usize;
 type Judge = unsafe extern "C" fn(*mut CArchive, usize, *mut Problem) -> u32;
-type Write = unsafe extern "C" fn(*const u8, usize, c_int, *mut u64, *mut Problem) -> bool;
 
 extern "C" {
     fn warc_abi_version() -> u32;
@@ -196,28 +211,56 @@ extern "C" {
         pieces_length: usize,
         problem: *mut Problem,
     ) -> usize;
-    fn warc_rewrite(bytes: *const u8, length: usize, file: c_int, sent: *mut u64, problem: *mut Problem) -> bool;
-    fn warc_convert(bytes: *const u8, length: usize, file: c_int, sent: *mut u64, problem: *mut Problem) -> bool;
-    fn warc_split(
-        bytes: *const u8,
+    fn warc_next_rewritten(
+        archive: *mut CArchive,
+        cursor: *const Cursor,
+        portion: *mut Portion,
+        text: *mut u8,
         length: usize,
-        size: u64,
-        file: c_int,
-        sent: *mut u64,
         problem: *mut Problem,
     ) -> bool;
-    fn warc_select(
-        bytes: *const u8,
+    fn warc_next_converted(
+        archive: *mut CArchive,
+        cursor: *const Cursor,
+        portion: *mut Portion,
+        text: *mut u8,
         length: usize,
+        problem: *mut Problem,
+    ) -> bool;
+    fn warc_next_split(
+        archive: *mut CArchive,
+        size: u64,
+        cursor: *const Cursor,
+        portion: *mut Portion,
+        text: *mut u8,
+        length: usize,
+        problem: *mut Problem,
+    ) -> bool;
+    fn warc_next_selected(
+        archive: *mut CArchive,
+        positions: *const u64,
+        count: usize,
+        cursor: *const Cursor,
+        portion: *mut Portion,
+        problem: *mut Problem,
+    ) -> bool;
+    fn warc_chosen(
+        archive: *mut CArchive,
         positions: *const u64,
         count: usize,
         except: bool,
         closed: bool,
-        file: c_int,
-        sent: *mut u64,
+        chosen: *mut u64,
+        chosen_length: usize,
+        problem: *mut Problem,
+    ) -> usize;
+    fn warc_made(
+        draft: *const CDraft,
+        portion: *mut Portion,
+        text: *mut u8,
+        length: usize,
         problem: *mut Problem,
     ) -> bool;
-    fn warc_make(draft: *const CDraft, file: c_int, sent: *mut u64, problem: *mut Problem) -> bool;
 }
 
 /// What a call gives, unless it set a problem.
@@ -426,6 +469,40 @@ impl<'a> Handle<'a> {
         checked(count, problem)
     }
 
+    /// The next portion of an output, unless nothing is left.
+    pub fn next(&mut self, output: &Output<'_>, cursor: Cursor, text: &mut [u8]) -> Result<Option<Portion>, Problem> {
+        let (mut portion, mut problem) = (Portion::default(), Problem::default());
+        let (archive, out, room) = (self.archive, text.as_mut_ptr(), text.len());
+        let (at, to, why): (*const Cursor, *mut Portion, *mut Problem) = (&cursor, &mut portion, &mut problem);
+        // SAFETY: the archive is open, and each pointer leads to as many elements as are said.
+        let is_there = unsafe {
+            match *output {
+                Output::Rewritten => warc_next_rewritten(archive, at, to, out, room, why),
+                Output::Converted => warc_next_converted(archive, at, to, out, room, why),
+                Output::Split(size) => warc_next_split(archive, size, at, to, out, room, why),
+                Output::Selected(positions) => {
+                    warc_next_selected(archive, positions.as_ptr(), positions.len(), at, to, why)
+                }
+            }
+        };
+        checked(is_there.then_some(portion), problem)
+    }
+
+    /// The positions that a selection writes. Answers how many there are.
+    pub fn chosen(
+        &mut self,
+        positions: &[u64],
+        except: bool,
+        closed: bool,
+        chosen: &mut [u64],
+    ) -> Result<usize, Problem> {
+        let mut problem = Problem::default();
+        let (at, count, out, room) = (positions.as_ptr(), positions.len(), chosen.as_mut_ptr(), chosen.len());
+        // SAFETY: each pointer leads to as many elements as are said.
+        let number = unsafe { warc_chosen(self.archive, at, count, except, closed, out, room, &mut problem) };
+        checked(number, problem)
+    }
+
     /// The lines that `warc list` writes.
     pub fn list(&mut self) -> Result<Vec<u8>, Problem> {
         self.text(warc_list)
@@ -469,50 +546,23 @@ pub fn pieces(bytes: &[u8], out: &mut [Piece]) -> Result<usize, Problem> {
     checked(count, problem)
 }
 
-/// How many bytes went out, and why no more did.
-pub type Written = Result<(), (Problem, u64)>;
-
-/// Has something written to a descriptor that stays open.
-fn written(call: impl FnOnce(*mut u64, *mut Problem) -> bool) -> Written {
-    let (mut sent, mut problem) = (0, Problem::default());
-    if call(&mut sent, &mut problem) {
-        Ok(())
-    } else {
-        Err((problem, sent))
-    }
+/// What is written of an archive.
+pub enum Output<'p> {
+    /// It, in canonical form.
+    Rewritten,
+    /// It, as one of WARC/1.1.
+    Converted,
+    /// It, with its records split into segments of as many bytes.
+    Split(u64),
+    /// Its records at these positions, byte for byte.
+    Selected(&'p [u64]),
 }
 
-fn write_by(call: Write, bytes: &[u8], file: c_int) -> Written {
-    // SAFETY: the pointer leads to as many bytes as are said.
-    written(|sent, problem| unsafe { call(bytes.as_ptr(), bytes.len(), file, sent, problem) })
-}
-
-/// Writes an archive in canonical form.
-pub fn rewrite(bytes: &[u8], file: c_int) -> Written {
-    write_by(warc_rewrite, bytes, file)
-}
-
-/// Writes an archive as one of WARC/1.1.
-pub fn convert(bytes: &[u8], file: c_int) -> Written {
-    write_by(warc_convert, bytes, file)
-}
-
-/// Writes an archive with its records split.
-pub fn split(bytes: &[u8], size: u64, file: c_int) -> Written {
-    // SAFETY: the pointer leads to as many bytes as are said.
-    written(|sent, problem| unsafe { warc_split(bytes.as_ptr(), bytes.len(), size, file, sent, problem) })
-}
-
-/// Writes the records at positions, or all others; with what they need, if `closed`.
-pub fn select(bytes: &[u8], positions: &[u64], except: bool, closed: bool, file: c_int) -> Written {
-    let (start, length, at, count) = (bytes.as_ptr(), bytes.len(), positions.as_ptr(), positions.len());
-    // SAFETY: each pointer leads to as many bytes or positions as are said.
-    written(|sent, problem| unsafe { warc_select(start, length, at, count, except, closed, file, sent, problem) })
-}
-
-/// Writes a record of its kind, URI, date, UUID, media type and block.
-pub fn make(parts: [&[u8]; 6], file: c_int) -> Written {
+/// A record of its kind, URI, date, UUID, media type and block, as one portion whose span is the block.
+pub fn made(parts: [&[u8]; 6], text: &mut [u8]) -> Result<Portion, Problem> {
     let draft = CDraft { parts: parts.map(|part| CBytes { bytes: part.as_ptr(), length: part.len() }) };
+    let (mut portion, mut problem) = (Portion::default(), Problem::default());
     // SAFETY: each pointer leads to as many bytes as are said.
-    written(|sent, problem| unsafe { warc_make(&draft, file, sent, problem) })
+    unsafe { warc_made(&draft, &mut portion, text.as_mut_ptr(), text.len(), &mut problem) };
+    checked(portion, problem)
 }

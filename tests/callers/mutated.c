@@ -2,6 +2,8 @@
  *
  * Each is made of one of the archives by a few random changes, in memory of exactly its length. Its pieces are found,
  * and archives are opened, grown, opened as far as they are good, written anew and closed. Prints how many opened. */
+#define _POSIX_C_SOURCE 200809L
+
 #include <fcntl.h>
 #include <stdio.h>
 #include <stdlib.h>
@@ -260,6 +262,8 @@ static void ask_wrongly(void) {
     warc_draft draft = {0};
     uint8_t byte = 0;
     uint64_t sent = 1;
+    warc_cursor cursor = {0};
+    warc_portion portion;
     if (warc_open(NULL, &byte, 1, &problem) || problem.code != WARC_BAD_ARGUMENT) abort();
     if (warc_open(&archive, NULL, 1, &problem) || problem.code != WARC_BAD_ARGUMENT || archive != NULL) abort();
     if (warc_open(&archive, &byte, (size_t)PTRDIFF_MAX + 1, &problem) || problem.code != WARC_BAD_ARGUMENT) abort();
@@ -276,17 +280,12 @@ static void ask_wrongly(void) {
     if (warc_pieces(&byte, (size_t)PTRDIFF_MAX + 1, NULL, 0, &problem) || problem.code != WARC_BAD_ARGUMENT) abort();
     if (warc_pieces(NULL, 0, NULL, 0, &problem) || problem.code) abort();
     if (warc_pieces(&byte, 1, NULL, 0, NULL) != 1) abort();
-    if (warc_rewrite(NULL, 1, 1, &sent, &problem) || problem.code != WARC_BAD_ARGUMENT || sent) abort();
-    if (warc_split(NULL, 0, 0, 1, NULL, &problem) || problem.code != WARC_BAD_ARGUMENT) abort();
-    if (warc_select(NULL, 0, NULL, 1, false, false, 1, &sent, &problem)) abort();
-    if (problem.code != WARC_BAD_ARGUMENT || sent) abort();
-    if (warc_select(NULL, 0, &sent, SIZE_MAX, true, true, 1, NULL, &problem)) abort();
-    if (problem.code != WARC_BAD_ARGUMENT) abort();
-    if (warc_select(NULL, 0, &sent, 1, false, true, 1, NULL, &problem) || problem.code != WARC_NO_RECORD) abort();
+    if (warc_rewrite(NULL, 1, &sent, &problem) || problem.code != WARC_BAD_ARGUMENT || sent) abort();
     if (warc_make(NULL, 1, NULL, &problem) || problem.code != WARC_BAD_ARGUMENT) abort();
     if (warc_make(&draft, 1, NULL, &problem) || problem.code != WARC_MADE_KIND) abort();
-    if (warc_rewrite(&byte, 1, 1, NULL, &problem) || problem.code != WARC_FAULT_VERSION) abort();
-    if (warc_rewrite(NULL, 0, -1, NULL, &problem) || problem.code != WARC_WRITE_FAILED) abort();
+    if (warc_made(&draft, NULL, NULL, 0, &problem) || problem.code != WARC_BAD_ARGUMENT) abort();
+    if (warc_next_rewritten(NULL, &cursor, &portion, NULL, 0, &problem)) abort();
+    if (problem.code != WARC_BAD_ARGUMENT) abort();
     warc_close(NULL);
     if (!warc_open(&archive, NULL, 0, NULL) || warc_count(archive)) abort();
     if (warc_replay(archive, &byte, 1, NULL, 0, NULL, NULL, 0, &problem) || problem.code != WARC_BAD_DATE) abort();
@@ -296,6 +295,22 @@ static void ask_wrongly(void) {
     if (warc_fields(archive, 0, NULL, 0, NULL, 1, &problem) || problem.code != WARC_BAD_ARGUMENT) abort();
     if (warc_rows(archive, 0, NULL, 0, NULL, 0, &problem) || problem.code) abort();
     if (warc_fields(archive, 7, NULL, 0, NULL, 0, &problem) || problem.code) abort();
+    if (warc_split(archive, 0, 1, NULL, &problem) || problem.code != WARC_BAD_ARGUMENT) abort();
+    if (warc_select(archive, NULL, 1, false, false, 1, &sent, &problem)) abort();
+    if (problem.code != WARC_BAD_ARGUMENT || sent) abort();
+    if (warc_select(archive, &sent, SIZE_MAX, true, true, 1, NULL, &problem)) abort();
+    if (problem.code != WARC_BAD_ARGUMENT) abort();
+    if (warc_select(archive, &sent, 1, false, true, 1, NULL, &problem) || problem.code != WARC_NO_RECORD) abort();
+    if (warc_chosen(archive, NULL, 0, true, false, NULL, 1, &problem) || problem.code != WARC_BAD_ARGUMENT) abort();
+    if (warc_rewrite(archive, -1, NULL, &problem) || problem.code != WARC_WRITE_FAILED) abort();
+    if (warc_next_split(archive, 0, &cursor, &portion, NULL, 0, &problem)) abort();
+    if (problem.code != WARC_BAD_ARGUMENT) abort();
+    if (warc_next_rewritten(archive, NULL, &portion, NULL, 0, &problem)) abort();
+    if (problem.code != WARC_BAD_ARGUMENT) abort();
+    if (warc_next_selected(archive, &sent, 1, &cursor, &portion, &problem)) abort();
+    if (problem.code != WARC_NO_RECORD) abort();
+    cursor.place = cursor.segment = UINT64_MAX;
+    if (warc_next_converted(archive, &cursor, &portion, NULL, 0, &problem) || problem.code) abort();
     if (warc_grow(archive, &byte, 1, &problem) || problem.code != WARC_FAULT_VERSION) abort();
     warc_close(archive);
     for (uint32_t code = 0; code < 400; code++) {
@@ -349,21 +364,76 @@ static void grow_wrongly(warc_archive *archive, const text *it) {
     if (!warc_grow(archive, it->bytes, length, &problem) || warc_count(archive) != count) abort();
 }
 
-/* Writes what opens as a whole, and what doesn't isn't written. */
+/* The next portion of an output of some kind. */
+static bool next(warc_archive *archive, size_t kind, const uint64_t *chosen, size_t count, const warc_cursor *cursor,
+                 warc_portion *portion, uint8_t *text, size_t room, warc_problem *problem) {
+    if (kind == 0) return warc_next_rewritten(archive, cursor, portion, text, room, problem);
+    if (kind == 1) return warc_next_converted(archive, cursor, portion, text, room, problem);
+    if (kind == 2) return warc_next_split(archive, 7, cursor, portion, text, room, problem);
+    return warc_next_selected(archive, chosen, count, cursor, portion, problem);
+}
+
+/* The next bytes of a file are these. */
+static void require_next(FILE *file, const uint8_t *bytes, uint64_t length) {
+    for (uint64_t i = 0; i < length; i++) {
+        if (getc(file) != bytes[i]) abort();
+    }
+}
+
+/* All portions of an output, one after another, are what a descriptor gets. Each is asked for without room for its
+ * text, and again with as much as that takes. */
+static void require_portions(warc_archive *archive, const text *it, size_t kind, FILE *file) {
+    warc_problem problem;
+    warc_portion portion, again;
+    size_t count = kind == 3 ? warc_count(archive) : 0;
+    uint64_t *chosen = calloc(count + 1, sizeof *chosen);
+    if (chosen == NULL) exit(9);
+    if (warc_chosen(archive, NULL, 0, true, false, chosen, count, NULL) != warc_count(archive)) abort();
+    rewind(file);
+    for (warc_cursor at = {0}; next(archive, kind, chosen, count, &at, &portion, NULL, 0, &problem); at = again.next) {
+        uint64_t length = portion.before + portion.after;
+        uint8_t *text = malloc(length + 1);
+        if (text == NULL) exit(9);
+        if (!next(archive, kind, chosen, count, &at, &again, text, length, &problem)) abort();
+        if (memcmp(&again, &portion, sizeof portion)) abort();
+        require_next(file, text, portion.before);
+        require_next(file, it->bytes + portion.span.offset, portion.span.length);
+        require_next(file, text + portion.before, portion.after);
+        free(text);
+    }
+    if (problem.code || getc(file) != EOF) abort();
+    free(chosen);
+}
+
+/* Writes an archive to a file and compares it with its portions. */
+static void write_portions(warc_archive *archive, const text *it) {
+    size_t kind = below(4);
+    FILE *file = tmpfile();
+    if (file == NULL) exit(9);
+    bool is_written = kind == 0 ? warc_rewrite(archive, fileno(file), NULL, NULL)
+        : kind == 1 ? warc_convert(archive, fileno(file), NULL, NULL)
+        : kind == 2 ? warc_split(archive, 7, fileno(file), NULL, NULL)
+        : warc_select(archive, NULL, 0, true, false, fileno(file), NULL, NULL);
+    if (!is_written) abort();
+    require_portions(archive, it, kind, file);
+    fclose(file);
+}
+
+/* Writes what opens. */
 static void write_anew(const text *it, int file) {
     warc_archive *archive;
     warc_problem problem;
-    bool is_whole = warc_open(&archive, it->bytes, it->length, &problem);
+    if (!warc_open(&archive, it->bytes, it->length, &problem)) return;
     size_t count = warc_count(archive);
     uint64_t some[3] = {below(count + 1), below(count + 1), 0};
     bool are_there = some[0] < count && some[1] < count && count != 0;
+    if (warc_select(archive, some, 3, below(2), below(2), file, NULL, &problem) != are_there) abort();
+    if (!are_there && problem.code != WARC_NO_RECORD) abort();
+    if (!warc_select(archive, NULL, 0, below(2), below(2), file, NULL, &problem)) abort();
+    if (!warc_rewrite(archive, file, NULL, &problem) || !warc_convert(archive, file, NULL, &problem)) abort();
+    if (!warc_split(archive, 1 + below(100), file, NULL, &problem)) abort();
+    write_portions(archive, it);
     warc_close(archive);
-    if (warc_select(it->bytes, it->length, some, 3, below(2), below(2), file, NULL, &problem) != are_there) abort();
-    if (!are_there && problem.code != WARC_NO_RECORD && is_whole) abort();
-    if (warc_select(it->bytes, it->length, NULL, 0, below(2), below(2), file, NULL, &problem) != is_whole) abort();
-    if (warc_rewrite(it->bytes, it->length, file, NULL, &problem) != is_whole) abort();
-    if (warc_convert(it->bytes, it->length, file, NULL, &problem) != is_whole) abort();
-    if (warc_split(it->bytes, it->length, 1 + below(100), file, NULL, &problem) != is_whole) abort();
 }
 
 int main(int argc, char **argv) {

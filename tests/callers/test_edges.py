@@ -104,6 +104,16 @@ class SameFile(unittest.TestCase):
             self.assertEqual(content_of(path), content_of(CRAWL))
             self.assertEqual(len(zogwedu.Archive.open(f"{path}.other")), 18)
 
+    def test_a_block_that_is_mapped_from_the_file_that_is_written(self) -> None:
+        block = bytes(range(256)) * 2000
+        with tempfile.NamedTemporaryFile(suffix=".warc") as out:
+            out.write(block)
+            out.seek(0)
+            with mmap.mmap(out.fileno(), 0, access=mmap.ACCESS_READ) as mapped:
+                zogwedu.make(out.fileno(), "resource", "http://a.example/", "2020", "text/plain", mapped)
+            with zogwedu.Archive.open(out.name) as archive:
+                self.assertEqual((len(archive), bytes(archive[0].block), archive.check()), (1, block, []))
+
     def test_another_file_of_the_name_is_written(self) -> None:
         with copied() as path, zogwedu.Archive.open(path) as archive:
             os.rename(path, f"{path}.old")

@@ -687,6 +687,46 @@ class Writing(unittest.TestCase):
             with open(f"{folder}/c", "w", encoding="utf-8") as out, self.assertRaises(TypeError):
                 archive.rewrite(out)
 
+    def test_a_file_and_an_object_get_the_same(self) -> None:
+        long = b"a: " + b"long " * 4000 + b"\r\nb:" + b"x" * 9000 + b"\r\nContent-Length:"
+        record = stored("HTTP/1.1 200 OK", b"body " * 500_000).replace(b"Content-Length:", long, 1)
+        with open(CRAWL, "rb") as file:
+            crawl = file.read()
+        outputs: Tuple[Callable[[zogwedu.Archive, Any], None], ...] = (
+            zogwedu.Archive.rewrite,
+            zogwedu.Archive.convert,
+            lambda archive, out: archive.split(out, 100_000),
+            lambda archive, out: archive.select(out, [0, len(archive) - 1]),
+            lambda archive, out: archive.select(out, [0], except_=True, closed=True),
+        )
+        for data in (crawl, record, record + crawl, b""):
+            archive = zogwedu.Archive(data)
+            for write in outputs if data else outputs[:3]:
+                given = io.BytesIO()
+                write(archive, given)
+                with tempfile.TemporaryFile() as out:
+                    write(archive, out)
+                    out.seek(0)
+                    self.assertEqual(out.read(), given.getvalue())
+                zogwedu.Archive(given.getvalue())
+
+    def test_an_object_may_ask_the_archive_that_is_written(self) -> None:
+        class Asking(io.RawIOBase):
+            """Asks for the last record whenever it is given a piece."""
+
+            def __init__(self, archive: zogwedu.Archive) -> None:
+                super().__init__()
+                self.archive, self.length = archive, 0
+
+            def write(self, piece: Any) -> int:
+                self.length += len(piece)
+                return len(piece) if self.archive[-1].id else 0
+
+        with zogwedu.Archive.open(CRAWL) as archive:
+            asking = Asking(archive)
+            archive.select(asking, range(18))
+        self.assertEqual(asking.length, os.path.getsize(CRAWL))
+
     def test_convert_and_split(self) -> None:
         with zogwedu.Archive.open(CRAWL) as archive:
             converted, split = io.BytesIO(), io.BytesIO()

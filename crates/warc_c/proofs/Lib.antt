@@ -1,3 +1,4 @@
 mod ClosedLemmas
 mod GrowthLemmas
+mod NextLemmas
 mod RestLemmas

@@ -1,188 +1,187 @@
-//! Archives and records written into buffers of C's: each call fills one with the next part of the output.
-ghost use Rattle.std.specs.Prelude.{◌≡◌, ◌≤◌, IfOk, None, length};
-ghost use Rattle.warc_rewrite.specs.Forms.{split_text, text_as};
-ghost use Rattle.warc_lent.specs.Writing.{MakesLent, SelectsAs, WritesLent};
-ghost use Rattle.warc_c.specs.Answered.{AnswersWritten, IsFlagged};
+//! Archives and records that C writes, portion by portion.
+ghost use Rattle.std.specs.Prelude.{◌≡◌, [], IfErr, IfOk, OnErr};
+ghost use Rattle.warc_record.specs.Kinds.{kind_named};
+ghost use Rattle.warc_write.specs.Making.{planned};
+ghost use Rattle.warc_lent.specs.Buffers.{KeepsAfter};
+ghost use Rattle.warc_lent.specs.Portions.{IsNotThere};
+ghost use Rattle.warc_lent.specs.Texts.{IsUnreadable};
+ghost use Rattle.warc_c.specs.Answered.{AnswersBy, AnswersMade, AnswersPortion, IsAnswered, IsNotChosen, PutsAs, PutsSelected, PutsSplit, PutsWhere};
 
-use crate::problems::done_or_report;
+use crate::problems::{done_or_report, number_or_report, report, there_or_report};
 use std::alloc::Global;
 use warc::Form;
-use warc_frame::{Sink, WriteFault, is_failed, raise};
+use warc_handle::{Open, WarcArchive};
 use warc_lent::{
-    Numbers, Problem, make_lent, put_text, select_closed_lent, select_lent, split_lent, write_lent,
+    Numbers, PortionNumbers, Problem, put_chosen, put_closed, put_made, put_next_as,
+    put_next_selected, put_next_split,
 };
+use warc_portions::Cursor;
 
-/// The part of an output that begins at an offset, in a buffer that is lent. It passes over what comes before, and
-/// fails once the buffer is full. It reports nothing of the bytes.
-#[derive(Drop)]
-struct Window<'a> {
-    /// How many bytes of the output are still passed over.
-    before: u64,
-    buffer: &'a mut [u8],
-    filled: usize,
-    faults: u64,
-}
-
-impl<'a> Window<'a> {
-    fn new(start: u64, buffer: &'a mut [u8]) -> Window<'a> {
-        Window {
-            before: start,
-            buffer,
-            filled: 0,
-            faults: 0,
-        }
-    }
-
-    /// Takes the front of a piece: what is passed over, or what there is room for.
-    fn take(&mut self, piece: &[u8]) -> Result<usize, WriteFault>
-        ensures bound { IfOk result (λ n. n ≤ length piece.now) }
-        ensures faults { self.new.faults ≡ self.old.faults }
-    {
-        let passed = piece.len().min(self.before as usize);
-        if passed > 0 {
-            self.before -= passed as u64;
-            return Ok(passed);
-        }
-        let from = self.filled.min(self.buffer.len());
-        let taken = piece.len().min(self.buffer.len() - from);
-        if taken == 0 && !piece.is_empty() {
-            return Err(WriteFault);
-        }
-        put_text(&piece[..taken], &mut self.buffer[from..]);
-        self.filled = from + taken;
-        Ok(taken)
-    }
-}
-
-impl Sink for Window<'_> {
-    ghost seen = { λ s. record { reports = None; faults = s.faults } };
-
-    fn write(&mut self, piece: &[u8]) -> Result<usize, WriteFault> {
-        let answer = self.take(piece);
-        if is_failed(&answer, piece) {
-            self.faults = raise(self.faults);
-        }
-        answer
-    }
-}
-
-/// Reports how a part of an output ended, and how many bytes of it are in the buffer, which has this much room.
-fn end_part(
-    written: Result<(), Problem>,
-    part: &Window<'_>,
-    room: usize,
-    filled: &mut u64,
-    problem: &mut Numbers,
-) -> bool
-    ensures flagged { IsFlagged written result problem.old problem.new }
-    ensures filled { filled.new ≤ room }
-{
-    *filled = part.filled.min(room) as u64;
-    done_or_report(written, problem)
-}
-
-/// Puts the part that begins at an offset of the records of these bytes in canonical form.
-#[unsafe(no_mangle)]
-pub extern "C" fn warc_rt_rewrite(
+/// Puts the next portion of the archive's records in a form.
+#[tactic(auto, using(crate::proofs::NextLemmas::none, crate::proofs::NextLemmas::some, crate::proofs::NextLemmas::put))]
+fn next_in_form(
     alloc: Global,
+    handle: &mut WarcArchive,
     bytes: &[u8],
-    start: u64,
-    buffer: &mut [u8],
-    filled: &mut u64,
+    form: Form,
+    cursor: &Cursor,
+    text: &mut [u8],
+    portion: &mut PortionNumbers,
     problem: &mut Numbers,
 ) -> bool
-    ensures written { AnswersWritten (WritesLent (text_as Form.Canonical) bytes.now) result problem.old problem.new }
-    ensures filled { filled.new ≤ length buffer.old }
+    ensures answers { AnswersPortion (PutsAs form bytes.now cursor.now portion.new text.new) IsUnreadable
+        handle.old.is_open result problem.old problem.new }
+    ensures within { PutsWhere bytes.now result portion.old portion.new text.old text.new }
+    ensures stays { handle.new.is_open ≡ handle.old.is_open }
 {
-    let room = buffer.len();
-    let mut part = Window::new(start, buffer);
-    let written = write_lent(alloc, bytes, Form::Canonical, &mut part, &mut 0);
-    end_part(written, &part, room, filled, problem)
+    let Some(archive) = handle.take(alloc) else {
+        return there_or_report(Err(Problem::NotOpen), problem);
+    };
+    let answer = put_next_as(alloc, &archive, bytes, form, *cursor, text, portion);
+    handle.put(archive, alloc);
+    there_or_report(answer, problem)
 }
 
-/// Puts the part that begins at an offset of the records of these bytes as those of WARC 1.1.
+/// Puts the next portion of the archive's records in canonical form. The bytes are those of the archive.
 #[unsafe(no_mangle)]
-pub extern "C" fn warc_rt_convert(
+pub extern "C" fn warc_rt_next_rewritten(
     alloc: Global,
+    handle: &mut WarcArchive,
     bytes: &[u8],
-    start: u64,
-    buffer: &mut [u8],
-    filled: &mut u64,
+    cursor: &Cursor,
+    text: &mut [u8],
+    portion: &mut PortionNumbers,
     problem: &mut Numbers,
 ) -> bool
-    ensures written { AnswersWritten (WritesLent (text_as Form.Converted) bytes.now) result problem.old problem.new }
-    ensures filled { filled.new ≤ length buffer.old }
+    ensures answers { AnswersPortion (PutsAs Form.Canonical bytes.now cursor.now portion.new text.new) IsUnreadable
+        handle.old.is_open result problem.old problem.new }
+    ensures within { PutsWhere bytes.now result portion.old portion.new text.old text.new }
+    ensures stays { handle.new.is_open ≡ handle.old.is_open }
 {
-    let room = buffer.len();
-    let mut part = Window::new(start, buffer);
-    let written = write_lent(alloc, bytes, Form::Converted, &mut part, &mut 0);
-    end_part(written, &part, room, filled, problem)
+    let form = Form::Canonical;
+    next_in_form(alloc, handle, bytes, form, cursor, text, portion, problem)
 }
 
-/// Puts the part that begins at an offset of the records of these bytes, split into segments of `size` bytes.
+/// Puts the next portion of the archive's records as those of WARC 1.1, in the same way.
 #[unsafe(no_mangle)]
-pub extern "C" fn warc_rt_split(
+pub extern "C" fn warc_rt_next_converted(
     alloc: Global,
+    handle: &mut WarcArchive,
+    bytes: &[u8],
+    cursor: &Cursor,
+    text: &mut [u8],
+    portion: &mut PortionNumbers,
+    problem: &mut Numbers,
+) -> bool
+    ensures answers { AnswersPortion (PutsAs Form.Converted bytes.now cursor.now portion.new text.new) IsUnreadable
+        handle.old.is_open result problem.old problem.new }
+    ensures within { PutsWhere bytes.now result portion.old portion.new text.old text.new }
+    ensures stays { handle.new.is_open ≡ handle.old.is_open }
+{
+    let form = Form::Converted;
+    next_in_form(alloc, handle, bytes, form, cursor, text, portion, problem)
+}
+
+/// Puts the next portion of the archive's records, split into segments of `size` bytes, in the same way.
+#[tactic(auto, using(crate::proofs::NextLemmas::none, crate::proofs::NextLemmas::some, crate::proofs::NextLemmas::put))]
+#[unsafe(no_mangle)]
+pub extern "C" fn warc_rt_next_split(
+    alloc: Global,
+    handle: &mut WarcArchive,
     bytes: &[u8],
     size: u64,
-    start: u64,
-    buffer: &mut [u8],
-    filled: &mut u64,
+    cursor: &Cursor,
+    text: &mut [u8],
+    portion: &mut PortionNumbers,
     problem: &mut Numbers,
 ) -> bool
-    ensures written { AnswersWritten (WritesLent (split_text size) bytes.now) result problem.old problem.new }
-    ensures filled { filled.new ≤ length buffer.old }
+    ensures answers { AnswersPortion (PutsSplit size bytes.now cursor.now portion.new text.new) IsUnreadable
+        handle.old.is_open result problem.old problem.new }
+    ensures within { PutsWhere bytes.now result portion.old portion.new text.old text.new }
+    ensures stays { handle.new.is_open ≡ handle.old.is_open }
 {
-    let room = buffer.len();
-    let mut part = Window::new(start, buffer);
-    let written = split_lent(alloc, bytes, size, &mut part, &mut 0);
-    end_part(written, &part, room, filled, problem)
+    let Some(archive) = handle.take(alloc) else {
+        return there_or_report(Err(Problem::NotOpen), problem);
+    };
+    let answer = put_next_split(alloc, &archive, bytes, size, *cursor, text, portion);
+    handle.put(archive, alloc);
+    there_or_report(answer, problem)
 }
 
-/// Writes the records at positions of these bytes, or all others, closed if that is asked for.
-fn select_as<W: Sink>(
+/// Puts where the next of the records at positions of the archive is.
+#[tactic(auto, using(crate::proofs::NextLemmas::none, crate::proofs::NextLemmas::some, crate::proofs::NextLemmas::put))]
+#[unsafe(no_mangle)]
+pub extern "C" fn warc_rt_next_selected(
     alloc: Global,
+    handle: &mut WarcArchive,
     bytes: &[u8],
+    positions: &[usize],
+    cursor: &Cursor,
+    portion: &mut PortionNumbers,
+    problem: &mut Numbers,
+) -> bool
+    ensures answers { AnswersPortion (PutsSelected positions.now bytes.now cursor.now portion.new) IsNotThere
+        handle.old.is_open result problem.old problem.new }
+    ensures within { PutsWhere bytes.now result portion.old portion.new [] [] }
+    ensures stays { handle.new.is_open ≡ handle.old.is_open }
+{
+    let Some(archive) = handle.take(alloc) else {
+        return there_or_report(Err(Problem::NotOpen), problem);
+    };
+    let answer = put_next_selected(&archive, bytes, positions, *cursor, portion);
+    handle.put(archive, alloc);
+    there_or_report(answer, problem)
+}
+
+/// Puts the positions that a selection writes, closed if that is asked for.
+fn put_selection(
+    alloc: Global,
+    archive: &mut Open,
     positions: &[usize],
     except: bool,
     closed: bool,
-    out: &mut W,
-    sent: &mut u64,
-) -> Result<(), Problem>
-    ensures { SelectsAs closed except positions.now bytes.now (W.seen out.old) (W.seen out.new) result sent.old
-        sent.new }
+    out: &mut [usize],
+) -> Result<usize, Problem>
+    ensures refused { IfErr result IsNotChosen }
+    ensures rest { IfOk result (λ number. KeepsAfter number out.old out.new) }
+    ensures same { OnErr result (out.new ≡ out.old) }
 {
     if closed {
-        select_closed_lent(alloc, bytes, positions, except, out, sent)
+        put_closed(alloc, archive, positions, except, out)
     } else {
-        select_lent(alloc, bytes, positions, except, out, sent)
+        put_chosen(alloc, archive, positions, except, out)
     }
 }
 
-/// Puts the part that begins at an offset of the records at positions of these bytes, or of all others, as they are;
-/// if it is to be closed, with all that they need, or without what needs one of them.
+/// Puts the positions of the records that a selection writes, as many as there is room for: of those at positions, or
+/// of all others; if it is to be closed, with all that they need, or without what needs one of them. The answer is how
+/// many there are. What follows in the buffer stays.
+#[tactic(auto, using(crate::proofs::RestLemmas::rest_stays, crate::proofs::ClosedLemmas::no_number))]
 #[unsafe(no_mangle)]
-pub extern "C" fn warc_rt_select(
+pub extern "C" fn warc_rt_chosen(
     alloc: Global,
-    bytes: &[u8],
+    handle: &mut WarcArchive,
     positions: &[usize],
     except: bool,
     closed: bool,
-    start: u64,
-    buffer: &mut [u8],
-    filled: &mut u64,
+    out: &mut [usize],
     problem: &mut Numbers,
-) -> bool
-    ensures written { AnswersWritten (SelectsAs closed except positions.now bytes.now) result problem.old problem.new }
-    ensures filled { filled.new ≤ length buffer.old }
+) -> usize
+    ensures answers { AnswersBy IsAnswered IsNotChosen handle.old.is_open result problem.old problem.new }
+    ensures rest { KeepsAfter result out.old out.new }
+    ensures stays { handle.new.is_open ≡ handle.old.is_open }
 {
-    let room = buffer.len();
-    let mut part = Window::new(start, buffer);
-    let written = select_as(alloc, bytes, positions, except, closed, &mut part, &mut 0);
-    end_part(written, &part, room, filled, problem)
+    let Some(mut archive) = handle.take(alloc) else {
+        report(Problem::NotOpen, problem);
+        return 0;
+    };
+    let answer = put_selection(alloc, &mut archive, positions, except, closed, out);
+    handle.put(archive, alloc);
+    number_or_report(answer, problem)
 }
 
-/// Puts the part that begins at an offset of a record that is made of these.
+/// Puts a record that is made of these. Its span is the block.
+#[tactic(auto, using(crate::proofs::NextLemmas::made))]
 #[unsafe(no_mangle)]
 pub extern "C" fn warc_rt_make(
     alloc: Global,
@@ -192,18 +191,15 @@ pub extern "C" fn warc_rt_make(
     uuid: &[u8],
     content_type: &[u8],
     block: &[u8],
-    start: u64,
-    buffer: &mut [u8],
-    filled: &mut u64,
+    text: &mut [u8],
+    portion: &mut PortionNumbers,
     problem: &mut Numbers,
 ) -> bool
-    ensures written { AnswersWritten (MakesLent kind.now uri.now date.now uuid.now content_type.now block.now)
-        result problem.old problem.new }
-    ensures filled { filled.new ≤ length buffer.old }
+    ensures made { AnswersMade (planned (kind_named kind.now) uri.now date.now uuid.now content_type.now block.now)
+        block.now result portion.new text.new problem.old problem.new }
+    ensures within { PutsWhere block.now result portion.old portion.new text.old text.new }
 {
-    let room = buffer.len();
-    let mut part = Window::new(start, buffer);
-    let written = make_lent(
+    let answer = put_made(
         alloc,
         kind,
         uri,
@@ -211,8 +207,8 @@ pub extern "C" fn warc_rt_make(
         uuid,
         content_type,
         block,
-        &mut part,
-        &mut 0,
+        text,
+        portion,
     );
-    end_part(written, &part, room, filled, problem)
+    done_or_report(answer, problem)
 }

@@ -3,14 +3,14 @@ ghost use Rattle.std.specs.Prelude.{◌≡◌};
 ghost use Rattle.warc_lent.specs.Buffers.{KeepsAfter};
 ghost use Rattle.warc_lent.specs.Problems.{problem_numbers};
 ghost use Rattle.warc_lent.specs.Texts.{IsProblemPut};
-ghost use Rattle.warc_c.specs.Answered.{IsAnswered, IsFlagged, IsFaultReported, IsStopReported, IsVerdictReported};
+ghost use Rattle.warc_c.specs.Answered.{IsAnswered, IsFlagged, IsFaultReported, IsStopReported, IsThereReported, IsVerdictReported};
 
 use std::alloc::Global;
 use warc_frame::Fault;
 use warc_lent::{Numbers, Problem, put_problem};
 
 /// The version of what C sees: its calls, structs and numbers.
-const ABI: u32 = 3;
+const ABI: u32 = 4;
 
 /// Reports a problem.
 pub(crate) fn report(problem: Problem, out: &mut Numbers)
@@ -50,17 +50,28 @@ pub(crate) fn number_or_report(answer: Result<usize, Problem>, out: &mut Numbers
     }
 }
 
-/// Whether a call did what it was asked for. A problem is reported.
-pub(crate) fn done_or_report(answer: Result<(), Problem>, out: &mut Numbers) -> bool
-    ensures { IsFlagged answer result out.old out.new }
+/// Whether there is what a call puts. A problem is reported.
+pub(crate) fn there_or_report(answer: Result<bool, Problem>, out: &mut Numbers) -> bool
+    ensures { IsThereReported answer result out.old out.new }
 {
     match answer {
-        Ok(()) => true,
+        Ok(is_there) => is_there,
         Err(problem) => {
             report(problem, out);
             false
         }
     }
+}
+
+/// Whether a call did what it was asked for. A problem is reported.
+pub(crate) fn done_or_report(answer: Result<(), Problem>, out: &mut Numbers) -> bool
+    ensures { IsFlagged answer result out.old out.new }
+{
+    let answer = match answer {
+        Ok(()) => Ok(true),
+        Err(problem) => Err(problem),
+    };
+    there_or_report(answer, out)
 }
 
 /// The verdict that a call answers. A problem is reported, and the answer is 2, which says of a block that it is
@@ -80,7 +91,7 @@ pub(crate) fn verdict_or_report(answer: Result<u32, Problem>, out: &mut Numbers)
 /// The version of what C sees.
 #[unsafe(no_mangle)]
 pub extern "C" fn warc_rt_abi_version() -> u32
-    ensures { result ≡ 3 }
+    ensures { result ≡ 4 }
 {
     ABI
 }

@@ -3,5 +3,6 @@ pub mod BufferLemmas
 mod FrontLemmas
 mod HeadLemmas
 mod PieceLemmas
+mod PortionLemmas
+mod SelectionLemmas
 pub mod TextLemmas
-mod WritingLemmas

@@ -5,8 +5,9 @@ pub mod Fronts
 pub mod Growing
 pub mod Heads
 pub mod Pieces
+pub mod Portions
 pub mod Problems
 pub mod Rows
+pub mod Selections
 pub mod Texts
 pub mod Verdicts
-pub mod Writing

@@ -11,7 +11,7 @@ from ._joined import archive_at, counts_of, open_joined
 from ._heads import Headers, Http
 from ._library import CODED, MANY, TRUNCATED, Known, Lent, Opened, Spans, lib, text_of
 from ._problems import Closed, CompressedError, NoBody, Refused, Undecodable, ViewsAlive
-from ._writing import Date, Output, Text, buffer_of, bytes_of, date_of, integer_of, write_to
+from ._writing import Date, Output, Text, buffer_of, bytes_of, date_of, integer_of, write_output
 
 if TYPE_CHECKING:
     Records = Sequence["Record"]
@@ -518,18 +518,18 @@ class Archive(Records):
         and writes nothing, if the file is the one that the archive was opened from; one that is opened by mode "wb"
         has been emptied before.
         """
-        self._write(lib.warc_rewrite, out)
+        self._write(out, lib.warc_rewrite, lib.warc_next_rewritten)
 
     def convert(self, out: Output) -> None:
         """Writes the archive as one of WARC/1.1, in the same way."""
-        self._write(lib.warc_convert, out)
+        self._write(out, lib.warc_convert, lib.warc_next_converted)
 
     def split(self, out: Output, size: int) -> None:
         """Writes the archive with its records split into segments of `size` bytes, in the same way."""
         number = integer_of(size, "a size")
         if not 0 < number < 1 << 64:
             raise ValueError(f"a segment has from 1 to 2^64 - 1 bytes, not {number}")
-        self._write(lib.warc_split, out, number)
+        self._write(out, lib.warc_split, lib.warc_next_split, number)
 
     def select(self, out: Output, positions: Iterable[int], *, except_: bool = False, closed: bool = False) -> None:
         """Writes the records at positions, or with `except_` all others, byte for byte, in the same way.
@@ -552,12 +552,21 @@ class Archive(Records):
         for position in chosen:
             opened.require(position)
         refuse_same(self._contents.source, out)
-        write_to(out, lambda file: opened.select(file, chosen, except_, closed))
+        write_output(
+            out,
+            lambda file: opened.select(file, chosen, except_, closed),
+            lambda: opened.selected(chosen, except_, closed),
+        )
 
-    def _write(self, call: Any, out: Output, *size: int) -> None:
+    def _write(self, out: Output, to_file: Any, next_portion: Any, *size: int) -> None:
+        """Has an output written: to a file by one call, or to an object portion by portion by another."""
         opened = self._use()
         refuse_same(self._contents.source, out)
-        write_to(out, lambda file: opened.write(call, file, *size))
+        write_output(
+            out,
+            lambda file: opened.write(to_file, file, *size),
+            lambda: opened.parts(lambda at, *rest: next_portion(at, *size, *rest)),
+        )
 
     def __repr__(self) -> str:
         if self._opened is None or not self._opened.is_open:

@@ -8,7 +8,7 @@ from typing import Any, Callable, Dict, Iterable, Iterator, List, NamedTuple, Op
 
 from ._problems import BadDate, Changed, Closed, NoBody, NoRecord, NotMade, Refused, WarcError, WriteFailed
 
-ABI_VERSION = 3
+ABI_VERSION = 4
 FIRST_REASON, LAST_REASON = 101, 110
 SEGMENT = 107
 BAD_HEAD, CODED = 109, 110
@@ -25,6 +25,8 @@ ROW = Struct("@QQQ5I4x")
 MANY = 64
 # The lines of any head have fewer bytes.
 MOST_LINES = 98304
+# How much room there is at first for the text of a portion of an output. Most heads are shorter.
+FIRST_TEXT = 16384
 
 Field = Tuple[bytes, bytes]
 # The fields of a head: a name, its value, the next name, and so on.
@@ -33,6 +35,8 @@ Fields = List[str]
 # type, date, id and target.
 Known = Tuple[int, int, int, int, str, str, str, str]
 Spans = List[Tuple[int, int]]
+# Has the portion at a cursor put: it takes the archive, the cursor, the portion, a buffer, its length and the problem.
+Ask = Callable[..., bool]
 
 
 class Problem(c.Structure):
@@ -45,6 +49,14 @@ class CPiece(c.Structure):
 
 class Span(c.Structure):
     _fields_ = [("offset", U64), ("length", U64)]
+
+
+class Cursor(c.Structure):
+    _fields_ = [("place", U64), ("segment", U64)]
+
+
+class Portion(c.Structure):
+    _fields_ = [("before", U64), ("after", U64), ("span", Span), ("next", Cursor)]
 
 
 class Answer(c.Structure):
@@ -99,7 +111,9 @@ def path_of_library() -> str:
 def _calls() -> Any:
     """The calls of warc.h: the type that each gives, and those that it takes."""
     problem, answer, spans = c.POINTER(Problem), c.POINTER(Answer), c.POINTER(Span)
-    write = [POINTER, SIZE, INT, c.POINTER(U64), problem]
+    write, positions = [POINTER, INT, c.POINTER(U64), problem], [c.POINTER(U64), SIZE]
+    cursor, portion = c.POINTER(Cursor), c.POINTER(Portion)
+    text = [POINTER, SIZE, problem]
     return {
         "problem_text": (SIZE, [problem, POINTER, SIZE]),
         "open": (c.c_bool, [c.POINTER(POINTER), POINTER, SIZE, problem]),
@@ -124,9 +138,15 @@ def _calls() -> Any:
         "pieces": (SIZE, [POINTER, SIZE, c.POINTER(CPiece), SIZE, problem]),
         "rewrite": (c.c_bool, write),
         "convert": (c.c_bool, write),
-        "split": (c.c_bool, [POINTER, SIZE, U64, *write[2:]]),
-        "select": (c.c_bool, [POINTER, SIZE, c.POINTER(U64), SIZE, c.c_bool, c.c_bool, *write[2:]]),
-        "make": (c.c_bool, [c.POINTER(Draft), *write[2:]]),
+        "split": (c.c_bool, [POINTER, U64, *write[1:]]),
+        "select": (c.c_bool, [POINTER, *positions, c.c_bool, c.c_bool, *write[1:]]),
+        "make": (c.c_bool, [c.POINTER(Draft), *write[1:]]),
+        "chosen": (SIZE, [POINTER, *positions, c.c_bool, c.c_bool, *positions, problem]),
+        "next_rewritten": (c.c_bool, [POINTER, cursor, portion, *text]),
+        "next_converted": (c.c_bool, [POINTER, cursor, portion, *text]),
+        "next_split": (c.c_bool, [POINTER, U64, cursor, portion, *text]),
+        "next_selected": (c.c_bool, [POINTER, *positions, cursor, portion, problem]),
+        "made": (c.c_bool, [c.POINTER(Draft), portion, *text]),
     }
 
 
@@ -471,15 +491,44 @@ class Opened:
                 return c.string_at(text, length)
             room = length
 
-    def write(self, call: Any, file: int, *size: Any) -> None:
-        """Writes the archive anew to a file descriptor."""
+    def write(self, call: Any, file: int, *which: Any) -> None:
+        """Has a call write an output of the archive to a file descriptor."""
         with self.lock:
             at = self._open()
-            written(lambda *rest: call(self.lent.address, lib.warc_length(at), *size, file, *rest))
+            written(lambda *rest: call(at, *which, file, *rest))
 
     def select(self, file: int, positions: List[int], except_: bool, closed: bool) -> None:
         """Writes the records at positions, or all others, to a file descriptor; with what they need, if `closed`."""
         self.write(lib.warc_select, file, (U64 * len(positions))(*positions), len(positions), except_, closed)
+
+    def selected(self, positions: List[int], except_: bool, closed: bool) -> Iterator[memoryview]:
+        """The parts of the same."""
+        problem = Problem()
+        with self.lock:
+            at, room = self._open(), self.count()
+            which, chosen = ((U64 * len(positions))(*positions), len(positions), except_, closed), (U64 * room)()
+            count = lib.warc_chosen(at, *which, chosen, room, c.byref(problem))
+        if problem.code:
+            raise error_of(problem)
+        return self.parts(lambda at, cursor, it, *rest: lib.warc_next_selected(at, chosen, count, cursor, it, rest[-1]))
+
+    def parts(self, ask: Ask) -> Iterator[memoryview]:
+        """The parts of an output of the archive, in order. Each is good until the next one is asked for."""
+        room, cursor, portion, problem = c.create_string_buffer(FIRST_TEXT), Cursor(), Portion(), Problem()
+        while True:
+            with self.lock:
+                at = self._open()
+                is_there = ask(at, c.byref(cursor), c.byref(portion), room, len(room), c.byref(problem))
+                span = _span_of(portion, self.lent) if is_there else memoryview(b"")
+            if problem.code:
+                raise error_of(problem)
+            if not is_there:
+                return
+            if portion.before + portion.after <= len(room):
+                yield from _parts_of(portion, memoryview(room).cast("B"), span)
+                cursor = Cursor(portion.next.place, portion.next.segment)
+            else:
+                room = c.create_string_buffer(2 * (portion.before + portion.after))
 
 
 def pieces(lent: Lent) -> List[CPiece]:
@@ -504,10 +553,39 @@ def written(ask: Any) -> None:
         raise error_of(problem, sent=sent.value)
 
 
-def make(file: int, texts: Tuple[bytes, ...], block: Lent) -> None:
-    """Writes one record to a file descriptor: of its kind, URI, date, UUID and media type, and its block."""
-    draft = Draft()
-    for name, text in zip(("kind", "uri", "date", "uuid", "type"), texts):
-        setattr(draft, name, CBytes(c.cast(c.c_char_p(text), POINTER), len(text)))
-    draft.block = CBytes(block.address, block.length)
-    written(lambda *rest: lib.warc_make(c.byref(draft), file, *rest))
+def _span_of(portion: Portion, lent: Lent) -> memoryview:
+    """The span of a portion among the bytes that it is of."""
+    return lent.bytes[portion.span.offset : portion.span.offset + portion.span.length]
+
+
+def _parts_of(portion: Portion, text: memoryview, span: memoryview) -> Iterator[memoryview]:
+    """The bytes of a portion: its text, with the span in it."""
+    yield text[: portion.before]
+    yield span
+    yield text[portion.before : portion.before + portion.after]
+
+
+class Making:
+    """A record that is made: of its kind, URI, date, UUID and media type, and its block."""
+
+    def __init__(self, texts: Tuple[bytes, ...], block: Lent) -> None:
+        self.block = block
+        self._texts = texts
+        self._draft = Draft()
+        for name, text in zip(("kind", "uri", "date", "uuid", "type"), texts):
+            setattr(self._draft, name, CBytes(c.cast(c.c_char_p(text), POINTER), len(text)))
+        self._draft.block = CBytes(block.address, block.length)
+
+    def write(self, file: int) -> None:
+        """Writes it to a file descriptor."""
+        written(lambda *rest: lib.warc_make(c.byref(self._draft), file, *rest))
+
+    def parts(self) -> Iterator[memoryview]:
+        """Its parts, in order."""
+        room, portion, problem = c.create_string_buffer(FIRST_TEXT), Portion(), Problem()
+        while lib.warc_made(c.byref(self._draft), c.byref(portion), room, len(room), c.byref(problem)):
+            if portion.before + portion.after <= len(room):
+                yield from _parts_of(portion, memoryview(room).cast("B"), _span_of(portion, self.block))
+                return
+            room = c.create_string_buffer(portion.before + portion.after)
+        raise error_of(problem)

@@ -62,7 +62,7 @@ def salvage(file: Union["Path", Any], out: Output, *, mmap: bool = True) -> Salv
     What is written is an archive: the runs among the pieces of the file, joined. Nothing is mended.
 
     `file` is a path or a binary file object, which is read and decompressed as by `Archive.open`; `out` is written as
-    by `Archive.rewrite`, but without a temporary file. Raises what `pieces` does, and then nothing is written. Raises
+    by `Archive.rewrite`. Raises what `pieces` does, and then nothing is written. Raises
     ValueError, and writes nothing, if `out` is the file that is read; one that is opened by mode "wb" has been emptied
     before. Raises WriteFailed, whose `sent` is how many bytes went out, if a write fails. Nothing is synced.
 

@@ -2,14 +2,13 @@
 import io
 import os
 import signal
-import tempfile
 import uuid as uuids
 from datetime import date as Day, datetime, timezone
 from operator import index
-from typing import Any, Callable, Iterable, Optional, Union
+from typing import Any, Callable, Iterable, Iterator, Optional, Union
 
 from . import _library as library
-from ._problems import WriteFailed
+from ._problems import WarcError, WriteFailed
 
 Bytes = Union[bytes, memoryview]
 Text = Union[str, bytes]
@@ -95,14 +94,17 @@ def _write_quietly(file: int, piece: Bytes) -> int:
         signal.pthread_sigmask(signal.SIG_SETMASK, old)
 
 
-def _copy(source: Any, out: Output) -> None:
-    """Writes what a file has to an object, in pieces."""
-    sent = 0
-    while True:
-        piece = source.read(PIECE)
-        if not piece:
-            return
-        sent = _put(piece, out.write, sent)
+def _joined(parts: Iterable[memoryview]) -> Iterator[bytes]:
+    """Copies of parts one after another, which an object may keep: short parts joined, and long ones cut."""
+    held = bytearray()
+    for part in parts:
+        for begin in range(0, len(part), PIECE):
+            held += part[begin : begin + PIECE]
+            if len(held) >= PIECE:
+                yield bytes(held)
+                held.clear()
+    if held:
+        yield bytes(held)
 
 
 def _begin(out: Output) -> Optional[int]:
@@ -118,28 +120,44 @@ def _begin(out: Output) -> Optional[int]:
     return file
 
 
-def write_to(out: Output, write: Callable[[int], None]) -> None:
-    """Has something written to a file: by its descriptor, or to a file without a name and from there in pieces."""
+def write_output(out: Output, write: Callable[[int], None], parts: Callable[[], Iterable[memoryview]]) -> None:
+    """Has an output written to a file by its descriptor, or its parts to an object."""
     file = _begin(out)
     if file is not None:
         write(file)
-        return
-    with tempfile.TemporaryFile() as through:
-        write(through.fileno())
-        through.seek(0, os.SEEK_SET)
-        _copy(through, out)
+    else:
+        _write_joined(out, parts())
+
+
+def _write_joined(out: Output, parts: Iterable[memoryview]) -> None:
+    """Writes parts to an object. What goes wrong after a write raises WriteFailed, as want of memory always does."""
+    sent = 0
+    try:
+        for piece in _joined(parts):
+            sent = _put(piece, out.write, sent)
+    except WriteFailed:
+        raise
+    except WarcError as error:
+        if sent == 0 and error.code != library.NO_MEMORY:
+            raise
+        raise WriteFailed(error.text, error.code, sent) from error
 
 
 def write_parts(out: Output, parts: Iterable[memoryview]) -> None:
     """Writes parts one after another: to a file by its descriptor, or to an object in copies, which it may keep."""
-    file, sent = _begin(out), 0
+    file = _begin(out)
+    if file is None:
+        _write_joined(out, parts)
+    else:
+        _write_all(file, parts)
 
-    def put(piece: Bytes) -> Optional[int]:
-        return _write_quietly(file, piece) if file is not None else out.write(bytes(piece))
 
+def _write_all(file: int, parts: Iterable[memoryview]) -> None:
+    """Writes parts one after another to a descriptor."""
+    sent = 0
     for part in parts:
         for begin in range(0, len(part), PIECE):
-            sent = _put(part[begin : begin + PIECE], put, sent)
+            sent = _put(part[begin : begin + PIECE], lambda piece: _write_quietly(file, piece), sent)
 
 
 def make(
@@ -170,6 +188,7 @@ def make(
     )
     lent = library.Lent(buffer_of(block, "a block is bytes"))
     try:
-        write_to(out, lambda file: library.make(file, texts, lent))
+        making = library.Making(texts, lent)
+        write_output(out, making.write, making.parts)
     finally:
         lent.give_back()
