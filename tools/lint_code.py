@@ -62,6 +62,7 @@ C_PROGRAMS = (
     "c/headers.c",
     "tests/callers/report.c",
     "tests/callers/mutated.c",
+    "tests/callers/refused.c",
     "tests/callers/threads.c",
 )
 GENERATED = "tests/callers/generated.py"

@@ -1,8 +1,9 @@
 #!/usr/bin/env bash
 # Compares what the program, C, Python and Rust give of the archives of the suites and of a crawl, compares the pieces
 # of cut and changed ones with those of the second reading, has valgrind watch the library over 10,000 damaged archives
-# and the thread sanitizer over threads, installs the wheel, runs the examples and the samples of the pages, and opens a
-# mapped file of 5 GB. Needs gcc; valgrind, hypothesis, cargo, zlib.h and what makes wheels are used where they are.
+# and the thread sanitizer over threads, refuses memory and writes, installs the wheel, runs the examples and the
+# samples of the pages, and opens a mapped file of 5 GB. Needs gcc; valgrind, hypothesis, cargo, zlib.h and what makes
+# wheels are used where they are.
 #
 # CALLERS_COUNT is the number of damaged archives, CALLERS_SEED their seed, CALLERS_EXAMPLES the number that hypothesis
 # makes.
@@ -16,6 +17,7 @@ unset ZOGWEDU_LIBRARY
 flags=(-std=c11 -Wall -Wextra -Wconversion -Werror -O1 -g -Iout/lib)
 ${CC:-cc} "${flags[@]}" tests/callers/report.c out/lib/libwarc.a -o $out/report
 ${CC:-cc} "${flags[@]}" tests/callers/mutated.c out/lib/libwarc.a -o $out/mutated
+${CC:-cc} "${flags[@]}" tests/callers/refused.c out/lib/libwarc.a -o $out/refused
 ${CC:-cc} "${flags[@]}" -fsanitize=thread tests/callers/threads.c out/lib/libwarc.a -o $out/threads
 $out/threads examples/crawl.warc
 rust=-
@@ -45,5 +47,6 @@ python3 tests/callers/test_wheel.py
 python3 tests/callers/test_examples.py
 python3 tests/callers/test_samples.py
 $watch $out/mutated "${CALLERS_COUNT:-10000}" "${CALLERS_SEED:-1}" $out/archives/*.warc examples/crawl.warc
+$out/refused $out/archives/*.warc examples/crawl.warc
 python3 tests/callers/large.py $out
 python3 tests/callers/speed.py bin/warc $out
