@@ -159,6 +159,7 @@ bench: all zogwedu.html out/python/zogwedu/libwarc.so
 	@python3 bench/bench.py bin/warc out/bench
 	@python3 bench/replay.py . bin/warc out/bench
 	@python3 bench/selections.py bin/warc out/bench
+	@PYTHONPATH=out/python python3 bench/written.py bin/warc out/bench
 	@python3 bench/pieces.py bin/warc out/bench
 	@python3 bench/digests.py bin/warc out/bench
 	@python3 bench/page.py zogwedu.html bin/warc out/bench
