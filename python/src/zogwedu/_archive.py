@@ -549,8 +549,7 @@ class Archive(Records):
         """
         opened = self._use()
         chosen = [integer_of(position, "a position") for position in positions]
-        for position in chosen:
-            opened.require(position)
+        opened.require(*chosen)
         refuse_same(self._contents.source, out)
         write_output(
             out,

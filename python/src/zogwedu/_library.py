@@ -345,11 +345,12 @@ class Opened:
         with self.lock:
             return int(lib.warc_count(self._open()))
 
-    def require(self, position: int) -> None:
-        """Raises NoRecord if no record has a position."""
+    def require(self, *positions: int) -> None:
+        """Raises NoRecord for the first of the positions that no record has."""
         count = self.count()
-        if not 0 <= position < count:
-            raise NoRecord(problem_text(Problem(NO_RECORD)), NO_RECORD, position, count)
+        for position in positions:
+            if not 0 <= position < count:
+                raise NoRecord(problem_text(Problem(NO_RECORD)), NO_RECORD, position, count)
 
     def length(self) -> int:
         """How many bytes they have."""
