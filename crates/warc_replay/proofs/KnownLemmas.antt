@@ -56,7 +56,7 @@ agreed Good = refl
 agreed Bad = refl
 agreed Unchecked = tt
 
-own_right : (p : Placed) (r : Record) → p.content ≡ r → Agrees (verdict_on p) (has_bad_block (read_record r))
+pub own_right : (p : Placed) (r : Record) → p.content ≡ r → Agrees (verdict_on p) (has_bad_block (read_record r))
 own_right p r same = subst (λ (x : Record). Agrees (verdict_on p) (has_bad_block (read_record x))) same (agreed (verdict_on p))
 
 -- the verdicts on the blocks of records are right

@@ -1,3 +1,4 @@
+pub mod BlocksAgainLemmas
 pub mod BodyLemmas
 pub mod CaptureLemmas
 pub mod CaptureLineLemmas

@@ -1,3 +1,4 @@
+pub mod BlocksAgain
 pub mod Bodies
 pub mod Captured
 pub mod Captures

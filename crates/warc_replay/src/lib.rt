@@ -7,6 +7,7 @@ mod record;
 mod replay;
 
 pub use fault::{BodyFault, ExtractFault, TakeFault};
+pub use record::blocks_again::judge_blocks_at;
 pub use record::comparison::{Compared, compare_at, take_payload};
 pub use record::digests::KnownDigests;
 pub use record::good_payload::learn_origin;

@@ -1,5 +1,6 @@
 //! One record: its bytes, its head, and the verdicts on its block and its payload.
 
+pub(crate) mod blocks_again;
 pub(crate) mod comparison;
 pub(crate) mod digests;
 pub(crate) mod good_payload;

@@ -89,7 +89,8 @@ impl<S: Source, A: Allocator + Copy> PayloadFixity<S, A> {
     /// How the payload of each record compares with the digest that its head states, as `Archive::payloads` says it,
     /// but a record is read again only if its payload isn't known to be good: if it differs, isn't judged, is that of a
     /// revisit, or if the record wasn't read in place, as one that is longer than a piece of 1 MiB. So is an origin of
-    /// revisits, but if its payload is good, its block alone is hashed.
+    /// revisits, but if its payload is good, its block alone is hashed: with those of other origins, unless it is
+    /// longer than 256 KiB.
     pub fn judge(&mut self) -> Result<Payloads<A>, OutFault>
         ensures judges { JudgesPayloadsBy (AreRightFor self.old.known) self.old.archive.listing.rows
             self.old.archive.index self.old.archive.parts (S.seen self.old.archive.listing.source)

@@ -18,8 +18,8 @@ use warc_lookup::Lookup;
 use warc_reading::{Row, Rows};
 use warc_record::bare;
 use warc_replay::{
-    KnownDigests, PayloadVerdict, Unjudged, compare_at, learn_origin, payload_value, plain_verdict,
-    reason_of,
+    KnownDigests, PayloadVerdict, Unjudged, compare_at, judge_blocks_at, learn_origin, path_from,
+    payload_value, plain_verdict, reason_of,
 };
 use warc_value::Verdict;
 
@@ -353,7 +353,65 @@ pub(crate) fn judge_payloads_by<S: Source, A: Allocator + Copy>(
     Ok(payloads)
 }
 
-/// The same where nothing is known of any block.
+/// The origin of the revisit at a position, which is read again, if its payload is known to be good.
+fn good_origin<A: Allocator + Copy>(
+    lookup: &Lookup<A>,
+    known: &KnownPayloads<A>,
+    position: usize,
+) -> Option<usize> {
+    if known.verdict(position).is_some() {
+        return None;
+    }
+    let Ok(path) = path_from(lookup, position) else {
+        return None;
+    };
+    match known.verdict(path.given) {
+        Some(Some(PayloadVerdict::Good)) => Some(path.given),
+        _ => None,
+    }
+}
+
+/// Marks each such origin.
+fn mark_origins<A: Allocator + Copy>(
+    lookup: &Lookup<A>,
+    known: &KnownPayloads<A>,
+    marks: &mut [bool],
+) {
+    'marking: for position in 0..marks.len() {
+        if let Some(origin) = good_origin(lookup, known, position) {
+            if origin < marks.len() {
+                marks[origin] = true;
+            }
+        }
+    }
+}
+
+/// The positions that are marked, in their order.
+fn marked<A: Allocator>(alloc: A, marks: &[bool]) -> Result<Vec<usize, A>, AllocError> {
+    let mut positions = Vec::new(alloc);
+    'listing: for position in 0..marks.len() {
+        if marks[position] {
+            positions.push(position)?;
+        }
+    }
+    Ok(positions)
+}
+
+/// The origins of revisits that are read again, as far as their payloads are known to be good. Their blocks alone are
+/// to be judged.
+fn good_origins<A: Allocator + Copy>(
+    alloc: A,
+    count: usize,
+    lookup: &Lookup<A>,
+    known: &KnownPayloads<A>,
+) -> Result<Vec<usize, A>, AllocError> {
+    let mut marks = vec![in alloc; false; count]?;
+    mark_origins(lookup, known, &mut marks);
+    marked(alloc, &marks)
+}
+
+/// The same where nothing is known of any block. The blocks of origins whose payloads are good are judged first, side
+/// by side.
 pub(crate) fn judge_payloads<S: Source, A: Allocator + Copy>(
     source: &mut S,
     rows: &Rows<A>,
@@ -363,7 +421,10 @@ pub(crate) fn judge_payloads<S: Source, A: Allocator + Copy>(
     ensures { JudgesPayloadsBy (AreRightFor known.now) rows.now lookup.now.index lookup.now.parts
         (S.seen source.old) (S.seen source.new) result }
 {
-    let blocks = Verdicts::new(rows.allocator());
+    let Ok(origins) = good_origins(rows.allocator(), rows.len(), lookup, known) else {
+        return Err(OutFault::Memory(0));
+    };
+    let blocks = judge_blocks_at(source, rows, &origins)?;
     judge_payloads_by(source, rows, lookup, known, &blocks)
 }
 
@@ -377,5 +438,6 @@ pub(crate) fn judge_all_payloads<S: Source, A: Allocator + Copy>(
         result }
 {
     let known = KnownPayloads::none(rows.allocator());
-    judge_payloads(source, rows, lookup, &known)
+    let blocks = Verdicts::new(rows.allocator());
+    judge_payloads_by(source, rows, lookup, &known, &blocks)
 }
