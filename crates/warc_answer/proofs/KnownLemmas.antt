@@ -1,5 +1,5 @@
 -- Blocks that were judged before: the head in their front, and what is stored by a verdict on them.
-use Rattle.std.proofs.Common.{◌≡◌, ℕ, Bool, true, false, List, Err, ◌++◌, length, take, drop, refl, sym, ap, subst, ◌∙◌}
+use Rattle.std.proofs.Common.{◌≡◌, ℕ, Bool, true, false, List, Err, ◌++◌, length, take, drop, sym, ap, subst, ◌∙◌}
 use Rattle.std.proofs.lemmas.List.{take-append-drop}
 use Rattle.std.proofs.Math.Seq.{drop-append_seam}
 use Rattle.httparse.specs.Grammar.{ResponseHead, ReadsResponse, print_response}

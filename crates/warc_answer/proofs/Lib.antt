@@ -12,3 +12,4 @@ pub mod KnownLemmas
 pub mod HashedLemmas
 pub mod KnownDigestLemmas
 pub mod HashedLaws
+pub mod SplitLemmas

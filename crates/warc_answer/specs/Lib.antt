@@ -12,3 +12,4 @@ pub mod Judging
 pub mod Located
 pub mod Hashed
 pub mod Known
+pub mod Split

@@ -105,7 +105,7 @@ fn find_head<S: Source, A: Allocator + Copy>(
 }
 
 /// What is stored in the joined blocks of an HTTP response, none of which is bad.
-fn find_stored_http<S: Source, A: Allocator + Copy>(
+pub(crate) fn find_stored_http<S: Source, A: Allocator + Copy>(
     alloc: A,
     source: &mut S,
     places: &[Place],

@@ -10,6 +10,7 @@ mod known_digest;
 pub mod laws;
 mod located;
 mod replay;
+mod split;
 mod stored;
 
 pub use answer::{Answer, Path, Reason, ReplayFault};
@@ -20,4 +21,5 @@ pub use known::judge_known;
 pub use known_digest::digest_known;
 pub use located::{Located, Span, locate_joined};
 pub use replay::replay_joined;
+pub use split::{Extent, KnownBlocks, extent_after, judge_after, judge_split};
 pub use stored::{Stored, find_stored};

@@ -136,7 +136,7 @@ pub(crate) fn stored_after<A: Allocator>(head: StoredHead<A>, places: &[Place]) 
 }
 
 /// What is stored in the joined blocks of an HTTP response.
-fn find_stored_http<S: Source, A: Allocator + Copy>(
+pub(crate) fn find_stored_http<S: Source, A: Allocator + Copy>(
     alloc: A,
     source: &mut S,
     places: &[Place],
@@ -176,7 +176,7 @@ pub(crate) fn all_of<A: Allocator + Copy>(
 }
 
 /// What is stored in the joined blocks of another origin, whose own `Content-Type` has this value.
-fn find_stored_other<S: Source, A: Allocator + Copy>(
+pub(crate) fn find_stored_other<S: Source, A: Allocator + Copy>(
     alloc: A,
     source: &mut S,
     own: &[u8],

@@ -1,6 +1,6 @@
 use Rattle.std.proofs.Common.{◌≡◌, ◌+◌, ◌-◌, ◌<◌, ◌≤◌, ◌++◌, [], false, length, min, take, drop, get_or, arith, refl, sym, ap, ◌∙◌}
 use Rattle.std.proofs.lemmas.Result.{err_from_is_err_and}
-use borrow.Rule.Slice.PartMut.{mid_of, put_mid, same_len_mid}
+use borrow.Rule.Slice.PartMut.{put_mid, same_len_mid}
 use Rattle.warc_value.specs.declared.hash.Wanted.TheVariants.{Sha1}
 use Rattle.warc_frame.proofs.EffectLemmas.{reads_none, fails_after, fails_more}
 use Rattle.warc_segment.specs.declared.place.Place.{Place}
