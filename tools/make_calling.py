@@ -30,7 +30,7 @@ CALLERS: dict[str, tuple[str, tuple[str, ...]]] = {
     "warc_digest": ("warc_rewrite/src/segments.rt", ("put_segment",)),
     "warc_payload": ("warc_answer/src/body.rt", ("start_through",)),
     "warc_order": ("warc_index/src/index.rt", ("first_with",)),
-    "warc_segment": ("warc_replay/src/replay/known_gaps.rt", ("join_once",)),
+    "warc_segment": ("warc_replay/src/replay/known_gaps.rt", ("join_alone", "join_once")),
     "warc_index": ("warc_replay/src/replay/answer.rt", ("path_in",)),
     "warc_reading": ("warc/src/opened/listing.rt", ("open",)),
     "warc_write": ("warc_rewrite/src/segments.rt", ("put_segment",)),

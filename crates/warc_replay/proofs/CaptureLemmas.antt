@@ -1,24 +1,20 @@
 -- The outcomes of captures, each origin judged once, and their lines.
-use Rattle.std.proofs.Common.{◌≡◌, ◌⊎◌, append_assoc, codes, decimal, inl, inr, ℕ, zero, suc, ◌+◌, ◌<◌, List, [], ◌∷◌, ◌++◌, length, map, take, drop, get_or, replicate, Option, Some, None, Result, Ok, Err, refl, sym, ap, subst, ◌∙◌, arith, length-append}
+use Rattle.std.proofs.Common.{◌≡◌, ◌⊎◌, append_assoc, codes, decimal, inl, inr, ℕ, zero, suc, ◌+◌, ◌<◌, List, [], ◌∷◌, ◌++◌, length, map, take, drop, get_or, Option, Some, Result, Ok, Err, refl, sym, ap, subst, ◌∙◌, arith}
 use Rattle.std.specs.Prelude.{IfErr}
 use Rattle.std.proofs.lemmas.Grind.{flat_map-append}
 use Rattle.std.proofs.lemmas.List.{append-nil, take_more, take-append-drop}
-use Rattle.std.proofs.lemmas.Option.{slice_get_within}
 use Rattle.std.specs.List.{AllByRecursion, concat, slice_get}
-use Rattle.std.proofs.Math.ListN.{set}
 use Rattle.warc_value.specs.declared.hash.Verdict.{Verdict}
-use Rattle.warc_frame.specs.Effects.{FailsBy, Preserves}
+use Rattle.warc_frame.specs.Effects.{Preserves}
 use Rattle.warc_frame.specs.Record.{Record}
 use Rattle.warc_frame.specs.Seen.{SeenSource}
 use Rattle.warc_frame.specs.declared.fault.OutFault.{OutFault}
 use Rattle.warc_frame.specs.declared.fault.OutFault.TheVariants as outs
 use Rattle.warc_index.specs.Orders.{Indexes}
-use Rattle.warc_index.specs.declared.unfound.Unfound.{Unfound}
 use Rattle.warc_segment.specs.Kept.{Kept as Parts}
-use Rattle.warc_answer.specs.Answers.{path_at, path_from}
+use Rattle.warc_answer.specs.Answers.{path_from}
 use Rattle.warc_answer.specs.Laws.{PathsEndInside}
 use Rattle.warc_answer.specs.Seen.{IsEarly}
-use Rattle.warc_answer.specs.Stored.{IsStoredAt, IsStoredOn}
 use Rattle.warc_answer.specs.declared.answer.Path.{Path}
 use Rattle.warc_answer.specs.declared.answer.ReplayFault.TheVariants.{Out}
 use Rattle.warc_reading.specs.Archive.{contents}
@@ -29,8 +25,9 @@ use Rattle.warc_answer.specs.declared.answer.Reason.{Reason as Why}
 use Rattle.warc_replay.specs.Captures.{capture_line, captures_text, columns_line, columns_of, date_front, full_date, number_shown, reason_shown}
 use Rattle.warc_judged.specs.Listing.{shown}
 use Rattle.warc_replay.specs.Capturing.{IsIndexedAt, JudgesNext}
-use Rattle.warc_replay.specs.Outcomes.{CaptureSeen, IsOutcome, judged_seen, origin_on, outcome_seen}
+use Rattle.warc_replay.specs.Outcomes.{CaptureSeen, IsOutcome, outcome_seen}
 use Rattle.warc_replay.specs.Replaying.{AsksInside}
+use Rattle.warc_replay.specs.declared.replay.captures.JoinedVerdicts.{JoinedVerdicts}
 use Rattle.warc_replay.specs.declared.replay.outcome.Outcome.{Outcome}
 use Rattle.warc_replay.proofs.ReplayLemmas.{asks_both, path_by_links}
 
@@ -81,7 +78,7 @@ pub asks_then : {rows : List Row} {index : Indexes} {parts : Parts} {old mid : S
 asks_then {rows} {index} {parts} {old} {mid} new first before then = λ bytes is.
     asks_both (λ at. at < length bytes) old mid new.watched_reads first.watched (before bytes is) (then bytes is)
 
-pub asks_on : {A : Type 0} {rows : List Row} {index : Indexes} {parts : Parts} {position : ℕ} {known found again : List Verdict} {old mid new : SeenSource} {answer : Result (Outcome A) OutFault}
+pub asks_on : {A : Type 0} {rows : List Row} {index : Indexes} {parts : Parts} {position : ℕ} {known : List Verdict} {found again : JoinedVerdicts A} {old mid new : SeenSource} {answer : Result (Outcome A) OutFault}
     → Preserves old mid → AsksInside rows index parts old mid → JudgesNext rows index parts position known found again mid new answer → AsksInside rows index parts old new
 asks_on {A} {rows} {index} {parts} {position} {known} {found} {again} {old} {mid} {new} {answer} first before next = asks_then new first before next.inside
 

@@ -1,13 +1,12 @@
 -- The lines of captures, each put when its capture was judged.
-use Rattle.std.proofs.Common.{◌≡◌, inl, inr, ℕ, suc, ◌+◌, ◌<◌, ◌≤◌, List, [], ◌∷◌, ◌++◌, length, map, take, drop, get_or, Option, Some, Result, Ok, Err, append_assoc, length-append, take_all, refl, sym, ap, subst, ◌∙◌, arith}
-use Rattle.std.specs.Prelude.{Contains, IfErr, OnOk}
+use Rattle.std.proofs.Common.{◌≡◌, inl, inr, ℕ, suc, ◌+◌, ◌<◌, List, [], ◌∷◌, ◌++◌, length, map, take, drop, get_or, Option, Result, Ok, Err, append_assoc, length-append, take_all, refl, sym, ap, subst, ◌∙◌, arith}
+use Rattle.std.specs.Prelude.{Contains}
 use Rattle.std.specs.List.{AllByRecursion}
 use Rattle.std.proofs.Math.Seq.{take-append-add}
 use Rattle.std.proofs.lemmas.List.{append-nil, length-take, take-append-drop, take_more, take-take}
 use Rattle.std.proofs.lemmas.Bool.{cases_lt}
 use Rattle.std.proofs.lemmas.List.Elements.{Contains-append_left, Contains-append_right, Contains-push}
 use Rattle.std.proofs.lemmas.Result.{IfErr-weaker, on_ok_weaker}
-use Rattle.warc_value.specs.declared.hash.Verdict.{Verdict}
 use Rattle.warc_frame.specs.Device.{Staged}
 use Rattle.warc_frame.specs.Count.{raised}
 use Rattle.warc_frame.specs.Effects.{FailsBy, Flushes, Preserves, Puts}
@@ -18,7 +17,7 @@ use Rattle.warc_frame.specs.Send.{IsStaged, WentOut, sent_of}
 use Rattle.warc_frame.specs.declared.fault.OutFault.{OutFault}
 use Rattle.warc_frame.specs.declared.fault.OutFault.TheVariants as outs
 use Rattle.warc_frame.specs.declared.send.SendFault.{SendFault}
-use Rattle.warc_frame.proofs.EffectLemmas.{fails_after, fails_as, fails_more, fails_never}
+use Rattle.warc_frame.proofs.EffectLemmas.{fails_after, fails_more, fails_never}
 use Rattle.warc_frame.proofs.LawLemmas.{longer, same_out, same_staged, staged_went_out}
 use Rattle.warc_index.specs.Orders.{Indexes}
 use Rattle.warc_segment.specs.Kept.{Kept as Parts}
@@ -28,7 +27,7 @@ use Rattle.warc_reading.specs.Archive.{IsArchiveOf, contents}
 use Rattle.warc_lookup.specs.Indexed.{AreOf}
 use Rattle.warc_reading.specs.Row.{Placed, Row}
 use Rattle.warc_replay.specs.Captures.{capture_line, captures_text}
-use Rattle.warc_replay.specs.Capturing.{AreFirstOutcomes, AreIndexedAt, AreOutcomes, IsIndexedAt, PutsCaptures, SendsCaptures, ended_after}
+use Rattle.warc_replay.specs.Capturing.{AreFirstOutcomes, AreIndexedAt, IsIndexedAt, PutsCaptures, SendsCaptures, ended_after}
 use Rattle.warc_replay.specs.Outcomes.{CaptureSeen, IsOutcome}
 use Rattle.warc_replay.specs.Replaying.{AsksInside}
 use Rattle.warc_replay.proofs.CaptureLemmas.{asks_then, map-appended, text_more}

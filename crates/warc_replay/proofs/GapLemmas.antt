@@ -57,7 +57,7 @@ gap_after size other members WrongNumber is holds = gap_stays size other members
 
 -- ---- the gap of a series is that of what is joined to a first segment
 
-first_joined : (number : SegmentNumber) (size : ℕ) (members : List Member) → number ≡ Number 1 → joined number size members ≡ unless_gap (gap_of size members) members
+pub first_joined : (number : SegmentNumber) (size : ℕ) (members : List Member) → number ≡ Number 1 → joined number size members ≡ unless_gap (gap_of size members) members
 first_joined number size members one = subst (λ (n : SegmentNumber). joined n size members ≡ unless_gap (gap_of size members) members) (sym one) refl
 
 gap_joined : (all : List PlacedRecord) (r : PlacedRecord) (gap : Gap) → r.head.segment.number ≡ Number 1 → gap_of r.place.len (series_of r.head.id (map piece_placed all)) ≡ Some gap

@@ -17,3 +17,4 @@ pub mod OriginLemmas
 pub mod PayloadLemmas
 pub mod ReplayLemmas
 pub mod TakeLemmas
+pub mod SeriesLemmas

@@ -12,7 +12,6 @@ use Rattle.warc_frame.specs.declared.fault.OutFault.{OutFault}
 use Rattle.warc_frame.specs.declared.fault.OutFault.TheVariants as outs
 use Rattle.warc_frame.proofs.EffectLemmas.{reads_both, reads_within}
 use Rattle.warc_index.specs.declared.unfound.Unfound.{Unfound}
-use Rattle.warc_field.specs.Area.{Pair}
 use Rattle.warc_record.specs.Readings.{Reading, reading_of}
 use Rattle.warc_quick.specs.Alone.{IsWholeHead}
 use Rattle.warc_segment.specs.Joined.{PlacedRecord, PlacesAreOfRecords, joined_places}
@@ -20,7 +19,7 @@ use Rattle.warc_segment.specs.declared.place.Place.{Place}
 use Rattle.warc_value.specs.declared.hash.Wanted.{Wanted}
 use Rattle.warc_answer.specs.Answers.{IsAnswerOn}
 use Rattle.warc_answer.specs.Laws.{EndsInside, FailsBeforeAll, PlacesAreAsLong, ReasonsAreAnswers}
-use Rattle.warc_answer.specs.Payloads.{is_http_response, read_record}
+use Rattle.warc_answer.specs.Payloads.{read_record}
 use Rattle.warc_answer.specs.Places.{IsInOne, ReadsPlaces, len_of}
 use Rattle.warc_answer.specs.Replays.{IsReplayOn, out_result}
 use Rattle.warc_answer.specs.Seen.{IsEarly}
@@ -35,7 +34,9 @@ use Rattle.warc_reading.specs.Row.{Placed, Row, row_of}
 use Rattle.warc_reading.specs.declared.reread.RereadFault.{RereadFault}
 use Rattle.warc_reading.specs.declared.reread.RereadFault.TheVariants.{Read, Memory}
 use Rattle.warc_replay.specs.Looking.{ArePlacesIn}
-use Rattle.warc_replay.specs.Origins.{IsOriginAt, IsOriginBy, IsOriginFound, IsOriginOf, IsPlacedBy, IsUnjoined, place_in, placed_by}
+use Rattle.warc_replay.specs.KnownSeries.{IsSharedBy}
+use Rattle.warc_replay.specs.Origins.{IsOfSeries, IsOriginAt, IsOriginBy, IsOriginFound, IsOriginOf, IsPlacedBy, IsSharedAt, IsUnjoined, place_in, placed_by}
+use Rattle.warc_replay.specs.declared.replay.known_series.Shared.{Shared}
 use Rattle.warc_replay.specs.declared.replay.origin.Origin.{Origin}
 use Rattle.warc_replay.specs.Replaying.{IsJoined, IsOfOrigin, IsOnPath, origin_joined, path_reads, reads_of}
 use Rattle.warc_replay.proofs.ReplayLemmas.{found_as, gap_is, places_are, places_for, reads_of_head}
@@ -81,7 +82,7 @@ placed_as p row same = ap (λ (r : Row). placed_by r (reading_of p.content.field
 
 pub made_found : {A : Type 0} (records : List Placed) (position : ℕ) (p : Placed) (row : Row) (answer : Result (Origin A) ReplayFault) → slice_get records position ≡ Some p → row ≡ row_of p
     → IsOriginOf (map placed_record records) row p.content.fields answer → IsOriginFound records position answer
-made_found records position p row (Ok o) there same (http, is, joined) = record {
+made_found records position p row (Ok o) there same (http, is, joined, shared) = record {
   placed = p;
   there = there;
   http_is = http;
@@ -91,6 +92,24 @@ made_found records position p row (Ok o) there same (http, is, joined) = record 
 made_found records position p row (Err (Reason why)) there same (gap, says, joined) =
     (gap, says, record { placed = p; there = there; gap_is = ap (joined_places (map placed_record records)) (sym (placed_as p row same)) ∙ joined })
 made_found records position p row (Err (Out e)) there same is = tt
+
+-- and its series
+pub made_shared : {A : Type 0} (records : List Placed) (position : ℕ) (p : Placed) (row : Row) (answer : Result (Origin A) ReplayFault) → slice_get records position ≡ Some p → row ≡ row_of p
+    → IsOriginOf (map placed_record records) row p.content.fields answer → IfOk answer (λ o. IsSharedAt records position o.shared o.places.items)
+made_shared records position p row (Ok o) there same (http, is, joined, shared) = record {
+  placed = p;
+  there = there;
+  is = subst (λ (r : PlacedRecord). IsSharedBy (map placed_record records) r o.shared o.places.items) (placed_as p row same) shared;
+}
+made_shared records position p row (Err fault) there same is = tt
+
+of_series : (all : List PlacedRecord) (r : PlacedRecord) (shared : Option Shared) (places : List Place) → IsSharedBy all r shared places → IsOfSeries all shared places
+of_series all r None places is = tt
+of_series all r (Some s) places is = is.1
+
+pub placed_series : {A : Type 0} (all : List PlacedRecord) (row : Row) (answer : Result (Origin A) ReplayFault) → IfOk answer (IsPlacedBy all row) → IfOk answer (λ o. IsOfSeries all o.shared o.places.items)
+placed_series all row (Ok o) (head, joined, shared) = of_series all (placed_by row head) o.shared o.places.items shared
+placed_series all row (Err fault) is = tt
 
 -- what isn't joined comes before anything goes out, and no read failed
 pub unjoined_early : {X : Type 0} (answer : Result X ReplayFault) → IfErr answer IsUnjoined → IfErr answer IsEarly
@@ -105,7 +124,7 @@ unjoined_failed (Err (Out e)) old new is same = subst (λ (f : OutFault). HasFai
 
 pub made_placed : {A : Type 0} (all : List PlacedRecord) (row : Row) (head : Reading) (content_type : List ℕ) (answer : Result (Origin A) ReplayFault) → IsOriginBy all row head content_type answer
     → IfOk answer (IsPlacedBy all row)
-made_placed all row head content_type (Ok o) (http, type, joined) = (head, joined)
+made_placed all row head content_type (Ok o) (http, type, joined, shared) = (head, joined, shared)
 made_placed all row head content_type (Err fault) is = tt
 
 -- a reading gives one head

@@ -1,13 +1,14 @@
 -- The outcomes of captures, of which each origin is judged once.
-use Rattle.std.specs.Prelude.{◌≡◌, ℕ, ◌++◌, ◌<◌, List, length, map, take, slice_get, Option, Some, Result, Ok, Err, IfErr, IfOk, OnOk, ⊤}
+use Rattle.std.specs.Prelude.{◌≡◌, ℕ, ◌++◌, ◌<◌, ◌≤◌, Bool, List, length, map, take, drop, slice_get, Option, Some, Result, Ok, Err, IfErr, IfOk, OnOk, ⊤}
 use Rattle.std.specs.Io.KnownBytes.{append_known}
 use Rattle.std.specs.List.{AllByRecursion, Contains, list_any}
 use Rattle.std.specs.declared.vec.Vec.{Vec}
 use Rattle.warc_value.specs.declared.hash.Verdict.{Verdict}
+use Rattle.warc_value.specs.declared.hash.Verdict.TheVariants.{Unchecked}
 use Rattle.warc_frame.specs.Device.{Staged}
 use Rattle.warc_frame.specs.Effects.{FailsBy, Preserves}
 use Rattle.warc_frame.specs.Failing.{failed_by}
-use Rattle.warc_frame.specs.Record.{Record}
+use Rattle.warc_frame.specs.Record.{Record, max_archive}
 use Rattle.warc_frame.specs.Seen.{IfHeld, Seen, SeenSource}
 use Rattle.warc_frame.specs.Send.{IsStaged, WentOut, sent_of}
 use Rattle.warc_frame.specs.declared.fault.OutFault.{OutFault}
@@ -15,6 +16,7 @@ use Rattle.warc_frame.specs.declared.fault.OutFault.TheVariants.{Read, Write, Me
 use Rattle.warc_index.specs.Orders.{Indexes}
 use Rattle.warc_segment.specs.Joined.{ReadRecord}
 use Rattle.warc_segment.specs.Kept.{Kept as Parts}
+use Rattle.warc_segment.specs.declared.place.Place.{Place}
 use Rattle.warc_answer.specs.Known.{Agrees}
 use Rattle.warc_answer.specs.Payloads.{has_bad_block, read_record}
 use Rattle.warc_answer.specs.Replays.{out_result}
@@ -24,15 +26,18 @@ use Rattle.warc_answer.specs.declared.answer.Reason.{Reason as Why}
 use Rattle.warc_answer.specs.declared.answer.ReplayFault.{ReplayFault}
 use Rattle.warc_answer.specs.declared.answer.ReplayFault.TheVariants.{Reason, Out}
 use Rattle.warc_answer.specs.declared.stored.Stored.{Stored}
-use Rattle.warc_reading.specs.Archive.{IsArchiveOf, contents}
-use Rattle.warc_lookup.specs.Indexed.{AreOf, ArePartsOf}
+use Rattle.warc_reading.specs.Archive.{IsArchiveOf, SpellsFrom, contents}
+use Rattle.warc_lookup.specs.Indexed.{AreOf, ArePartsOf, placed_record}
 use Rattle.warc_reading.specs.Row.{Placed, Row}
 use Rattle.warc_replay.specs.Captures.{captures_text}
 use Rattle.warc_judged.specs.Counting.{verdict_at}
 use Rattle.warc_replay.specs.Looking.{AsksWithin}
-use Rattle.warc_replay.specs.Origins.{IsRecordAt}
+use Rattle.warc_replay.specs.KnownSeries.{BeginsSeries}
+use Rattle.warc_replay.specs.Origins.{IsOriginAt, IsRecordAt, IsSharedAt}
 use Rattle.warc_replay.specs.Outcomes.{CaptureSeen, IsOutcome, judged_seen, outcome_seen}
 use Rattle.warc_replay.specs.Replaying.{AsksInside}
+use Rattle.warc_replay.specs.declared.replay.captures.JoinedVerdicts.{JoinedVerdicts}
+use Rattle.warc_replay.specs.declared.replay.known_series.Shared.{Shared}
 use Rattle.warc_replay.specs.declared.replay.outcome.Outcome.{Outcome}
 
 -- these are the outcomes of the captures at the positions, in their order
@@ -114,10 +119,34 @@ IsJoinedVerdict records position verdict = (r : Record) (joined : List ReadRecor
 abbrev pub AreKnownBlocks : List Verdict → List Placed → Type 0
 AreKnownBlocks known records = (position : ℕ) → IsBlockVerdict (contents records) position (verdict_at known position)
 
--- and what was found of the blocks that are joined to it
-pub record AreFound (known found : List Verdict) (records : List Placed) : Type 0 where
+-- what is known of the blocks after a first segment's own is right, for all of the series of the segment at a position
+abbrev pub IsRestVerdict : List Placed → ℕ → Verdict → Type 0
+IsRestVerdict records segment verdict = (i : ℕ) (p : Placed) (joined : List ReadRecord) → slice_get records i ≡ Some p
+    → BeginsSeries (map placed_record records) segment (placed_record p).head
+    → joined_to (contents records) p.content ≡ Ok joined → Agrees verdict (list_any has_bad_block (drop 1 joined))
+
+abbrev pub AreRests : List Verdict → List Placed → Type 0
+AreRests rests records = (segment : ℕ) → IsRestVerdict records segment (verdict_at rests segment)
+
+-- nothing was found of joined blocks
+abbrev pub AreUnknown : {A : Type 0} → JoinedVerdicts A → Type 0
+AreUnknown found =
+    ((i : ℕ) → verdict_at found.whole i ≡ Unchecked) × ((i : ℕ) → verdict_at found.rest i ≡ Unchecked)
+
+-- and what was found of the blocks that are joined to it, and of those that series share
+pub record AreFound {A : Type 0} (known : List Verdict) (found : JoinedVerdicts A) (records : List Placed)
+    : Type 0 where
   pub own : AreKnownBlocks known records
-  pub joined : (position : ℕ) → IsJoinedVerdict (contents records) position (verdict_at found position)
+  pub joined : (position : ℕ) → IsJoinedVerdict (contents records) position (verdict_at found.whole position)
+  pub rest : AreRests found.rest records
+
+-- the origin at a position, which begins this series, and the places of what is joined to its block among the bytes
+pub record IsOriginIn (bytes : List ℕ) (records : List Placed) (position : ℕ) (http : Bool) (content_type : List ℕ)
+    (places : List Place) (shared : Shared) : Type 0 where
+  pub spelled : SpellsFrom 0 records bytes
+  pub short : length bytes ≤ max_archive
+  pub at : IsOriginAt records position http content_type places
+  pub series : IsSharedAt records position (Some shared) places
 
 -- what is stored of the origin at a position, or a reason; nothing where a read or a growth of the memory failed
 abbrev pub IsStoredFound : {A : Type 0} → List Record → ℕ → Result (Stored A) ReplayFault → Type 0
@@ -127,30 +156,36 @@ IsStoredFound records position (Err (Out e)) = ⊤
 
 -- what is stored of the origin at a position, by what is known of its block and of the joined ones
 pub record LooksBy {A : Type 0} (rows : List Row) (parts : Parts) (position : ℕ) (own joined : Verdict)
-    (old new : SeenSource) (answer : Result (Stored A) ReplayFault) : Type 0 where
+    (rests again : List Verdict) (old new : SeenSource) (answer : Result (Stored A) ReplayFault) : Type 0 where
   pub reported : IfHeld old.holds (λ bytes. (is : IsArchiveOf bytes rows) → ArePartsOf is.are.records parts
       → IsBlockVerdict (contents is.are.records) position own
-      → IsJoinedVerdict (contents is.are.records) position joined
+      → IsJoinedVerdict (contents is.are.records) position joined → AreRests rests is.are.records
       → IsStoredFound (contents is.are.records) position answer)
+  pub remembers : IfHeld old.holds (λ bytes. (is : IsArchiveOf bytes rows) → ArePartsOf is.are.records parts
+      → AreRests rests is.are.records → AreRests again is.are.records)
   pub early : IfErr answer IsEarly
   pub inside : AsksWithin rows parts old new
   pub keeps : Preserves old new
   pub fails : FailsBy (IsRecordAt rows parts position) (out_result answer) old new
 
 pub record JudgesBy {A : Type 0} (rows : List Row) (parts : Parts) (position : ℕ) (own joined : Verdict)
-    (old new : SeenSource) (answer : Result (Result (Stored A) Why) OutFault) : Type 0 where
+    (rests again : List Verdict) (old new : SeenSource) (answer : Result (Result (Stored A) Why) OutFault)
+    : Type 0 where
   pub reported : IfHeld old.holds (λ bytes. (is : IsArchiveOf bytes rows) → ArePartsOf is.are.records parts
       → IsBlockVerdict (contents is.are.records) position own
-      → IsJoinedVerdict (contents is.are.records) position joined
+      → IsJoinedVerdict (contents is.are.records) position joined → AreRests rests is.are.records
       → IfOk answer (λ judged. IsStoredAt (contents is.are.records) position (judged_seen judged)))
+  pub remembers : IfHeld old.holds (λ bytes. (is : IsArchiveOf bytes rows) → ArePartsOf is.are.records parts
+      → AreRests rests is.are.records → AreRests again is.are.records)
   pub early : IfErr answer (λ e. IsEarly (Out e))
   pub inside : AsksWithin rows parts old new
   pub keeps : Preserves old new
   pub fails : FailsBy (IsRecordAt rows parts position) answer old new
 
 -- the same by what is known of all blocks, and what was found of joined ones, which is right afterwards too
-pub record JudgesOne {A : Type 0} (rows : List Row) (parts : Parts) (origin : ℕ) (known found again : List Verdict)
-    (old new : SeenSource) (answer : Result (Result (Stored A) Why) OutFault) : Type 0 where
+pub record JudgesOne {A : Type 0} (rows : List Row) (parts : Parts) (origin : ℕ) (known : List Verdict)
+    (found again : JoinedVerdicts A) (old new : SeenSource) (answer : Result (Result (Stored A) Why) OutFault)
+    : Type 0 where
   pub reported : IfHeld old.holds (λ bytes. (is : IsArchiveOf bytes rows) → ArePartsOf is.are.records parts
       → AreFound known found is.are.records
       → IfOk answer (λ judged. IsStoredAt (contents is.are.records) origin (judged_seen judged)))
@@ -167,13 +202,15 @@ IsIndexedAt rows index parts position bytes = (is : IsArchiveOf bytes rows) × A
     × (position < length (contents is.are.records))
 
 -- what was found of joined blocks is right afterwards, if it was before
-abbrev pub RemembersNext : List Row → Indexes → Parts → List Verdict → List Verdict → List Verdict → SeenSource → Type 0
+abbrev pub RemembersNext : {A : Type 0} → List Row → Indexes → Parts → List Verdict → JoinedVerdicts A
+    → JoinedVerdicts A → SeenSource → Type 0
 RemembersNext rows index parts known found again old =
     IfHeld old.holds (λ bytes. (is : IsArchiveOf bytes rows) → AreOf is.are.records index parts
     → AreFound known found is.are.records → AreFound known again is.are.records)
 
 pub record JudgesNext {A : Type 0} (rows : List Row) (index : Indexes) (parts : Parts) (position : ℕ)
-    (known found again : List Verdict) (old new : SeenSource) (answer : Result (Outcome A) OutFault) : Type 0 where
+    (known : List Verdict) (found again : JoinedVerdicts A) (old new : SeenSource)
+    (answer : Result (Outcome A) OutFault) : Type 0 where
   pub reported : IfHeld old.holds (λ bytes. (is : IsArchiveOf bytes rows) → AreOf is.are.records index parts
       → AreFound known found is.are.records
       → IfOk answer (λ o. IsOutcome (contents is.are.records) (outcome_seen o)))
@@ -185,8 +222,8 @@ pub record JudgesNext {A : Type 0} (rows : List Row) (index : Indexes) (parts : 
   pub fails : FailsBy (IsIndexedAt rows index parts position) answer old new
 
 -- the outcomes so far
-pub record AreSoFar {A : Type 0} (records : List Placed) (known found : List Verdict) (outcomes : List (Outcome A))
-    : Type 0 where
+pub record AreSoFar {A : Type 0} (records : List Placed) (known : List Verdict) (found : JoinedVerdicts A)
+    (outcomes : List (Outcome A)) : Type 0 where
   pub each : AllByRecursion (IsOutcome (contents records)) (map outcome_seen outcomes)
   pub right : AreFound known found records
 

@@ -1,4 +1,4 @@
--- The gaps of series that were found. States of the code: no public clause cites them.
+-- What is known of series: gaps that were found, and series that join. States of the code: no public clause cites them.
 use Rattle.std.specs.Prelude.{◌≡◌, ◌⊎◌, ℕ, List, map, Option, Some}
 use Rattle.std.specs.BTreeMap.{BTreeMap, get}
 use Rattle.std.specs.Ordering.{nat_cmp, ordering_then}
@@ -9,6 +9,8 @@ use Rattle.warc_segment.specs.Kept.{Kept as Parts, kept_in}
 use Rattle.warc_segment.specs.Series.{IsMemberAt, series_of}
 use Rattle.warc_segment.specs.declared.gap.Gap.{Gap}
 use Rattle.warc_segment.specs.declared.gap.Gap.TheVariants.{Total}
+use Rattle.warc_replay.specs.KnownSeries.{AreSeries}
+use Rattle.warc_replay.specs.declared.replay.known_gaps.KnownGaps.{KnownGaps}
 
 -- how two keys compare: by the position of a segment, then by the length of a first segment
 abbrev pub compare_keys : ℕ × ℕ → ℕ × ℕ → Ordering
@@ -38,3 +40,8 @@ pub record KeepsGap (segment len : ℕ) (gap : Gap) (old new : BTreeMap (ℕ × 
   pub holds : gap ≡ Total → at ≡ len
   pub each : (s n : ℕ) → (known_gap_at new s n ≡ known_gap_at old s n)
       ⊎ ((s ≡ segment) × (n ≡ at) × (known_gap_at new s n ≡ Some gap))
+
+-- what is known of series is right
+pub record AreKnownSeries {A : Type 0} (parts : Parts) (known : KnownGaps A) : Type 0 where
+  pub gaps : AreKnownGaps parts known.table
+  pub series : AreSeries parts known.series

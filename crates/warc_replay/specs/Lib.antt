@@ -8,6 +8,7 @@ pub mod Finding
 pub mod GoodPayloads
 pub mod Heading
 pub mod Judged
+pub mod KnownSeries
 pub mod KnownGaps
 pub mod Locating
 pub mod Looking

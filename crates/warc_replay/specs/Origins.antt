@@ -1,6 +1,6 @@
 -- The origin at a position: its head, and the places of the blocks that are joined to its own. States of the code: no
 -- public clause cites them.
-use Rattle.std.specs.Prelude.{◌≡◌, ℕ, ◌+◌, ◌<◌, ◌≤◌, Bool, List, length, map, slice_get, All, Some, Result, Ok, Err, IfErr, IfOk, ⊤}
+use Rattle.std.specs.Prelude.{◌≡◌, ℕ, ◌+◌, ◌<◌, ◌≤◌, Bool, List, length, map, slice_get, All, Option, Some, None, Result, Ok, Err, IfErr, IfOk, ⊤}
 use Rattle.warc_field.specs.Area.{Pair}
 use Rattle.warc_value.specs.declared.hash.Wanted.{Wanted}
 use Rattle.warc_frame.specs.Effects.{FailsBy, Preserves, ReadsOnly}
@@ -21,7 +21,9 @@ use Rattle.warc_answer.specs.declared.answer.ReplayFault.TheVariants.{Reason, Ou
 use Rattle.warc_reading.specs.Archive.{IsArchiveOf, contents}
 use Rattle.warc_lookup.specs.Indexed.{placed_record, ArePartsOf}
 use Rattle.warc_reading.specs.Row.{Placed, Row}
+use Rattle.warc_replay.specs.KnownSeries.{JoinsLike, IsSharedBy}
 use Rattle.warc_replay.specs.Replaying.{IsOfOrigin, reads_of}
+use Rattle.warc_replay.specs.declared.replay.known_series.Shared.{Shared}
 use Rattle.warc_replay.specs.declared.replay.origin.Origin.{Origin}
 
 -- the place that a row and the digest that a head asks for say
@@ -44,6 +46,7 @@ abbrev pub IsOriginBy : {A : Type 0} → List PlacedRecord → Row → Reading �
 IsOriginBy all row head content_type (Ok o) =
     (o.http ≡ is_http_response head) × (o.content_type.items ≡ content_type)
     × (joined_places all (placed_by row head) ≡ Ok o.places.items)
+    × IsSharedBy all (placed_by row head) o.shared o.places.items
 IsOriginBy all row head content_type (Err (Reason why)) =
     (gap : Gap) × (why ≡ Segments gap) × (joined_places all (placed_by row head) ≡ Err gap)
 IsOriginBy all row head content_type (Err (Out e)) = ⊤
@@ -60,6 +63,12 @@ IsOriginOf all row fields answer = IsOriginBy all row (reading_of fields) (own_t
 -- the places are those of what is joined to the block of a row's record, whatever its head says
 abbrev pub IsPlacedBy : {A : Type 0} → List PlacedRecord → Row → Origin A → Type 0
 IsPlacedBy all row o = (head : Reading) × (joined_places all (placed_by row head) ≡ Ok o.places.items)
+    × IsSharedBy all (placed_by row head) o.shared o.places.items
+
+-- the places are those of a series, if any
+abbrev pub IsOfSeries : List PlacedRecord → Option Shared → List Place → Type 0
+IsOfSeries all None places = ⊤
+IsOfSeries all (Some shared) places = JoinsLike all shared.segment shared.size places shared.rest
 
 -- the rows and the parts are those of an archive of these bytes, and the position is that of a record
 abbrev pub IsRecordAt : List Row → Parts → ℕ → List ℕ → Type 0
@@ -75,6 +84,13 @@ pub record IsOriginAt (records : List Placed) (position : ℕ) (http : Bool) (co
   pub http_is : http ≡ is_http_response (reading_of placed.content.fields)
   pub type_is : content_type ≡ own_type placed.content.fields
   pub places_are : joined_places (map placed_record records) (placed_record placed) ≡ Ok places
+
+-- these places are joined to the block of the record at the position, from this series if it begins one
+pub record IsSharedAt (records : List Placed) (position : ℕ) (shared : Option Shared) (places : List Place)
+    : Type 0 where
+  pub placed : Placed
+  pub there : slice_get records position ≡ Some placed
+  pub is : IsSharedBy (map placed_record records) (placed_record placed) shared places
 
 -- the segments of the record at the position don't join
 pub record IsGapAt (records : List Placed) (position : ℕ) (gap : Gap) : Type 0 where
@@ -99,6 +115,8 @@ pub record FindsOrigin {A : Type 0} (rows : List Row) (parts : Parts) (position 
     (answer : Result (Origin A) ReplayFault) : Type 0 where
   pub reported : IfHeld old.holds (λ bytes. (is : IsArchiveOf bytes rows) → ArePartsOf is.are.records parts
       → IsOriginFound is.are.records position answer)
+  pub shared : IfHeld old.holds (λ bytes. (is : IsArchiveOf bytes rows) → ArePartsOf is.are.records parts
+      → IfOk answer (λ o. IsSharedAt is.are.records position o.shared o.places.items))
   pub reads : IfHeld old.holds (λ bytes. (is : IsArchiveOf bytes rows) → ArePartsOf is.are.records parts
       → ReadsOnly (IsOfOrigin is.are.records (slice_get is.are.records position))
       (reads_of 0 is.are.records (slice_get is.are.records position)) old new)

@@ -1,5 +1,5 @@
 -- What giving a record again answers, and what it reads of the source. This project's own notion.
-use Rattle.std.specs.Prelude.{◌≡◌, ◌↔◌, ℕ, ◌-◌, List, length, slice_get, Option, Some, None, IsSome, Result, Ok, Err, IfOk}
+use Rattle.std.specs.Prelude.{◌≡◌, ◌↔◌, ℕ, List, length, slice_get, Option, Some, None, IsSome, Result, Ok, Err, IfOk}
 use Rattle.warc_frame.specs.Effects.{FailsBy, ReadsOnly}
 use Rattle.warc_frame.specs.Record.{Record}
 use Rattle.warc_frame.specs.Seen.{IfHeld, SeenSource}

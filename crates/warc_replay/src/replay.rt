@@ -6,6 +6,7 @@ pub(crate) mod capture_line;
 pub(crate) mod capture_lines;
 pub(crate) mod captures;
 pub(crate) mod known_gaps;
+pub(crate) mod known_series;
 pub(crate) mod location;
 pub(crate) mod origin;
 pub(crate) mod outcome;

@@ -2,10 +2,10 @@
 ghost use Rattle.std.specs.Prelude.{◌≡◌, ◌∷◌, [], ⊤};
 ghost use Rattle.warc_replay.specs.Captured.{AreVerdictsOf};
 ghost use Rattle.warc_replay.specs.Capturing.{AreFound, AreKnownBlocks, PutsCaptures, RemembersNext, SendsCaptures, ended_after};
-ghost use Rattle.warc_replay.specs.KnownGaps.{AreKnownGaps};
+ghost use Rattle.warc_replay.specs.KnownGaps.{AreKnownSeries};
 
 use crate::replay::capture_line::put_line;
-use crate::replay::captures::{Remembered, outcome_once};
+use crate::replay::captures::{JoinedVerdicts, Remembered, outcome_once};
 use crate::replay::known_gaps::KnownGaps;
 use std::alloc::Allocator;
 use warc_frame::{OutBuffer, OutFault, Sink, Source};
@@ -36,13 +36,13 @@ fn put_next<S: Source, W: Sink, A: Allocator + Copy>(
     buffer: &mut OutBuffer,
     out: &mut W,
 ) -> Result<(), OutFault>
-    requires { AreKnownGaps lookup.now.parts remembered.old.gaps.table }
+    requires { AreKnownSeries lookup.now.parts remembered.old.gaps }
     ensures puts { PutsCaptures (AreFound known.now remembered.old.found) rows.now lookup.now.index lookup.now.parts
         (position ∷ []) (S.seen source.old) (S.seen source.new) (W.seen out.old) (W.seen out.new) buffer.old buffer.new
         result }
     ensures remembers { RemembersNext rows.now lookup.now.index lookup.now.parts known.now remembered.old.found
         remembered.new.found (S.seen source.old) }
-    ensures known { AreKnownGaps lookup.now.parts remembered.new.gaps.table }
+    ensures known { AreKnownSeries lookup.now.parts remembered.new.gaps }
 {
     let outcome = match outcome_once(source, rows, lookup, position, known, remembered) {
         Ok(outcome) => outcome,
@@ -65,7 +65,7 @@ pub fn put_captures<S: Source, W: Sink, A: Allocator + Copy>(
     ensures { PutsCaptures (AreKnownBlocks known.now) rows.now lookup.now.index lookup.now.parts positions.now
         (S.seen source.old) (S.seen source.new) (W.seen out.old) (W.seen out.new) buffer.old buffer.new result }
 {
-    let Ok(found) = Verdicts::unknown(rows.allocator(), rows.len()) else {
+    let Ok(found) = JoinedVerdicts::unknown(rows.allocator(), rows.len()) else {
         return Err(OutFault::Memory(buffer.sent()));
     };
     let gaps = KnownGaps::new(rows.allocator());

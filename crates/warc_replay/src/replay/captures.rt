@@ -4,8 +4,8 @@ ghost use Rattle.warc_frame.specs.Record.{Record};
 ghost use Rattle.warc_record.specs.Kinds.{kind_named};
 ghost use Rattle.warc_answer.specs.Stored.{IsStoredAt};
 ghost use Rattle.warc_replay.specs.Captures.{capture_positions, position_if};
-ghost use Rattle.warc_replay.specs.Capturing.{IsJoinedVerdict, JudgesAll, JudgesEach, JudgesNext, JudgesOne};
-ghost use Rattle.warc_replay.specs.KnownGaps.{AreKnownGaps};
+ghost use Rattle.warc_replay.specs.Capturing.{AreUnknown, IsJoinedVerdict, JudgesAll, JudgesEach, JudgesNext, JudgesOne};
+ghost use Rattle.warc_replay.specs.KnownGaps.{AreKnownSeries};
 ghost use Rattle.warc_replay.specs.Outcomes.{judged_seen};
 
 use crate::replay::answer::path_from;
@@ -73,10 +73,29 @@ fn verdict_by<A: Allocator>(judged: &Result<Stored<A>, Reason>) -> Verdict
     }
 }
 
-/// What was found so far: of the blocks that are joined to each record, and of the series that don't join.
+/// What was found of joined blocks: of all that are joined to the record at a position, and of those after a first
+/// segment's own in the series of the segment at a position.
+#[derive(Drop)]
+pub(crate) struct JoinedVerdicts<A: Allocator> {
+    whole: Verdicts<A>,
+    rest: Verdicts<A>,
+}
+
+impl<A: Allocator + Copy> JoinedVerdicts<A> {
+    /// For this number of records, of which nothing was found.
+    pub(crate) fn unknown(alloc: A, count: usize) -> Result<JoinedVerdicts<A>, AllocError>
+        ensures { IfOk result AreUnknown }
+    {
+        let whole = Verdicts::unknown(alloc, count)?;
+        let rest = Verdicts::unknown(alloc, count)?;
+        Ok(JoinedVerdicts { whole, rest })
+    }
+}
+
+/// What was found so far: of joined blocks, and of series.
 #[derive(Drop)]
 pub(crate) struct Remembered<A: Allocator> {
-    pub(crate) found: Verdicts<A>,
+    pub(crate) found: JoinedVerdicts<A>,
     pub(crate) gaps: KnownGaps<A>,
 }
 
@@ -90,23 +109,24 @@ fn stored_once<S: Source, A: Allocator + Copy>(
     known: &Verdicts<A>,
     remembered: &mut Remembered<A>,
 ) -> Result<Result<Stored<A>, Reason>, OutFault>
-    requires { AreKnownGaps lookup.now.parts remembered.old.gaps.table }
+    requires { AreKnownSeries lookup.now.parts remembered.old.gaps }
     ensures judges { JudgesOne rows.now lookup.now.parts origin known.now remembered.old.found
         remembered.new.found (S.seen source.old) (S.seen source.new) result }
-    ensures known { AreKnownGaps lookup.now.parts remembered.new.gaps.table }
+    ensures known { AreKnownSeries lookup.now.parts remembered.new.gaps }
 {
     let own = known.at(origin);
-    let joined = remembered.found.at(origin);
+    let joined = remembered.found.whole.at(origin);
     let judged = judge_by(
         source,
         rows,
         lookup,
         &mut remembered.gaps,
+        &mut remembered.found.rest,
         origin,
         own,
         joined,
     )?;
-    remembered.found.set(origin, verdict_by(&judged));
+    remembered.found.whole.set(origin, verdict_by(&judged));
     Ok(judged)
 }
 
@@ -120,10 +140,10 @@ pub(crate) fn outcome_once<S: Source, A: Allocator + Copy>(
     known: &Verdicts<A>,
     remembered: &mut Remembered<A>,
 ) -> Result<Outcome<A>, OutFault>
-    requires { AreKnownGaps lookup.now.parts remembered.old.gaps.table }
+    requires { AreKnownSeries lookup.now.parts remembered.old.gaps }
     ensures judges { JudgesNext rows.now lookup.now.index lookup.now.parts position known.now
         remembered.old.found remembered.new.found (S.seen source.old) (S.seen source.new) result }
-    ensures known { AreKnownGaps lookup.now.parts remembered.new.gaps.table }
+    ensures known { AreKnownSeries lookup.now.parts remembered.new.gaps }
 {
     paths_end_inside();
     match path_from(lookup, position) {
@@ -167,7 +187,7 @@ fn judge_each<S: Source, A: Allocator + Copy>(
         (S.seen source.new) result }
 {
     let alloc = rows.allocator();
-    let Ok(found) = Verdicts::unknown(alloc, rows.len()) else {
+    let Ok(found) = JoinedVerdicts::unknown(alloc, rows.len()) else {
         return Err(OutFault::Memory(0));
     };
     let gaps = KnownGaps::new(alloc);

@@ -1,4 +1,4 @@
-//! The gaps of series that were found: a series with a gap is put in order once, however many records have its id.
+//! What is known of series: one with a gap, or one that joins, is put in order once, however many records have its id.
 ghost use Rattle.std.specs.Prelude.{◌≡◌, List, IfSome, map};
 ghost use Rattle.warc_record.specs.Seen.{said};
 ghost use Rattle.warc_record.specs.declared.readings.SegmentNumber.TheVariants.{Number};
@@ -7,29 +7,52 @@ ghost use Rattle.warc_segment.specs.Joining.{IsJoin};
 ghost use Rattle.warc_segment.specs.Kept.{Kept, kept_in};
 ghost use Rattle.warc_segment.specs.Series.{IsMemberAt, series_of};
 ghost use Rattle.warc_segment.specs.declared.gap.Gap.TheVariants.{Total};
-ghost use Rattle.warc_replay.specs.KnownGaps.{AreKnownGaps, IsRecalled, KeepsGap, known_gap_at};
+ghost use Rattle.warc_replay.specs.KnownGaps.{AreKnownSeries, AreKnownGaps, IsRecalled, KeepsGap, known_gap_at};
+ghost use Rattle.warc_replay.specs.KnownSeries.{IsJoinedOnce, JoinsLike};
 
+use crate::replay::known_series::{
+    Joined, KnownSeries, Shared, join_again, keep_known, take_known,
+};
 use std::alloc::Allocator;
 use std::collections::BTreeMap;
+use warc_answer::extent_after;
 use warc_record::{SegmentNumber, Typed};
 use warc_segment::{Gap, JoinFault, Parts, Place};
 
-/// The gaps of series that don't join, by the position of one segment of each, and the length of a first segment.
-/// Without memory for more of them nothing fails: a series is put in order again.
+/// The gaps of series that don't join, by the position of one segment of each, and the length of a first segment; and
+/// the series that join, by that position. Without memory for more of them nothing fails: a series is put in order
+/// again.
 #[derive(Drop)]
 pub(crate) struct KnownGaps<A: Allocator> {
     table: BTreeMap<(usize, u64), Gap, A>,
+    series: BTreeMap<usize, KnownSeries<A>, A>,
 }
 
 impl<A: Allocator + Copy> KnownGaps<A> {
     /// Nothing is known.
     pub(crate) fn new(alloc: A) -> KnownGaps<A>
-        ensures { (parts : Kept) → AreKnownGaps parts result.table }
+        ensures { (parts : Kept) → AreKnownSeries parts result }
     {
         KnownGaps {
             table: BTreeMap::new(alloc),
+            series: BTreeMap::new(alloc),
         }
     }
+}
+
+/// Keeps a series, from which these places are joined.
+pub(crate) fn keep_series<A: Allocator + Copy>(
+    parts: &Parts<A>,
+    gaps: &mut KnownGaps<A>,
+    shared: Shared,
+    places: Vec<Place, A>,
+)
+    requires known { AreKnownSeries parts.now gaps.old }
+    requires series { (all : List PlacedRecord) → parts.now ≡ kept_in all →
+        JoinsLike all shared.segment shared.size places.items shared.rest }
+    ensures { AreKnownSeries parts.now gaps.new }
+{
+    keep_known(&mut gaps.series, shared, places);
 }
 
 /// The length at which a gap is kept that was found after a first segment of this length. Only a wrong total depends on
@@ -91,17 +114,28 @@ fn join_anew<A: Allocator + Copy>(
     typed: &Typed<'_>,
     place: Place,
     segment: usize,
-) -> Result<Vec<Place, A>, JoinFault>
-    requires known { AreKnownGaps parts.now gaps.old.table }
+) -> Result<Joined<A>, JoinFault>
+    requires known { AreKnownSeries parts.now gaps.old }
     requires first { (said typed.now).segment.number ≡ Number 1 }
     requires member { (all : List PlacedRecord) → parts.now ≡ kept_in all →
         IsMemberAt (series_of (said typed.now).id (map piece_placed all)) segment }
     ensures joined { (all : List PlacedRecord) → parts.now ≡ kept_in all →
-        IsJoin result (joined_places all (record { head = said typed.now; place = place })) }
-    ensures known { AreKnownGaps parts.now gaps.new.table }
+        IsJoinedOnce all (record { head = said typed.now; place = place }) result }
+    ensures known { AreKnownSeries parts.now gaps.new }
 {
     match parts.join(typed, place) {
-        Ok(places) => Ok(places),
+        Ok(places) => {
+            let rest = extent_after(&places);
+            let shared = Shared {
+                segment,
+                size: place.len,
+                rest,
+            };
+            Ok(Joined {
+                places,
+                shared: Some(shared),
+            })
+        }
         Err(JoinFault::Memory) => Err(JoinFault::Memory),
         Err(JoinFault::Gap(gap)) => {
             keep(&mut gaps.table, segment, place.len, gap);
@@ -110,28 +144,88 @@ fn join_anew<A: Allocator + Copy>(
     }
 }
 
-/// The places of the blocks that are joined to a record's own, as `Parts::join` gives them. A series whose gap is known
-/// isn't put in order again.
+/// The same, unless the gap is known.
+fn join_first<A: Allocator + Copy>(
+    parts: &Parts<A>,
+    gaps: &mut KnownGaps<A>,
+    typed: &Typed<'_>,
+    place: Place,
+    segment: usize,
+) -> Result<Joined<A>, JoinFault>
+    requires known { AreKnownSeries parts.now gaps.old }
+    requires first { (said typed.now).segment.number ≡ Number 1 }
+    requires member { (all : List PlacedRecord) → parts.now ≡ kept_in all →
+        IsMemberAt (series_of (said typed.now).id (map piece_placed all)) segment }
+    ensures joined { (all : List PlacedRecord) → parts.now ≡ kept_in all →
+        IsJoinedOnce all (record { head = said typed.now; place = place }) result }
+    ensures known { AreKnownSeries parts.now gaps.new }
+{
+    match recalled(&gaps.table, segment, place.len) {
+        Some(gap) => Err(JoinFault::Gap(gap)),
+        None => join_anew(parts, gaps, typed, place, segment),
+    }
+}
+
+/// The same, unless the series is known. It is taken out then: `keep_series` puts it back.
+fn join_known<A: Allocator + Copy>(
+    parts: &Parts<A>,
+    gaps: &mut KnownGaps<A>,
+    typed: &Typed<'_>,
+    place: Place,
+    segment: usize,
+) -> Result<Joined<A>, JoinFault>
+    requires known { AreKnownSeries parts.now gaps.old }
+    requires first { (said typed.now).segment.number ≡ Number 1 }
+    requires member { (all : List PlacedRecord) → parts.now ≡ kept_in all →
+        IsMemberAt (series_of (said typed.now).id (map piece_placed all)) segment }
+    ensures joined { (all : List PlacedRecord) → parts.now ≡ kept_in all →
+        IsJoinedOnce all (record { head = said typed.now; place = place }) result }
+    ensures known { AreKnownSeries parts.now gaps.new }
+{
+    match take_known(&mut gaps.series, segment, place.len) {
+        Ok(None) => join_first(parts, gaps, typed, place, segment),
+        Ok(Some(known)) => Ok(join_again(known, segment, place)),
+        Err(gap) => Err(JoinFault::Gap(gap)),
+    }
+}
+
+/// The places of the blocks that are joined to the own block of a record that begins no series.
+fn join_alone<A: Allocator + Copy>(
+    parts: &Parts<A>,
+    typed: &Typed<'_>,
+    place: Place,
+) -> Result<Joined<A>, JoinFault>
+    ensures { (all : List PlacedRecord) → parts.now ≡ kept_in all →
+        IsJoinedOnce all (record { head = said typed.now; place = place }) result }
+{
+    match parts.join(typed, place) {
+        Ok(places) => Ok(Joined {
+            places,
+            shared: None,
+        }),
+        Err(fault) => Err(fault),
+    }
+}
+
+/// The places of the blocks that are joined to a record's own, as `Parts::join` gives them. A series that is known is
+/// not put in order again.
 pub(crate) fn join_once<A: Allocator + Copy>(
     parts: &Parts<A>,
     gaps: &mut KnownGaps<A>,
     typed: &Typed<'_>,
     place: Place,
-) -> Result<Vec<Place, A>, JoinFault>
-    requires known { AreKnownGaps parts.now gaps.old.table }
+) -> Result<Joined<A>, JoinFault>
+    requires known { AreKnownSeries parts.now gaps.old }
     ensures joined { (all : List PlacedRecord) → parts.now ≡ kept_in all →
-        IsJoin result (joined_places all (record { head = said typed.now; place = place })) }
-    ensures known { AreKnownGaps parts.now gaps.new.table }
+        IsJoinedOnce all (record { head = said typed.now; place = place }) result }
+    ensures known { AreKnownSeries parts.now gaps.new }
 {
     match typed.segment.number {
         SegmentNumber::Number(1) => {}
-        _ => return parts.join(typed, place),
+        _ => return join_alone(parts, typed, place),
     }
     let Some(segment) = parts.segment_of(typed) else {
-        return parts.join(typed, place);
+        return join_alone(parts, typed, place);
     };
-    match recalled(&gaps.table, segment, place.len) {
-        Some(gap) => Err(JoinFault::Gap(gap)),
-        None => join_anew(parts, gaps, typed, place, segment),
-    }
+    join_known(parts, gaps, typed, place, segment)
 }

@@ -11,10 +11,11 @@ ghost use Rattle.warc_record.specs.Heads.{head_fault};
 ghost use Rattle.warc_record.specs.Seen.{said};
 ghost use Rattle.warc_segment.specs.Joined.{PlacedRecord};
 ghost use Rattle.warc_segment.specs.Kept.{kept_in};
-ghost use Rattle.warc_replay.specs.KnownGaps.{AreKnownGaps};
-ghost use Rattle.warc_replay.specs.Origins.{FindsOrigin, IsOriginBy, IsOriginOf, IsPlacedBy, IsUnjoined, place_in};
+ghost use Rattle.warc_replay.specs.KnownGaps.{AreKnownSeries};
+ghost use Rattle.warc_replay.specs.Origins.{FindsOrigin, IsOfSeries, IsOriginBy, IsOriginOf, IsPlacedBy, IsUnjoined, place_in};
 
 use crate::replay::known_gaps::{KnownGaps, join_once};
+use crate::replay::known_series::Shared;
 use std::alloc::Allocator;
 use warc_answer::{Reason, ReplayFault, is_http_response};
 use warc_field::Fields;
@@ -38,6 +39,9 @@ pub(crate) struct Origin<A: Allocator> {
 
     /// The places of the blocks that are joined to its own.
     pub(crate) places: Vec<Place, A>,
+
+    /// The series that they are joined from, if it begins one.
+    pub(crate) shared: Option<Shared>,
 }
 
 /// The value of a record's own `Content-Type`, empty where it has none.
@@ -68,21 +72,22 @@ fn origin_by<A: Allocator + Copy>(
     typed: &Typed<'_>,
     content_type: &[u8],
 ) -> Result<Origin<A>, ReplayFault>
-    requires known { AreKnownGaps parts.now gaps.old.table }
+    requires known { AreKnownSeries parts.now gaps.old }
     ensures made { (all : List PlacedRecord) → parts.now ≡ kept_in all →
         IsOriginBy all row.now (said typed.now) content_type.now result }
     ensures fault { IfErr result IsUnjoined }
-    ensures known { AreKnownGaps parts.now gaps.new.table }
+    ensures known { AreKnownSeries parts.now gaps.new }
 {
     let Ok(content_type) = Vec::from_slice(alloc, content_type) else {
         return Err(ReplayFault::Out(OutFault::Memory(0)));
     };
     let http = is_http_response(typed);
     match join_once(parts, gaps, typed, place_in(row, typed.wanted())) {
-        Ok(places) => Ok(Origin {
+        Ok(joined) => Ok(Origin {
             http,
             content_type,
-            places,
+            places: joined.places,
+            shared: joined.shared,
         }),
         Err(JoinFault::Gap(gap)) => Err(ReplayFault::Reason(Reason::Segments(gap))),
         Err(JoinFault::Memory) => Err(ReplayFault::Out(OutFault::Memory(0))),
@@ -97,14 +102,14 @@ fn origin_by_fields<A: Allocator + Copy>(
     row: &Row<'_>,
     text: &[u8],
 ) -> Result<Origin<A>, ReplayFault>
-    requires known { AreKnownGaps parts.now gaps.old.table }
+    requires known { AreKnownSeries parts.now gaps.old }
     ensures made { (r : Record) → IsHeadText r row.now text.now → head_fault r.fields ≡ None →
         (all : List PlacedRecord) → parts.now ≡ kept_in all → IsOriginOf all row.now r.fields result }
     ensures placed { (all : List PlacedRecord) → parts.now ≡ kept_in all → IfOk result (IsPlacedBy all row.now) }
     ensures fault { (r : Record) → IsHeadText r row.now text.now → head_fault r.fields ≡ None →
         IfErr result IsUnjoined }
     ensures early { IfErr result IsEarly }
-    ensures known { AreKnownGaps parts.now gaps.new.table }
+    ensures known { AreKnownSeries parts.now gaps.new }
 {
     let head = match good_head_in(alloc, text, row.block_len) {
         Ok(head) => head,
@@ -128,14 +133,14 @@ fn origin_in<A: Allocator + Copy>(
     row: &Row<'_>,
     text: &[u8],
 ) -> Result<Origin<A>, ReplayFault>
-    requires known { AreKnownGaps parts.now gaps.old.table }
+    requires known { AreKnownSeries parts.now gaps.old }
     ensures made { (r : Record) → IsHeadText r row.now text.now → head_fault r.fields ≡ None →
         (all : List PlacedRecord) → parts.now ≡ kept_in all → IsOriginOf all row.now r.fields result }
     ensures placed { (all : List PlacedRecord) → parts.now ≡ kept_in all → IfOk result (IsPlacedBy all row.now) }
     ensures fault { (r : Record) → IsHeadText r row.now text.now → head_fault r.fields ≡ None →
         IfErr result IsUnjoined }
     ensures early { IfErr result IsEarly }
-    ensures known { AreKnownGaps parts.now gaps.new.table }
+    ensures known { AreKnownSeries parts.now gaps.new }
 {
     match alone_head(text, row.block_len) {
         Some(head) => origin_by(alloc, parts, gaps, row, &head.typed, head.content_type),
@@ -154,7 +159,7 @@ fn origin_through<S: Source, A: Allocator + Copy>(
     buf: &mut [u8],
 ) -> Result<Origin<A>, ReplayFault>
     requires room { HasRoomFor row.now buf.old }
-    requires known { AreKnownGaps parts.now gaps.old.table }
+    requires known { AreKnownSeries parts.now gaps.old }
     ensures made { IfHeld (S.seen source.old).holds (λ bytes. (is : HasHeadOf row.now bytes) →
         (all : List PlacedRecord) → parts.now ≡ kept_in all →
         IsOriginOf all row.now is.placed.content.fields result) }
@@ -162,7 +167,7 @@ fn origin_through<S: Source, A: Allocator + Copy>(
     ensures early { IfErr result IsEarly }
     ensures reads { ReadsHeads (row.now ∷ []) (S.seen source.old) (S.seen source.new) }
     ensures fails { FailsBy (HasHeadOf row.now) (out_result result) (S.seen source.old) (S.seen source.new) }
-    ensures known { AreKnownGaps parts.now gaps.new.table }
+    ensures known { AreKnownSeries parts.now gaps.new }
 {
     match reread_text(source, row, buf) {
         Ok(len) => origin_in(alloc, parts, gaps, row, &buf[..len]),
@@ -170,8 +175,8 @@ fn origin_through<S: Source, A: Allocator + Copy>(
     }
 }
 
-/// The origin at a position. Its head is read again, and nothing else is. Where the gap of its series is known, the
-/// series isn't put in order again.
+/// The origin at a position. Its head is read again, and nothing else is. A series that is known isn't put in order
+/// again.
 pub(crate) fn origin_once<S: Source, A: Allocator + Copy>(
     source: &mut S,
     rows: &Rows<A>,
@@ -179,9 +184,11 @@ pub(crate) fn origin_once<S: Source, A: Allocator + Copy>(
     gaps: &mut KnownGaps<A>,
     position: usize,
 ) -> Result<Origin<A>, ReplayFault>
-    requires { AreKnownGaps lookup.now.parts gaps.old.table }
+    requires { AreKnownSeries lookup.now.parts gaps.old }
     ensures finds { FindsOrigin rows.now lookup.now.parts position (S.seen source.old) (S.seen source.new) result }
-    ensures known { AreKnownGaps lookup.now.parts gaps.new.table }
+    ensures series { (all : List PlacedRecord) → lookup.now.parts ≡ kept_in all →
+        IfOk result (λ o. IsOfSeries all o.shared o.places.items) }
+    ensures known { AreKnownSeries lookup.now.parts gaps.new }
 {
     head_of_spelled();
     let alloc = rows.allocator();

@@ -3,7 +3,7 @@ use Rattle.warc_frame.specs.Seen.{IfHeld}
 use Rattle.warc_reading.specs.Archive.{IsArchiveOf}
 use Rattle.warc_lookup.specs.Indexed.{AreOf}
 use Rattle.warc_replay.specs.Capturing.{AreFound, AreKnownBlocks, PutsCaptures}
-use Rattle.warc_replay.specs.KnownGaps.{AreKnownGaps}
+use Rattle.warc_replay.specs.KnownGaps.{AreKnownSeries}
 use Rattle.warc_replay.proofs.replay.capture_lines.put_captures.Given as goal
 
 -- the lines so far were put, and what was found of joined blocks and of gaps is right
@@ -13,5 +13,5 @@ invariant-listing g l = record {
       (g.W.Sink.seen l.fn.out) (g.W.Sink.seen l.out) l.fn.buffer l.buffer (Ok tt);
   right : IfHeld ((g.S.Source.seen l.fn.source).holds) (λ bytes. (is : IsArchiveOf bytes l.rows) → AreOf is.are.records l.lookup.index l.lookup.parts
       → AreKnownBlocks l.known is.are.records → AreFound l.known l.remembered.found is.are.records);
-  gaps_known : AreKnownGaps l.lookup.parts l.remembered.gaps.table;
+  gaps_known : AreKnownSeries l.lookup.parts l.remembered.gaps;
 }

@@ -4,7 +4,7 @@ use Rattle.warc_frame.specs.Seen.{IfHeld}
 use Rattle.warc_reading.specs.Archive.{IsArchiveOf}
 use Rattle.warc_lookup.specs.Indexed.{AreOf}
 use Rattle.warc_replay.specs.Capturing.{AreKnownBlocks, AreSoFar}
-use Rattle.warc_replay.specs.KnownGaps.{AreKnownGaps}
+use Rattle.warc_replay.specs.KnownGaps.{AreKnownSeries}
 use Rattle.warc_replay.specs.Replaying.{AsksInside}
 use Rattle.warc_replay.proofs.replay.captures.judge_each.Given as goal
 
@@ -17,5 +17,5 @@ invariant-judging g l = record {
   inside : AsksInside l.rows l.lookup.index l.lookup.parts (g.S.Source.seen l.fn.source) (g.S.Source.seen l.source);
   keeps : Preserves (g.S.Source.seen l.fn.source) (g.S.Source.seen l.source);
   sound : (g.S.Source.seen l.source).faults ≡ (g.S.Source.seen l.fn.source).faults;
-  gaps_known : AreKnownGaps l.lookup.parts l.remembered.gaps.table;
+  gaps_known : AreKnownSeries l.lookup.parts l.remembered.gaps;
 }

@@ -12,7 +12,7 @@ returns-in_err-judged-clause-judges g c =
     let next = c.in_err-judged.ensures.judges in
     rw (p.1, p.2) (record {
       reported = λ bytes held is parts right. tt;
-      remembers = λ bytes held is parts right. right;
+      remembers = λ bytes held is parts right. record { own = right.own; joined = right.joined; rest = next.remembers bytes held is parts right.rest };
       early = next.early;
       inside = next.inside;
       keeps = next.keeps;
@@ -25,11 +25,12 @@ returns-clause-judges g c =
     record {
       reported = λ bytes held is parts right.
           next.reported bytes held is parts (subst (IsBlockVerdict (contents is.are.records) c.args.origin) (sym c.at-own.ensures) (right.own c.args.origin))
-          (subst (IsJoinedVerdict (contents is.are.records) c.args.origin) (sym c.at-joined.ensures) (right.joined c.args.origin));
+          (subst (IsJoinedVerdict (contents is.are.records) c.args.origin) (sym c.at-joined.ensures) (right.joined c.args.origin)) right.rest;
       remembers = λ bytes held is parts right.
           let stored = next.reported bytes held is parts (subst (IsBlockVerdict (contents is.are.records) c.args.origin) (sym c.at-own.ensures) (right.own c.args.origin))
-          (subst (IsJoinedVerdict (contents is.are.records) c.args.origin) (sym c.at-joined.ensures) (right.joined c.args.origin)) in
-          found_now _ _ _ is.are.records c.args.origin c.verdict_by.result c.set.ensures (c.verdict_by.ensures (contents is.are.records) c.args.origin stored) right;
+          (subst (IsJoinedVerdict (contents is.are.records) c.args.origin) (sym c.at-joined.ensures) (right.joined c.args.origin)) right.rest in
+          found_now _ _ _ is.are.records c.args.origin c.verdict_by.result c.set.ensures (c.verdict_by.ensures (contents is.are.records) c.args.origin stored) right
+          (next.remembers bytes held is parts right.rest);
       early = tt;
       inside = next.inside;
       keeps = next.keeps;

@@ -1,4 +1,4 @@
-use Rattle.std.proofs.Common.{refl, sym, ap, subst, ◌∙◌}
+use Rattle.std.proofs.Common.{sym, ap, subst, ◌∙◌}
 use Rattle.warc_answer.specs.Stored.{own_type}
 use Rattle.warc_reading.specs.Rereading.{IsHeadText, ended_by}
 use Rattle.warc_reading.specs.Row.{Row}

@@ -5,6 +5,7 @@ use Rattle.warc_replay.proofs.replay.stored.judge_by.Goals as goal
 pub returns-in-Ok-clause-judges : goal.returns-in-Ok-clause-judges
 returns-in-Ok-clause-judges g c = record {
   reported = c.in-Ok.ensures.looks.reported;
+  remembers = c.in-Ok.ensures.looks.remembers;
   early = tt;
   inside = c.in-Ok.ensures.looks.inside;
   keeps = c.in-Ok.ensures.looks.keeps;
