@@ -48,7 +48,7 @@ def seconds(words: list[str]) -> float:
 def put_floods(folder: str) -> dict[str, tuple[str, str]]:
     """Makes each flood and its half; gives their paths by its name."""
     made = {}
-    kinds = {**floods.GOOD, **floods.REVISITS, **floods.SEGMENTS, **floods.JOINED, **floods.PIECES}
+    kinds = {**floods.GOOD, **floods.REVISITS, **floods.SEGMENTS, **floods.PIECES}
     for number, (name, make) in enumerate(kinds.items()):
         paths = [f"{folder}/flood{number}-{part}.warc" for part in ("half", "whole")]
         for path, size in zip(paths, (SIZE // 2, SIZE)):

@@ -2,7 +2,7 @@
 """Hostile bytes, over twice as many of which a command takes at most 2.5 times the time.
 
 They are heads within heads for `pieces`, and for `captures` and `survey` revisits that lead to one another, and
-segments of one id whose series has a gap.
+segments of one id, whose series joins or has a gap.
 
     python3 tests/stress/floods.py WARC [MEGABYTES]
 
@@ -161,11 +161,8 @@ SEGMENTS: Dict[str, Callable[[int], bytes]] = {
     "segments of one id": many(segment),
     "segments of one id, with a wrong total": series(lambda count: count),
     "segments of one id, first ones of two lengths": series(lambda count: count, (b"x", b"xx")),
-}
-
-# `captures` and `survey` take the square of their number: the series is joined anew for each first segment.
-JOINED: Dict[str, Callable[[int], bytes]] = {
     "segments of one id that join": series(lambda count: count + 1),
+    "segments of one id, of which half join": series(lambda count: count + 1, (b"x", b"xx")),
 }
 
 PIECES: Dict[str, Callable[[int], bytes]] = {
