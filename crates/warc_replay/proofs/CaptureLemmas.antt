@@ -3,7 +3,7 @@ use Rattle.std.proofs.Common.{◌≡◌, ◌⊎◌, append_assoc, codes, decimal
 use Rattle.std.specs.Prelude.{IfErr}
 use Rattle.std.proofs.lemmas.Grind.{flat_map-append}
 use Rattle.std.proofs.lemmas.List.{append-nil, take_more, take-append-drop}
-use Rattle.std.specs.List.{AllByRecursion, concat, slice_get}
+use Rattle.std.specs.List.{AllByRecursion, slice_get}
 use Rattle.warc_value.specs.declared.hash.Verdict.{Verdict}
 use Rattle.warc_frame.specs.Effects.{Preserves}
 use Rattle.warc_frame.specs.Record.{Record}
@@ -22,6 +22,7 @@ use Rattle.warc_lookup.specs.Indexed.{AreOf, indexed_record}
 use Rattle.warc_reading.specs.Row.{Placed, Row}
 use Rattle.warc_replay.specs.Origins.{IsRecordAt}
 use Rattle.warc_answer.specs.declared.answer.Reason.{Reason as Why}
+use Rattle.warc_replay.specs.CaptureColumns.{end_columns, front_columns, middle_columns}
 use Rattle.warc_replay.specs.Captures.{capture_line, captures_text, columns_line, columns_of, date_front, full_date, number_shown, reason_shown}
 use Rattle.warc_judged.specs.Listing.{shown}
 use Rattle.warc_replay.specs.Capturing.{IsIndexedAt, JudgesNext}
@@ -112,14 +113,10 @@ text_front rows os i =
 
 -- ---- a line, from the pieces that it is put together from
 
-abbrev tab : List ℕ
-tab = 9 ∷ []
-
-pub pieces_are : (a b c d e f g h i j k l m : List ℕ)
-    → concat (a ∷ tab ∷ b ∷ tab ∷ c ∷ d ∷ tab ∷ e ∷ tab ∷ f ∷ tab ∷ g ∷ tab ∷ h ∷ tab ∷ i ∷ tab ∷ j ∷ k ∷ l ∷ tab ∷ m ∷ (10 ∷ []) ∷ [])
-    ≡ columns_of a b (c ++ d) e f g h i (j ++ k ++ l) m
+pub parts_are : (a b c d e f g h i j k l m : List ℕ)
+    → front_columns a b c ++ (middle_columns d e f g h i ++ end_columns j k l m) ≡ columns_of a b (c ++ d) e f g h i (j ++ k ++ l) m
 unfolding columns_of
-pieces_are a b c d e f g h i j k l m = simp append_assoc
+parts_are a b c d e f g h i j k l m = simp append_assoc
 
 pub columns_from : (row : Row) (chosen : ℕ) (given status size : Option ℕ) (media : List ℕ) (why : Option Why) (a b c d e f g h i j k l m : List ℕ) → a ≡ decimal chosen → b ≡ row.date
     → c ≡ date_front row.date → d ≡ drop (length c) (codes "0000-01-01T00:00:00.000000000Z") → e ≡ row.kind → f ≡ number_shown given → g ≡ number_shown status → h ≡ shown media

@@ -1,5 +1,6 @@
 pub mod BlocksAgain
 pub mod Bodies
+pub mod CaptureColumns
 pub mod Captured
 pub mod Captures
 pub mod Capturing

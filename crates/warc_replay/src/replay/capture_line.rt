@@ -4,6 +4,7 @@ ghost use Rattle.std.specs.List.{prefix_len};
 ghost use Rattle.warc_answer.specs.Seen.{stored_seen};
 ghost use Rattle.warc_frame.specs.Effects.{Puts, SendsText};
 ghost use Rattle.warc_segment.specs.GapText.{digits_of};
+ghost use Rattle.warc_replay.specs.CaptureColumns.{end_columns, front_columns, middle_columns};
 ghost use Rattle.warc_replay.specs.Captures.{capture_line, captures_text, columns_line, columns_of, date_front, line_by, number_shown, reason_shown};
 ghost use Rattle.warc_replay.specs.Outcomes.{judged_seen, outcome_seen};
 
@@ -11,7 +12,7 @@ use crate::replay::outcome::Outcome;
 use itoa::Buffer;
 use std::alloc::Allocator;
 use warc_answer::{Reason, Stored};
-use warc_frame::{OutBuffer, OutFault, SendFault, Sink, put_all};
+use warc_frame::{OutBuffer, OutFault, SendFault, Sink, put_all, put_columns};
 use warc_judged::shown_as;
 use warc_reading::{Row, Rows};
 
@@ -92,6 +93,53 @@ struct LineTexts<'a> {
     target: &'a [u8],
 }
 
+/// Adds the first two columns and the front of the third to the output.
+fn put_front<W: Sink>(
+    texts: &LineTexts<'_>,
+    buffer: &mut OutBuffer,
+    out: &mut W,
+) -> Result<(), SendFault>
+    ensures { Puts (W.seen out.old) (W.seen out.new) buffer.old buffer.new result
+        (front_columns texts.now.chosen.now texts.now.date.now texts.now.front.now) }
+{
+    put_columns(&[(texts.chosen, b'\t'), (texts.date, b'\t')], buffer, out)?;
+    buffer.put(out, texts.front)
+}
+
+/// Adds the rest of the third column and those up to the reason to the output.
+fn put_middle<W: Sink>(
+    texts: &LineTexts<'_>,
+    buffer: &mut OutBuffer,
+    out: &mut W,
+) -> Result<(), SendFault>
+    ensures { Puts (W.seen out.old) (W.seen out.new) buffer.old buffer.new result
+        (middle_columns texts.now.rest.now texts.now.kind.now texts.now.given.now texts.now.status.now
+        texts.now.media_type.now texts.now.size.now) }
+{
+    let columns = [
+        (texts.rest, b'\t'),
+        (texts.kind, b'\t'),
+        (texts.given, b'\t'),
+        (texts.status, b'\t'),
+        (texts.media_type, b'\t'),
+        (texts.size, b'\t'),
+    ];
+    put_columns(&columns, buffer, out)
+}
+
+/// Adds the last two columns to the output, of which the first is in three parts.
+fn put_end<W: Sink>(
+    texts: &LineTexts<'_>,
+    buffer: &mut OutBuffer,
+    out: &mut W,
+) -> Result<(), SendFault>
+    ensures { Puts (W.seen out.old) (W.seen out.new) buffer.old buffer.new result
+        (end_columns texts.now.name.now texts.now.gap.now texts.now.number.now texts.now.target.now) }
+{
+    put_all(&[texts.name, texts.gap], buffer, out)?;
+    put_columns(&[(texts.number, b'\t'), (texts.target, b'\n')], buffer, out)
+}
+
 /// Adds the line of these texts to the output.
 fn put_texts<W: Sink>(
     texts: &LineTexts<'_>,
@@ -103,32 +151,9 @@ fn put_texts<W: Sink>(
         texts.now.status.now texts.now.media_type.now texts.now.size.now
         (texts.now.name.now ++ texts.now.gap.now ++ texts.now.number.now) texts.now.target.now) }
 {
-    let pieces = [
-        texts.chosen,
-        b"\t",
-        texts.date,
-        b"\t",
-        texts.front,
-        texts.rest,
-        b"\t",
-        texts.kind,
-        b"\t",
-        texts.given,
-        b"\t",
-        texts.status,
-        b"\t",
-        texts.media_type,
-        b"\t",
-        texts.size,
-        b"\t",
-        texts.name,
-        texts.gap,
-        texts.number,
-        b"\t",
-        texts.target,
-        b"\n",
-    ];
-    put_all(&pieces, buffer, out)
+    put_front(texts, buffer, out)?;
+    put_middle(texts, buffer, out)?;
+    put_end(texts, buffer, out)
 }
 
 /// What is said of a capture beside its row: its position, that of its origin, what is stored there, and the reason
