@@ -12,9 +12,11 @@ pub mod JoinedLemmas
 pub mod JudgedLemmas
 pub mod KnownLemmas
 pub mod LocatingLemmas
+pub mod LoneLemmas
 pub mod LookLemmas
 pub mod OriginLemmas
 pub mod PayloadLemmas
 pub mod ReplayLemmas
 pub mod TakeLemmas
 pub mod SeriesLemmas
+pub mod TypeLineLemmas

@@ -12,6 +12,7 @@ pub mod Judged
 pub mod KnownSeries
 pub mod KnownGaps
 pub mod Locating
+pub mod Lone
 pub mod Looking
 pub mod Origins
 pub mod Outcomes
@@ -23,3 +24,4 @@ pub mod Replaying
 pub mod Status
 pub mod TakeText
 pub mod Taking
+pub mod TypeLines

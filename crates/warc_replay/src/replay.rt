@@ -8,6 +8,8 @@ pub(crate) mod captures;
 pub(crate) mod known_gaps;
 pub(crate) mod known_series;
 pub(crate) mod location;
+pub(crate) mod lone;
 pub(crate) mod origin;
 pub(crate) mod outcome;
 pub(crate) mod stored;
+pub(crate) mod type_line;

@@ -10,8 +10,8 @@ ghost use Rattle.warc_replay.specs.Outcomes.{judged_seen};
 
 use crate::replay::answer::path_from;
 use crate::replay::known_gaps::KnownGaps;
+use crate::replay::lone::judge_once;
 use crate::replay::outcome::Outcome;
-use crate::replay::stored::judge_by;
 use std::alloc::{AllocError, Allocator};
 use warc_answer::laws::paths_end_inside;
 use warc_answer::{Reason, Stored};
@@ -116,7 +116,7 @@ fn stored_once<S: Source, A: Allocator + Copy>(
 {
     let own = known.at(origin);
     let joined = remembered.found.whole.at(origin);
-    let judged = judge_by(
+    let judged = judge_once(
         source,
         rows,
         lookup,
