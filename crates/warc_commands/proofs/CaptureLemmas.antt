@@ -1,5 +1,5 @@
 -- How `captures` ends, and the commands that are given a URI in digits.
-use Rattle.std.proofs.Common.{◌≡◌, ◌≤◌, inl, inr, ℕ, Bool, true, false, List, [], ◌∷◌, length, ◌+◌, ◌<◌, ◌^◌, ◌++◌, nat_lt, if◌then◌else◌, append_assoc, take, take_all, map, Option, Some, None, Result, Ok, Err, refl, sym, ap, subst, ◌∙◌, arith, codes}
+use Rattle.std.proofs.Common.{◌≡◌, inl, inr, ℕ, Bool, true, false, List, [], ◌∷◌, length, ◌+◌, ◌<◌, ◌^◌, ◌++◌, nat_lt, if◌then◌else◌, append_assoc, take, take_all, map, Option, Some, None, Result, Ok, Err, refl, sym, ap, subst, ◌∙◌, arith, codes}
 use Rattle.std.specs.Io.KnownBytes.{append_known}
 use Rattle.std.specs.List.{concat}
 use Rattle.std.proofs.lemmas.Bool.{lt-ltb}
@@ -25,7 +25,7 @@ use Rattle.warc_replay.specs.Outcomes.{CaptureSeen}
 use Rattle.warc_arguments.specs.Digits.{uri_named}
 use Rattle.warc_arguments.specs.declared.status.Status.{Status}
 use Rattle.warc_arguments.specs.declared.status.Status.TheVariants.{Failed}
-use Rattle.warc_commands.specs.Captures.{AnswerEnds, AreFrontIn, AreListed, CapturesEnds, CountEnds, WritesListed}
+use Rattle.warc_commands.specs.Captures.{AnswerEnds, AreListed, CapturesEnds, CountEnds, WritesListed}
 use Rattle.warc_commands.specs.Devices.{Devices, devices}
 use Rattle.warc_commands.specs.Program.{Reports, reported_line}
 use Rattle.warc_commands.specs.Uris.{IsStarved, UriEnds, uri_fault_text, uri_listed}

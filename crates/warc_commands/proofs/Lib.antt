@@ -3,6 +3,7 @@ pub mod MakingLemmas
 pub mod ProgramLemmas
 pub mod ReadLemmas
 mod RunLemmas
+pub mod RunsLemmas
 pub mod SalvageLemmas
 mod PayloadLemmas
 mod StoredLemmas

@@ -102,8 +102,8 @@ ClosedEnds except None named old new status =
 
 -- how `select` ends, with `--closed` or without it
 abbrev pub SelectedAs : Bool → Bool → Option ℕ → List ℕ → Devices → Devices → Status → Type 0
-SelectedAs false except bad named old new status = SelectEnds except bad named old new status
-SelectedAs true except bad named old new status = ClosedEnds except bad named old new status
+SelectedAs false = SelectEnds
+SelectedAs true = ClosedEnds
 
 -- heads were read, each byte of them at most once, and then some records, each byte at most once
 pub record ReadsClosed (rows : List Row) (old new : SeenSource) : Type 0 where

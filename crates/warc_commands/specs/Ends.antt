@@ -27,31 +27,30 @@ use Rattle.warc_arguments.specs.declared.command.Command.TheVariants as command
 
 -- how a run of the command ends, by the list that it reads beside its source, if it reads one
 abbrev pub Ends : Command → List ℕ → Devices → Devices → Status → Type 0
-Ends (command.List archive) list old new status = ListEnds old new status
-Ends (command.Check archive) list old new status = CheckEnds old new status
-Ends (command.Extract archive id) list old new status = ExtractEnds id.now old new status
-Ends (command.Replay archive uri date hex stored) list old new status =
-    UriEnds (ReplayedAs stored date.now) hex (uri_named hex uri.now) old new status
-Ends (command.Body archive position stored) list old new status =
-    GivenAs stored (position_of position.now) old new status
-Ends (command.Captures archive uri hex) list old new status =
-    UriEnds CapturesEnds hex (uri_listed hex (option_map (λ u. u.now) uri)) old new status
-Ends (command.Rewrite archive) list old new status = WriteEnds (texts_as Canonical) old new status
-Ends (command.Convert archive) list old new status = WriteEnds (texts_as Converted) old new status
-Ends (command.Split archive size) list old new status = SplitEnds (size_of size.now) old new status
-Ends (command.Select archive positions except closed) list old new status =
-    SelectedAs closed except (bad_line list) (positions_in list) old new status
-Ends (command.Write draft file) list old new status = MakeEnds draft old new status
-Ends (command.Head archive position) list old new status = PartEnds Head (position_of position.now) old new status
-Ends (command.Block archive position) list old new status = PartEnds Block (position_of position.now) old new status
-Ends (command.Fixity archive false) list old new status = FixityEnds old new status
-Ends (command.Fixity archive true) list old new status = PayloadsEnd old new status
-Ends (command.Pieces archive) list old new status = PiecesEnd old new status
-Ends (command.Salvage archive false) list old new status = SalvageEnds old new status
-Ends (command.Salvage archive true) list old new status = SalvageAllEnds old new status
-Ends (command.Summary archive) list old new status = SummaryEnds old new status
-Ends (command.Survey archive) list old new status = SurveyEnds old new status
-Ends (command.Explain number) list old new status = ExplainEnds (explained number.now) old new status
+Ends (command.List archive) list = ListEnds
+Ends (command.Check archive) list = CheckEnds
+Ends (command.Extract archive id) list = ExtractEnds id.now
+Ends (command.Replay archive uri date hex stored) list =
+    UriEnds (ReplayedAs stored date.now) hex (uri_named hex uri.now)
+Ends (command.Body archive position stored) list = GivenAs stored (position_of position.now)
+Ends (command.Captures archive uri hex) list =
+    UriEnds CapturesEnds hex (uri_listed hex (option_map (λ u. u.now) uri))
+Ends (command.Rewrite archive) list = WriteEnds (texts_as Canonical)
+Ends (command.Convert archive) list = WriteEnds (texts_as Converted)
+Ends (command.Split archive size) list = SplitEnds (size_of size.now)
+Ends (command.Select archive positions except closed) list =
+    SelectedAs closed except (bad_line list) (positions_in list)
+Ends (command.Write draft file) list = MakeEnds draft
+Ends (command.Head archive position) list = PartEnds Head (position_of position.now)
+Ends (command.Block archive position) list = PartEnds Block (position_of position.now)
+Ends (command.Fixity archive false) list = FixityEnds
+Ends (command.Fixity archive true) list = PayloadsEnd
+Ends (command.Pieces archive) list = PiecesEnd
+Ends (command.Salvage archive false) list = SalvageEnds
+Ends (command.Salvage archive true) list = SalvageAllEnds
+Ends (command.Summary archive) list = SummaryEnds
+Ends (command.Survey archive) list = SurveyEnds
+Ends (command.Explain number) list = ExplainEnds (explained number.now)
 
 -- the exit statuses of a command that finds nothing by itself
 abbrev pub MayRefuse : Status → Type 0

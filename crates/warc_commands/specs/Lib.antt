@@ -13,6 +13,7 @@ pub mod Pieces
 pub mod Program
 pub mod Reads
 pub mod Running
+pub mod Runs
 pub mod Salvage
 pub mod Selected
 pub mod Stored

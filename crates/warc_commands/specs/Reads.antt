@@ -32,32 +32,32 @@ pub record ReadsForRecord (old new : SeenSource) : Type 0 where
 
 -- what `select` reads: for a closed selection, heads once more
 abbrev pub SelectReads : Bool → SeenSource → SeenSource → Type 0
-SelectReads false old new = ReadsTimes 2 old new
-SelectReads true old new = ReadsTimes 3 old new
+SelectReads false = ReadsTimes 2
+SelectReads true = ReadsTimes 3
 
 -- what a run of the command reads: an archive is opened in one read for each byte, and one, in order; what is written
 -- of it is read again, once, and twice the joined blocks of a body, of which the first time to judge them. A block that
 -- is split is read three times: to judge it, for the digests of its segments, and to be copied. For a closed selection
 -- heads are read again before what is written
 abbrev pub CommandReads : Command → SeenSource → SeenSource → Type 0
-CommandReads (command.List archive) old new = ReadsInOrder old new
-CommandReads (command.Check archive) old new = ReadsInOrder old new
-CommandReads (command.Fixity archive false) old new = ReadsInOrder old new
-CommandReads (command.Fixity archive true) old new = AsksNear old new
-CommandReads (command.Summary archive) old new = ReadsInOrder old new
-CommandReads (command.Extract archive id) old new = ReadsTimes 2 old new
-CommandReads (command.Head archive position) old new = ReadsTimes 2 old new
-CommandReads (command.Block archive position) old new = ReadsTimes 2 old new
-CommandReads (command.Rewrite archive) old new = ReadsTimes 2 old new
-CommandReads (command.Convert archive) old new = ReadsTimes 2 old new
-CommandReads (command.Split archive size) old new = ReadsTimes 4 old new
-CommandReads (command.Replay archive uri date hex stored) old new = ReadsTimes 3 old new
-CommandReads (command.Body archive position stored) old new = ReadsTimes 3 old new
-CommandReads (command.Select archive positions except closed) old new = SelectReads closed old new
-CommandReads (command.Write draft file) old new = ReadsForRecord old new
-CommandReads (command.Captures archive uri hex) old new = AsksNear old new
-CommandReads (command.Survey archive) old new = AsksNear old new
-CommandReads (command.Pieces archive) old new = AsksNear old new
-CommandReads (command.Salvage archive false) old new = ReadsTimes 2 old new
-CommandReads (command.Salvage archive true) old new = AsksNear old new
-CommandReads (command.Explain number) old new = new ≡ old
+CommandReads (command.List archive) = ReadsInOrder
+CommandReads (command.Check archive) = ReadsInOrder
+CommandReads (command.Fixity archive false) = ReadsInOrder
+CommandReads (command.Fixity archive true) = AsksNear
+CommandReads (command.Summary archive) = ReadsInOrder
+CommandReads (command.Extract archive id) = ReadsTimes 2
+CommandReads (command.Head archive position) = ReadsTimes 2
+CommandReads (command.Block archive position) = ReadsTimes 2
+CommandReads (command.Rewrite archive) = ReadsTimes 2
+CommandReads (command.Convert archive) = ReadsTimes 2
+CommandReads (command.Split archive size) = ReadsTimes 4
+CommandReads (command.Replay archive uri date hex stored) = ReadsTimes 3
+CommandReads (command.Body archive position stored) = ReadsTimes 3
+CommandReads (command.Select archive positions except closed) = SelectReads closed
+CommandReads (command.Write draft file) = ReadsForRecord
+CommandReads (command.Captures archive uri hex) = AsksNear
+CommandReads (command.Survey archive) = AsksNear
+CommandReads (command.Pieces archive) = AsksNear
+CommandReads (command.Salvage archive false) = ReadsTimes 2
+CommandReads (command.Salvage archive true) = AsksNear
+CommandReads (command.Explain number) = λ old new. new ≡ old

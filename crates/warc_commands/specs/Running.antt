@@ -54,9 +54,12 @@ pub record IsStopped (why : List ℕ) (old new : Outputs) (status : Status) : Ty
 -- a command was done over a list and a source, which it left in a last state
 pub record IsRunOver (command : Command) (list : List ℕ) (source last : SeenSource) (old new : Outputs)
     (status : Status) : Type 0 where
+  -- the source still holds what it held
   pub kept : last.holds ≡ source.holds
   pub ends : Ends command list (devices source old.out old.err) (devices last new.out new.err) status
+  -- what it asks of the source
   pub reads : CommandReads command source last
+  -- nothing is written where the archive is refused, whatever the source holds, but by `pieces` and `salvage`
   pub silent : writes_front command ≡ false → status ≡ Refused
       → (new.out.reports ≡ old.out.reports) × (new.out.faults ≡ old.out.faults)
   pub answers : IsStatusOf command status

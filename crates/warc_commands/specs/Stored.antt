@@ -92,10 +92,10 @@ StoredReplayEnds uri (Some moment) old new status =
 
 -- how `replay` ends, with `--stored` or without it
 abbrev pub ReplayedAs : Bool → List ℕ → List ℕ → Devices → Devices → Status → Type 0
-ReplayedAs false date uri old new status = ReplayEnds uri (instant_of date) old new status
-ReplayedAs true date uri old new status = StoredReplayEnds uri (instant_of date) old new status
+ReplayedAs false date uri = ReplayEnds uri (instant_of date)
+ReplayedAs true date uri = StoredReplayEnds uri (instant_of date)
 
 -- how `body` ends, with `--stored` or without it
 abbrev pub GivenAs : Bool → Option ℕ → Devices → Devices → Status → Type 0
-GivenAs false position old new status = BodyEnds position old new status
-GivenAs true position old new status = StoredEnds position old new status
+GivenAs false = BodyEnds
+GivenAs true = StoredEnds

@@ -4,14 +4,15 @@ ghost use Rattle.std.specs.List.{concat};
 ghost use Rattle.warc_answer.specs.Seen.{stored_seen};
 ghost use Rattle.warc_answer.specs.Stored.{answer_with};
 ghost use Rattle.warc_replay.specs.Outcomes.{answer_seen};
-ghost use Rattle.warc_commands.specs.Devices.{used};
+ghost use Rattle.warc_commands.specs.Devices.{outputs, used};
 ghost use Rattle.warc_commands.specs.Parts.{position_of};
 ghost use Rattle.warc_commands.specs.Program.{Reports, answer_text};
 ghost use Rattle.warc_commands.specs.Reads.{ReadsTimes};
+ghost use Rattle.warc_commands.specs.Runs.{Runs, run_seen};
 ghost use Rattle.warc_commands.specs.Stored.{StoredEnds, coded_text, stored_line, stored_status, GivenAs};
 ghost use Rattle.warc_commands.specs.Bodies.{BodyEnds, body_line, body_status};
 
-use crate::console::{Console, Ended, Heap, Input, Reporter};
+use crate::console::{Console, Heap, Input, Reporter, Run};
 use crate::parts::position_of;
 use crate::replays::line_of_answer;
 use std::alloc::Allocator;
@@ -28,17 +29,13 @@ impl<W: Sink, E: Sink> Console<W, E> {
         position: &str,
         stored: bool,
         source: S,
-    ) -> Ended<S>
-        ensures ends { GivenAs stored (position_of position.now) (used (S.seen source) W.seen E.seen self.old)
-            (used (S.seen result.1) W.seen E.seen self.new) result.0 }
-
-        // The source still holds what it held.
-        ensures kept { (S.seen result.1).holds ≡ (S.seen source).holds }
-        ensures reads { ReadsTimes 3 (S.seen source) (S.seen result.1) }
+    ) -> Run<S>
+        ensures { Runs (GivenAs stored (position_of position.now)) (ReadsTimes 3)
+            (used (S.seen source) W.seen E.seen self.old) (outputs W.seen E.seen self.new) (run_seen S.seen result) }
     {
         let Some(position) = position_of(position.as_bytes()) else {
             self.err.report("warc: bad position\n");
-            return (Status::Failed, source);
+            return Ok((Status::Failed, source));
         };
         if stored {
             return self.stored_at(alloc, position, source);
@@ -47,37 +44,23 @@ impl<W: Sink, E: Sink> Console<W, E> {
     }
 
     /// Writes the body that the capture at a position gives.
-    fn body_at<A: Heap, S: Input>(&mut self, alloc: A, position: usize, source: S) -> Ended<S>
-        ensures ends { BodyEnds (Some position) (used (S.seen source) W.seen E.seen self.old)
-            (used (S.seen result.1) W.seen E.seen self.new) result.0 }
-
-        // The source still holds what it held.
-        ensures kept { (S.seen result.1).holds ≡ (S.seen source).holds }
-        ensures reads { ReadsTimes 3 (S.seen source) (S.seen result.1) }
+    fn body_at<A: Heap, S: Input>(&mut self, alloc: A, position: usize, source: S) -> Run<S>
+        ensures { Runs (BodyEnds (Some position)) (ReadsTimes 3)
+            (used (S.seen source) W.seen E.seen self.old) (outputs W.seen E.seen self.new) (run_seen S.seen result) }
     {
-        let mut archive = match Archive::open(alloc, source) {
-            Ok(archive) => archive,
-            Err((fault, source)) => return (self.err.refuse(fault), source),
-        };
+        let mut archive = Archive::open(alloc, source)?;
         let answer = archive.replay_at(position, &mut self.out);
-        (self.err.report_body(answer), archive.into_source())
+        Ok((self.err.report_body(answer), archive.into_source()))
     }
 
     /// Writes what is stored of the origin of the capture at a position.
-    fn stored_at<A: Heap, S: Input>(&mut self, alloc: A, position: usize, source: S) -> Ended<S>
-        ensures ends { StoredEnds (Some position) (used (S.seen source) W.seen E.seen self.old)
-            (used (S.seen result.1) W.seen E.seen self.new) result.0 }
-
-        // The source still holds what it held.
-        ensures kept { (S.seen result.1).holds ≡ (S.seen source).holds }
-        ensures reads { ReadsTimes 3 (S.seen source) (S.seen result.1) }
+    fn stored_at<A: Heap, S: Input>(&mut self, alloc: A, position: usize, source: S) -> Run<S>
+        ensures { Runs (StoredEnds (Some position)) (ReadsTimes 3)
+            (used (S.seen source) W.seen E.seen self.old) (outputs W.seen E.seen self.new) (run_seen S.seen result) }
     {
-        let mut archive = match Archive::open(alloc, source) {
-            Ok(archive) => archive,
-            Err((fault, source)) => return (self.err.refuse(fault), source),
-        };
+        let mut archive = Archive::open(alloc, source)?;
         let answer = archive.stored_to(position, &mut self.out);
-        (self.err.report_stored(&answer), archive.into_source())
+        Ok((self.err.report_stored(&answer), archive.into_source()))
     }
 }
 

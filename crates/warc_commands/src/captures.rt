@@ -2,12 +2,13 @@
 ghost use Rattle.std.specs.Prelude.{◌≡◌, Some, None, option_map, true};
 ghost use Rattle.warc_replay.specs.Captured.{IsCaptured};
 ghost use Rattle.warc_commands.specs.Captures.{AnswerEnds, CapturesEnds, WritesListed};
-ghost use Rattle.warc_commands.specs.Devices.{used};
+ghost use Rattle.warc_commands.specs.Devices.{outputs, used};
 ghost use Rattle.warc_commands.specs.Reads.{AsksNear};
+ghost use Rattle.warc_commands.specs.Runs.{Runs, run_seen};
 ghost use Rattle.warc_commands.specs.Uris.{UriEnds, uri_listed};
 ghost use Rattle.warc_lookup.specs.Indexed.{IsIndexed};
 
-use crate::console::{Console, Ended, Heap, Input, Reporter};
+use crate::console::{Console, Heap, Input, Reporter, Run};
 use std::alloc::Allocator;
 use warc::{Archive, Captures};
 use warc_arguments::{Status, UriFault, bytes_of};
@@ -21,14 +22,9 @@ impl<W: Sink, E: Sink> Console<W, E> {
         in_hex: bool,
         uri: Option<&str>,
         source: S,
-    ) -> Ended<S>
-        ensures ends { UriEnds CapturesEnds in_hex (uri_listed in_hex (option_map (λ u. u.now) uri.entry))
-            (used (S.seen source) W.seen E.seen self.old)
-            (used (S.seen result.1) W.seen E.seen self.new) result.0 }
-
-        // The source still holds what it held.
-        ensures kept { (S.seen result.1).holds ≡ (S.seen source).holds }
-        ensures reads { AsksNear (S.seen source) (S.seen result.1) }
+    ) -> Run<S>
+        ensures { Runs (UriEnds CapturesEnds in_hex (uri_listed in_hex (option_map (λ u. u.now) uri.entry))) AsksNear
+            (used (S.seen source) W.seen E.seen self.old) (outputs W.seen E.seen self.new) (run_seen S.seen result) }
     {
         if in_hex {
             return self.captures_in_hex(alloc, uri, source);
@@ -45,56 +41,37 @@ impl<W: Sink, E: Sink> Console<W, E> {
         alloc: A,
         uri: Option<&str>,
         source: S,
-    ) -> Ended<S>
-        ensures ends { UriEnds CapturesEnds true (uri_listed true (option_map (λ u. u.now) uri.entry))
-            (used (S.seen source) W.seen E.seen self.old)
-            (used (S.seen result.1) W.seen E.seen self.new) result.0 }
-
-        // The source still holds what it held.
-        ensures kept { (S.seen result.1).holds ≡ (S.seen source).holds }
-        ensures reads { AsksNear (S.seen source) (S.seen result.1) }
+    ) -> Run<S>
+        ensures { Runs (UriEnds CapturesEnds true (uri_listed true (option_map (λ u. u.now) uri.entry))) AsksNear
+            (used (S.seen source) W.seen E.seen self.old) (outputs W.seen E.seen self.new) (run_seen S.seen result) }
     {
         let Some(word) = uri else {
-            return (self.err.report_uri(UriFault::Digits), source);
+            return Ok((self.err.report_uri(UriFault::Digits), source));
         };
         match bytes_of(alloc, word) {
             Ok(uri) => self.list_captures_of(alloc, &uri, source),
-            Err(fault) => (self.err.report_uri(fault), source),
+            Err(fault) => Ok((self.err.report_uri(fault), source)),
         }
     }
 
     /// Writes a line for each capture. Blocks are judged side by side while the archive is read.
-    fn list_captures<A: Heap, S: Input>(&mut self, alloc: A, source: S) -> Ended<S>
-        ensures ends { CapturesEnds None (used (S.seen source) W.seen E.seen self.old)
-            (used (S.seen result.1) W.seen E.seen self.new) result.0 }
-
-        // The source still holds what it held.
-        ensures kept { (S.seen result.1).holds ≡ (S.seen source).holds }
-        ensures reads { AsksNear (S.seen source) (S.seen result.1) }
+    fn list_captures<A: Heap, S: Input>(&mut self, alloc: A, source: S) -> Run<S>
+        ensures { Runs (CapturesEnds None) AsksNear
+            (used (S.seen source) W.seen E.seen self.old) (outputs W.seen E.seen self.new) (run_seen S.seen result) }
     {
-        let mut captures = match Captures::open(alloc, source) {
-            Ok(captures) => captures,
-            Err((fault, source)) => return (self.err.refuse(fault), source),
-        };
+        let mut captures = Captures::open(alloc, source)?;
         let answer = write_all(&mut captures, &mut self.out);
-        (self.err.report_count(answer), captures.into_source())
+        Ok((self.err.report_count(answer), captures.into_source()))
     }
 
     /// Writes a line for each capture of a URI. No block is hashed but those of these captures.
-    fn list_captures_of<A: Heap, S: Input>(&mut self, alloc: A, uri: &[u8], source: S) -> Ended<S>
-        ensures ends { CapturesEnds (Some uri.now) (used (S.seen source) W.seen E.seen self.old)
-            (used (S.seen result.1) W.seen E.seen self.new) result.0 }
-
-        // The source still holds what it held.
-        ensures kept { (S.seen result.1).holds ≡ (S.seen source).holds }
-        ensures reads { AsksNear (S.seen source) (S.seen result.1) }
+    fn list_captures_of<A: Heap, S: Input>(&mut self, alloc: A, uri: &[u8], source: S) -> Run<S>
+        ensures { Runs (CapturesEnds (Some uri.now)) AsksNear
+            (used (S.seen source) W.seen E.seen self.old) (outputs W.seen E.seen self.new) (run_seen S.seen result) }
     {
-        let mut archive = match Archive::open(alloc, source) {
-            Ok(archive) => archive,
-            Err((fault, source)) => return (self.err.refuse(fault), source),
-        };
+        let mut archive = Archive::open(alloc, source)?;
         let answer = write_of(&mut archive, uri, &mut self.out);
-        (self.err.report_count(answer), archive.into_source())
+        Ok((self.err.report_count(answer), archive.into_source()))
     }
 }
 

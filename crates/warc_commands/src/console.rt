@@ -22,6 +22,9 @@ impl<S: Source + Drop> Input for S {}
 /// How a run ended, and what it read.
 pub type Ended<S> = (Status, S);
 
+/// How a command ended that opens its source, or why the source isn't opened; and the source.
+pub(crate) type Run<S> = Result<Ended<S>, (Fault, S)>;
+
 /// What a run writes to: its output, and lines on what went wrong.
 #[derive(Drop)]
 pub struct Console<W, E> {

@@ -1,12 +1,13 @@
 //! The command that gives the block of the first record with an id.
 ghost use Rattle.std.specs.Prelude.{◌≡◌, ◌≤◌, ◌⊎◌, ◌++◌, length, Some, codes};
 ghost use Rattle.warc_answer.specs.ReasonText.{reason_text};
-ghost use Rattle.warc_commands.specs.Devices.{used};
+ghost use Rattle.warc_commands.specs.Devices.{outputs, used};
 ghost use Rattle.warc_commands.specs.Program.{ExtractEnds, ReplayEnds, Reports, ReportsIf, answer_text, extract_line, extract_status, number_or_dash, replay_line, replay_status, reported_line, yes_or_no};
 ghost use Rattle.warc_commands.specs.Reads.{ReadsTimes};
+ghost use Rattle.warc_commands.specs.Runs.{Runs, run_seen};
 ghost use Rattle.warc_commands.specs.Stored.{ReplayedAs};
 
-use crate::console::{Console, Ended, Heap, Input, LINE, Reporter};
+use crate::console::{Console, Heap, Input, LINE, Reporter, Run};
 use arrayvec::ArrayString;
 use itoa::Buffer;
 use warc::{Archive, ExtractFault};
@@ -17,20 +18,13 @@ use warc_value::{Moment, read_date};
 
 impl<W: Sink, E: Sink> Console<W, E> {
     /// Writes the block of the first record with an id.
-    pub(crate) fn extract<A: Heap, S: Input>(&mut self, alloc: A, id: &str, source: S) -> Ended<S>
-        ensures ends { ExtractEnds id.now (used (S.seen source) W.seen E.seen self.old)
-            (used (S.seen result.1) W.seen E.seen self.new) result.0 }
-
-        // The source still holds what it held.
-        ensures kept { (S.seen result.1).holds ≡ (S.seen source).holds }
-        ensures reads { ReadsTimes 2 (S.seen source) (S.seen result.1) }
+    pub(crate) fn extract<A: Heap, S: Input>(&mut self, alloc: A, id: &str, source: S) -> Run<S>
+        ensures { Runs (ExtractEnds id.now) (ReadsTimes 2)
+            (used (S.seen source) W.seen E.seen self.old) (outputs W.seen E.seen self.new) (run_seen S.seen result) }
     {
-        let mut archive = match Archive::open(alloc, source) {
-            Ok(archive) => archive,
-            Err((fault, source)) => return (self.err.refuse(fault), source),
-        };
+        let mut archive = Archive::open(alloc, source)?;
         let answer = archive.extract(id.as_bytes(), &mut self.out);
-        (self.err.report_extract(answer), archive.into_source())
+        Ok((self.err.report_extract(answer), archive.into_source()))
     }
 }
 

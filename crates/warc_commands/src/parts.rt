@@ -1,10 +1,11 @@
 //! The commands that give a part of the record at a position.
 ghost use Rattle.std.specs.Prelude.{◌≡◌};
-ghost use Rattle.warc_commands.specs.Devices.{used};
+ghost use Rattle.warc_commands.specs.Devices.{outputs, used};
 ghost use Rattle.warc_commands.specs.Parts.{PartEnds, position_of};
 ghost use Rattle.warc_commands.specs.Reads.{ReadsTimes};
+ghost use Rattle.warc_commands.specs.Runs.{Runs, run_seen};
 
-use crate::console::{Console, Ended, Heap, Input};
+use crate::console::{Console, Heap, Input, Run};
 use warc::{Listing, Part};
 use warc_arguments::Status;
 use warc_field::decimal;
@@ -28,23 +29,16 @@ impl<W: Sink, E: Sink> Console<W, E> {
         part: Part,
         position: &str,
         source: S,
-    ) -> Ended<S>
-        ensures ends { PartEnds part (position_of position.now) (used (S.seen source) W.seen E.seen self.old)
-            (used (S.seen result.1) W.seen E.seen self.new) result.0 }
-
-        // The source still holds what it held.
-        ensures kept { (S.seen result.1).holds ≡ (S.seen source).holds }
-        ensures reads { ReadsTimes 2 (S.seen source) (S.seen result.1) }
+    ) -> Run<S>
+        ensures { Runs (PartEnds part (position_of position.now)) (ReadsTimes 2)
+            (used (S.seen source) W.seen E.seen self.old) (outputs W.seen E.seen self.new) (run_seen S.seen result) }
     {
         let Some(position) = position_of(position.as_bytes()) else {
             self.err.report("warc: bad position\n");
-            return (Status::Failed, source);
+            return Ok((Status::Failed, source));
         };
-        let mut archive = match Listing::open(alloc, source) {
-            Ok(archive) => archive,
-            Err((fault, source)) => return (self.err.refuse(fault), source),
-        };
+        let mut archive = Listing::open(alloc, source)?;
         let answer = archive.part_to(position, part, &mut self.out);
-        (self.err.report_extract(answer), archive.into_source())
+        Ok((self.err.report_extract(answer), archive.into_source()))
     }
 }

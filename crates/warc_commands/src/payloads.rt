@@ -1,10 +1,11 @@
 //! The command that lists the payloads that don't have the digest that their records state.
 ghost use Rattle.std.specs.Prelude.{◌≡◌, ◌⊎◌};
-ghost use Rattle.warc_commands.specs.Devices.{used};
+ghost use Rattle.warc_commands.specs.Devices.{outputs, used};
 ghost use Rattle.warc_commands.specs.Payloads.{PayloadLinesEnd, PayloadsEnd, PayloadsListed, payload_status};
 ghost use Rattle.warc_commands.specs.Reads.{AsksNear};
+ghost use Rattle.warc_commands.specs.Runs.{Runs, run_seen};
 
-use crate::console::{Console, Ended, Heap, Input};
+use crate::console::{Console, Heap, Input, Run};
 use std::alloc::Allocator;
 use warc::{PayloadFixity, Payloads};
 use warc_arguments::Status;
@@ -12,23 +13,14 @@ use warc_frame::{OutFault, Sink, Source};
 
 impl<W: Sink, E: Sink> Console<W, E> {
     /// Writes a line for each payload that isn't good, and the counts.
-    pub(crate) fn payloads<A: Heap, S: Input>(&mut self, alloc: A, source: S) -> Ended<S>
-        ensures ends { PayloadsEnd (used (S.seen source) W.seen E.seen self.old)
-            (used (S.seen result.1) W.seen E.seen self.new) result.0 }
-
-        // The source still holds what it held.
-        ensures kept { (S.seen result.1).holds ≡ (S.seen source).holds }
-        ensures reads { AsksNear (S.seen source) (S.seen result.1) }
+    pub(crate) fn payloads<A: Heap, S: Input>(&mut self, alloc: A, source: S) -> Run<S>
+        ensures { Runs PayloadsEnd AsksNear
+            (used (S.seen source) W.seen E.seen self.old) (outputs W.seen E.seen self.new) (run_seen S.seen result) }
     {
-        let mut archive = match PayloadFixity::open(alloc, source) {
-            Ok(archive) => archive,
-            Err((fault, source)) => return (self.err.refuse(fault), source),
-        };
+        let mut archive = PayloadFixity::open(alloc, source)?;
         let judged = archive.judge();
-        (
-            self.report_payloads(&archive, &judged),
-            archive.into_source(),
-        )
+        let status = self.report_payloads(&archive, &judged);
+        Ok((status, archive.into_source()))
     }
 
     /// Writes the lines of payloads, or reports why there are none, and answers the status.

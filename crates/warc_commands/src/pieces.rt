@@ -3,12 +3,13 @@ ghost use Rattle.std.specs.Prelude.{◌≡◌, List, None};
 ghost use Rattle.warc_frame.specs.Effects.{Puts};
 ghost use Rattle.warc_pieces.specs.declared.piece.Piece.{Piece as Given};
 ghost use Rattle.warc_pieces.specs.declared.piece.Piece.TheVariants.{Damage as GivenDamage, Records as GivenRecords};
-ghost use Rattle.warc_commands.specs.Devices.{used};
+ghost use Rattle.warc_commands.specs.Devices.{outputs, used};
 ghost use Rattle.warc_commands.specs.Pieces.{PiecesEnd, ReportsEach, has_damage, piece_line, pieces_status, stop_lines};
 ghost use Rattle.warc_commands.specs.Reads.{AsksNear};
+ghost use Rattle.warc_commands.specs.Runs.{Runs, run_seen};
 ghost use Rattle.warc_commands.specs.Walking.{PutsPieces, SendsPieces};
 
-use crate::console::{Console, Ended, Heap, Input, Reporter};
+use crate::console::{Console, Heap, Input, Reporter, Run};
 use crate::walk::{Found, Step, Tally, next_step};
 use itoa::Buffer;
 use std::alloc::Allocator;
@@ -152,19 +153,12 @@ impl<W: Sink, E: Sink> Console<W, E> {
     }
 
     /// Prints a line for each piece.
-    pub(crate) fn pieces<A: Heap, S: Input>(&mut self, alloc: A, source: S) -> Ended<S>
-        ensures ends { PiecesEnd (used (S.seen source) W.seen E.seen self.old)
-            (used (S.seen result.1) W.seen E.seen self.new) result.0 }
-
-        // The source still holds what it held.
-        ensures kept { (S.seen result.1).holds ≡ (S.seen source).holds }
-        ensures reads { AsksNear (S.seen source) (S.seen result.1) }
+    pub(crate) fn pieces<A: Heap, S: Input>(&mut self, alloc: A, source: S) -> Run<S>
+        ensures { Runs PiecesEnd AsksNear
+            (used (S.seen source) W.seen E.seen self.old) (outputs W.seen E.seen self.new) (run_seen S.seen result) }
     {
-        let mut pieces = match Pieces::new(alloc, source) {
-            Ok(pieces) => pieces,
-            Err((fault, source)) => return (self.err.refuse(fault), source),
-        };
+        let mut pieces = Pieces::new(alloc, source)?;
         let status = self.print(&mut pieces);
-        (status, pieces.into_source())
+        Ok((status, pieces.into_source()))
     }
 }

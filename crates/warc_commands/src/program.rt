@@ -1,12 +1,14 @@
 //! What the program does with a command, a source and a console.
-ghost use Rattle.std.specs.Prelude.{◌≡◌, ◌≤◌, ◌++◌, false};
+ghost use Rattle.std.specs.Prelude.{◌≡◌, false, IfErr, IfOk};
 ghost use Rattle.warc_commands.specs.Ends.{Ends, IsStatusOf, writes_front};
-ghost use Rattle.warc_commands.specs.Program.{FaultEnds, ListEnds, WriteEnds};
-ghost use Rattle.warc_commands.specs.Devices.{used};
+ghost use Rattle.warc_commands.specs.Program.{FaultEnds, ListEnds, WriteEnds, status_of_kind};
+ghost use Rattle.warc_commands.specs.Devices.{outputs, used};
 ghost use Rattle.warc_commands.specs.Reads.{CommandReads, ReadsInOrder, ReadsTimes};
+ghost use Rattle.warc_commands.specs.Running.{IsRunOver};
+ghost use Rattle.warc_commands.specs.Runs.{Runs, run_seen};
 ghost use Rattle.warc_rewrite.specs.Forms.{texts_as};
 
-use crate::console::{Console, Ended, Heap, Input};
+use crate::console::{Console, Ended, Heap, Input, Run};
 use crate::replays::{AsOf, Page};
 use crate::select::Wanted;
 use warc::{Form, Listing, Part};
@@ -27,135 +29,132 @@ pub fn perform<A: Heap, S: Input, W: Sink, E: Sink>(
     source: S,
     console: &mut Console<W, E>,
 ) -> Ended<S>
-    ensures ends { Ends command.now listed.now (used (S.seen source) W.seen E.seen console.old)
-        (used (S.seen result.1) W.seen E.seen console.new) result.0 }
-
-    // The source still holds what it held.
-    ensures kept { (S.seen result.1).holds ≡ (S.seen source).holds }
-
-    // What it asks of the source.
-    ensures reads { CommandReads command.now (S.seen source) (S.seen result.1) }
-
-    // Nothing is written where the archive is refused, whatever the source holds, but by `pieces` and `salvage`.
-    ensures refused { writes_front command.now ≡ false → result.0 ≡ Status.Refused → ((W.seen console.new.out).reports ≡
-        (W.seen console.old.out).reports) × ((W.seen console.new.out).faults ≡ (W.seen console.old.out).faults) }
-    ensures answers { IsStatusOf command.now result.0 }
+    ensures { IsRunOver command.now listed.now (S.seen source) (S.seen result.1) (outputs W.seen E.seen console.old)
+        (outputs W.seen E.seen console.new) result.0 }
 {
-    match command {
-        Command::List { archive: _ } => console.list(alloc, source),
-        Command::Check { archive: _ } => console.check(alloc, source),
-        Command::Extract { archive: _, id } => console.extract(alloc, id, source),
-        Command::Replay {
-            archive: _,
-            uri,
-            date,
-            in_hex,
-            stored,
-        } => {
-            let as_of = AsOf {
-                date,
-                stored: *stored,
-            };
-            let page = Page {
-                uri,
-                in_hex: *in_hex,
-                as_of,
-            };
-            console.replay(alloc, page, source)
-        }
-        Command::Body {
-            archive: _,
-            position,
-            stored,
-        } => console.body(alloc, position, *stored, source),
-        Command::Captures {
-            archive: _,
-            uri,
-            in_hex,
-        } => console.captures(alloc, *in_hex, *uri, source),
-        Command::Rewrite { archive: _ } => console.write_anew(alloc, Form::Canonical, source),
-        Command::Convert { archive: _ } => console.write_anew(alloc, Form::Converted, source),
-        Command::Split { archive: _, size } => console.split(alloc, size, source),
-        Command::Select {
-            archive: _,
-            positions: _,
-            except,
-            closed,
-        } => {
-            let of = Wanted {
-                list: listed,
-                except: *except,
-                closed: *closed,
-            };
-            console.select(alloc, of, source)
-        }
-        Command::Write { draft, file: _ } => console.write(alloc, draft, source),
-        Command::Head {
-            archive: _,
-            position,
-        } => console.give(alloc, Part::Head, position, source),
-        Command::Block {
-            archive: _,
-            position,
-        } => console.give(alloc, Part::Block, position, source),
-        Command::Fixity {
-            archive: _,
-            payload: false,
-        } => console.fixity(alloc, source),
-        Command::Fixity {
-            archive: _,
-            payload: true,
-        } => console.payloads(alloc, source),
-        Command::Pieces { archive: _ } => console.pieces(alloc, source),
-        Command::Salvage {
-            archive: _,
-            all: false,
-        } => console.salvage(alloc, source),
-        Command::Salvage {
-            archive: _,
-            all: true,
-        } => console.salvage_all(alloc, source),
-        Command::Summary { archive: _ } => console.summary(alloc, source),
-        Command::Survey { archive: _ } => console.survey(alloc, source),
-        Command::Explain { number } => console.explain(number, source),
+    match console.carry_out(alloc, command, listed, source) {
+        Ok(ended) => ended,
+        Err((fault, source)) => (console.err.refuse(fault), source),
     }
 }
 
 impl<W: Sink, E: Sink> Console<W, E> {
-    fn list<A: Heap, S: Input>(&mut self, alloc: A, source: S) -> Ended<S>
-        ensures ends { ListEnds (used (S.seen source) W.seen E.seen self.old)
-            (used (S.seen result.1) W.seen E.seen self.new) result.0 }
-
-        // The source still holds what it held.
-        ensures kept { (S.seen result.1).holds ≡ (S.seen source).holds }
-        ensures reads { ReadsInOrder (S.seen source) (S.seen result.1) }
+    /// Does what a command says, up to the report that its source isn't opened.
+    fn carry_out<A: Heap, S: Input>(
+        &mut self,
+        alloc: A,
+        command: &Command<'_>,
+        listed: &[u8],
+        source: S,
+    ) -> Run<S>
+        ensures runs { Runs (Ends command.now listed.now) (CommandReads command.now)
+            (used (S.seen source) W.seen E.seen self.old) (outputs W.seen E.seen self.new) (run_seen S.seen result) }
+        ensures refused { IfOk result (λ it. writes_front command.now ≡ false → it.0 ≡ Status.Refused →
+            ((W.seen self.new.out).reports ≡ (W.seen self.old.out).reports) × ((W.seen self.new.out).faults ≡
+            (W.seen self.old.out).faults)) }
+        ensures answers { IfOk result (λ it. IsStatusOf command.now it.0) }
+        ensures can_refuse { IfErr result (λ it. IsStatusOf command.now (status_of_kind it.0.kind)) }
     {
-        let listing = match Listing::open(alloc, source) {
-            Ok(listing) => listing,
-            Err((fault, source)) => return (self.err.refuse(fault), source),
-        };
+        match command {
+            Command::List { archive: _ } => self.list(alloc, source),
+            Command::Check { archive: _ } => self.check(alloc, source),
+            Command::Extract { archive: _, id } => self.extract(alloc, id, source),
+            Command::Replay {
+                archive: _,
+                uri,
+                date,
+                in_hex,
+                stored,
+            } => {
+                let as_of = AsOf {
+                    date,
+                    stored: *stored,
+                };
+                let page = Page {
+                    uri,
+                    in_hex: *in_hex,
+                    as_of,
+                };
+                self.replay(alloc, page, source)
+            }
+            Command::Body {
+                archive: _,
+                position,
+                stored,
+            } => self.body(alloc, position, *stored, source),
+            Command::Captures {
+                archive: _,
+                uri,
+                in_hex,
+            } => self.captures(alloc, *in_hex, *uri, source),
+            Command::Rewrite { archive: _ } => self.write_anew(alloc, Form::Canonical, source),
+            Command::Convert { archive: _ } => self.write_anew(alloc, Form::Converted, source),
+            Command::Split { archive: _, size } => self.split(alloc, size, source),
+            Command::Select {
+                archive: _,
+                positions: _,
+                except,
+                closed,
+            } => {
+                let of = Wanted {
+                    list: listed,
+                    except: *except,
+                    closed: *closed,
+                };
+                self.select(alloc, of, source)
+            }
+            Command::Write { draft, file: _ } => Ok(self.write(alloc, draft, source)),
+            Command::Head {
+                archive: _,
+                position,
+            } => self.give(alloc, Part::Head, position, source),
+            Command::Block {
+                archive: _,
+                position,
+            } => self.give(alloc, Part::Block, position, source),
+            Command::Fixity {
+                archive: _,
+                payload: false,
+            } => self.fixity(alloc, source),
+            Command::Fixity {
+                archive: _,
+                payload: true,
+            } => self.payloads(alloc, source),
+            Command::Pieces { archive: _ } => self.pieces(alloc, source),
+            Command::Salvage {
+                archive: _,
+                all: false,
+            } => Ok(self.salvage(alloc, source)),
+            Command::Salvage {
+                archive: _,
+                all: true,
+            } => self.salvage_all(alloc, source),
+            Command::Summary { archive: _ } => self.summary(alloc, source),
+            Command::Survey { archive: _ } => self.survey(alloc, source),
+            Command::Explain { number } => Ok(self.explain(number, source)),
+        }
+    }
+
+    fn list<A: Heap, S: Input>(&mut self, alloc: A, source: S) -> Run<S>
+        ensures { Runs ListEnds ReadsInOrder
+            (used (S.seen source) W.seen E.seen self.old) (outputs W.seen E.seen self.new) (run_seen S.seen result) }
+    {
+        let listing = Listing::open(alloc, source)?;
         match listing.list(&mut self.out) {
-            Ok(()) => (Status::Done, listing.into_source()),
-            Err(fault) => (self.err.fail(fault), listing.into_source()),
+            Ok(()) => Ok((Status::Done, listing.into_source())),
+            Err(fault) => Ok((self.err.fail(fault), listing.into_source())),
         }
     }
 
     /// Writes an archive anew in a form.
-    fn write_anew<A: Heap, S: Input>(&mut self, alloc: A, form: Form, source: S) -> Ended<S>
-        ensures ends { WriteEnds (texts_as form) (used (S.seen source) W.seen E.seen self.old)
-            (used (S.seen result.1) W.seen E.seen self.new) result.0 }
-
-        // The source still holds what it held.
-        ensures kept { (S.seen result.1).holds ≡ (S.seen source).holds }
-        ensures reads { ReadsTimes 2 (S.seen source) (S.seen result.1) }
+    fn write_anew<A: Heap, S: Input>(&mut self, alloc: A, form: Form, source: S) -> Run<S>
+        ensures { Runs (WriteEnds (texts_as form)) (ReadsTimes 2)
+            (used (S.seen source) W.seen E.seen self.old) (outputs W.seen E.seen self.new) (run_seen S.seen result) }
     {
-        let mut archive = match Listing::open(alloc, source) {
-            Ok(archive) => archive,
-            Err((fault, source)) => return (self.err.refuse(fault), source),
-        };
+        let mut archive = Listing::open(alloc, source)?;
         match archive.write_as(form, &mut self.out) {
-            Ok(()) => (Status::Done, archive.into_source()),
-            Err(fault) => (self.err.fail(fault), archive.into_source()),
+            Ok(()) => Ok((Status::Done, archive.into_source())),
+            Err(fault) => Ok((self.err.fail(fault), archive.into_source())),
         }
     }
 }

@@ -2,13 +2,14 @@
 ghost use Rattle.std.specs.Prelude.{◌≡◌, ◌≤◌, ◌++◌, codes, length, Some, true};
 ghost use Rattle.warc_answer.specs.ReasonText.{reason_text};
 ghost use Rattle.warc_arguments.specs.Digits.{uri_named};
-ghost use Rattle.warc_commands.specs.Devices.{used};
+ghost use Rattle.warc_commands.specs.Devices.{outputs, used};
 ghost use Rattle.warc_commands.specs.Program.{ReplayEnds, Reports, answer_text, number_or_dash, replay_line, replay_status, reported_line, yes_or_no};
 ghost use Rattle.warc_commands.specs.Reads.{ReadsTimes};
+ghost use Rattle.warc_commands.specs.Runs.{Runs, run_seen};
 ghost use Rattle.warc_commands.specs.Stored.{ReplayedAs, StoredReplayEnds};
 ghost use Rattle.warc_commands.specs.Uris.{UriEnds, uri_fault_text};
 
-use crate::console::{Console, Ended, Heap, Input, LINE, Reporter};
+use crate::console::{Console, Heap, Input, LINE, Reporter, Run};
 use arrayvec::ArrayString;
 use itoa::Buffer;
 use warc::Archive;
@@ -34,14 +35,10 @@ pub(crate) struct Page<'a> {
 
 impl<W: Sink, E: Sink> Console<W, E> {
     /// Writes the body for the URI that a word names, as of the first instant of a date.
-    pub(crate) fn replay<A: Heap, S: Input>(&mut self, alloc: A, page: Page, source: S) -> Ended<S>
-        ensures ends { UriEnds (ReplayedAs page.entry.as_of.stored page.entry.as_of.date.now) page.entry.in_hex
-            (uri_named page.entry.in_hex page.entry.uri.now) (used (S.seen source) W.seen E.seen self.old)
-            (used (S.seen result.1) W.seen E.seen self.new) result.0 }
-
-        // The source still holds what it held.
-        ensures kept { (S.seen result.1).holds ≡ (S.seen source).holds }
-        ensures reads { ReadsTimes 3 (S.seen source) (S.seen result.1) }
+    pub(crate) fn replay<A: Heap, S: Input>(&mut self, alloc: A, page: Page, source: S) -> Run<S>
+        ensures { Runs (UriEnds (ReplayedAs page.entry.as_of.stored page.entry.as_of.date.now) page.entry.in_hex
+            (uri_named page.entry.in_hex page.entry.uri.now)) (ReadsTimes 3)
+            (used (S.seen source) W.seen E.seen self.old) (outputs W.seen E.seen self.new) (run_seen S.seen result) }
     {
         if page.in_hex {
             return self.replay_in_hex(alloc, page, source);
@@ -50,18 +47,14 @@ impl<W: Sink, E: Sink> Console<W, E> {
     }
 
     /// Writes the body for the URI whose digits a word has, as of the first instant of a date.
-    fn replay_in_hex<A: Heap, S: Input>(&mut self, alloc: A, page: Page, source: S) -> Ended<S>
-        ensures ends { UriEnds (ReplayedAs page.entry.as_of.stored page.entry.as_of.date.now) true
-            (uri_named true page.entry.uri.now) (used (S.seen source) W.seen E.seen self.old)
-            (used (S.seen result.1) W.seen E.seen self.new) result.0 }
-
-        // The source still holds what it held.
-        ensures kept { (S.seen result.1).holds ≡ (S.seen source).holds }
-        ensures reads { ReadsTimes 3 (S.seen source) (S.seen result.1) }
+    fn replay_in_hex<A: Heap, S: Input>(&mut self, alloc: A, page: Page, source: S) -> Run<S>
+        ensures { Runs (UriEnds (ReplayedAs page.entry.as_of.stored page.entry.as_of.date.now) true
+            (uri_named true page.entry.uri.now)) (ReadsTimes 3)
+            (used (S.seen source) W.seen E.seen self.old) (outputs W.seen E.seen self.new) (run_seen S.seen result) }
     {
         match bytes_of(alloc, page.uri) {
             Ok(bytes) => self.replay_of(alloc, &bytes, page.as_of, source),
-            Err(fault) => (self.err.report_uri(fault), source),
+            Err(fault) => Ok((self.err.report_uri(fault), source)),
         }
     }
 
@@ -72,17 +65,13 @@ impl<W: Sink, E: Sink> Console<W, E> {
         uri: &[u8],
         as_of: AsOf,
         source: S,
-    ) -> Ended<S>
-        ensures ends { ReplayedAs as_of.entry.stored as_of.entry.date.now uri.now
-            (used (S.seen source) W.seen E.seen self.old) (used (S.seen result.1) W.seen E.seen self.new) result.0 }
-
-        // The source still holds what it held.
-        ensures kept { (S.seen result.1).holds ≡ (S.seen source).holds }
-        ensures reads { ReadsTimes 3 (S.seen source) (S.seen result.1) }
+    ) -> Run<S>
+        ensures { Runs (ReplayedAs as_of.entry.stored as_of.entry.date.now uri.now) (ReadsTimes 3)
+            (used (S.seen source) W.seen E.seen self.old) (outputs W.seen E.seen self.new) (run_seen S.seen result) }
     {
         let Some(moment) = read_date(as_of.date.as_bytes()) else {
             self.err.report("warc: bad date\n");
-            return (Status::Failed, source);
+            return Ok((Status::Failed, source));
         };
         if as_of.stored {
             return self.stored_as_of(alloc, uri, &moment, source);
@@ -97,20 +86,13 @@ impl<W: Sink, E: Sink> Console<W, E> {
         uri: &[u8],
         moment: &Moment,
         source: S,
-    ) -> Ended<S>
-        ensures ends { ReplayEnds uri.now (Some moment.now) (used (S.seen source) W.seen E.seen self.old)
-            (used (S.seen result.1) W.seen E.seen self.new) result.0 }
-
-        // The source still holds what it held.
-        ensures kept { (S.seen result.1).holds ≡ (S.seen source).holds }
-        ensures reads { ReadsTimes 3 (S.seen source) (S.seen result.1) }
+    ) -> Run<S>
+        ensures { Runs (ReplayEnds uri.now (Some moment.now)) (ReadsTimes 3)
+            (used (S.seen source) W.seen E.seen self.old) (outputs W.seen E.seen self.new) (run_seen S.seen result) }
     {
-        let mut archive = match Archive::open(alloc, source) {
-            Ok(archive) => archive,
-            Err((fault, source)) => return (self.err.refuse(fault), source),
-        };
+        let mut archive = Archive::open(alloc, source)?;
         let answer = archive.replay(uri, moment, &mut self.out);
-        (self.err.report_replay(answer), archive.into_source())
+        Ok((self.err.report_replay(answer), archive.into_source()))
     }
 
     /// Writes what is stored for a URI as of a moment: of the origin of the capture that is chosen.
@@ -120,27 +102,20 @@ impl<W: Sink, E: Sink> Console<W, E> {
         uri: &[u8],
         moment: &Moment,
         source: S,
-    ) -> Ended<S>
-        ensures ends { StoredReplayEnds uri.now (Some moment.now) (used (S.seen source) W.seen E.seen self.old)
-            (used (S.seen result.1) W.seen E.seen self.new) result.0 }
-
-        // The source still holds what it held.
-        ensures kept { (S.seen result.1).holds ≡ (S.seen source).holds }
-        ensures reads { ReadsTimes 3 (S.seen source) (S.seen result.1) }
+    ) -> Run<S>
+        ensures { Runs (StoredReplayEnds uri.now (Some moment.now)) (ReadsTimes 3)
+            (used (S.seen source) W.seen E.seen self.old) (outputs W.seen E.seen self.new) (run_seen S.seen result) }
     {
-        let mut archive = match Archive::open(alloc, source) {
-            Ok(archive) => archive,
-            Err((fault, source)) => return (self.err.refuse(fault), source),
-        };
+        let mut archive = Archive::open(alloc, source)?;
         match archive.chosen(uri, moment) {
             Ok(position) => {
                 let answer = archive.stored_to(position, &mut self.out);
-                (self.err.report_stored(&answer), archive.into_source())
+                Ok((self.err.report_stored(&answer), archive.into_source()))
             }
             Err(unfound) => {
                 let reason = Reason::NotFound(unfound);
                 let status = self.err.report_replay(Err(ReplayFault::Reason(reason)));
-                (status, archive.into_source())
+                Ok((status, archive.into_source()))
             }
         }
     }

@@ -5,11 +5,11 @@ ghost use Rattle.std.specs.Result.{result_map_both};
 ghost use Rattle.std.specs.IoError.{error_kind};
 ghost use Rattle.warc_commands.specs.Devices.{outputs_of, outputs};
 ghost use Rattle.warc_commands.specs.Program.{Reports, reported_line};
-ghost use Rattle.warc_commands.specs.Running.{Offer, CommandEnds, IsListAt, IsListCut, IsListOf, IsRunInMemory, IsRunOver, LacksList, MemoryEnds, RunsOver, PipeEnds, ReadsFile, ReadsInput, ReadsInto, ReadsMemory, RunEnds, command_place, is_input, max_input, names_input_twice, opened, place_at, redirected, run_left, stop_text, streamed};
+ghost use Rattle.warc_commands.specs.Running.{Offer, CommandEnds, IsListAt, IsListCut, IsListOf, IsRunInMemory, LacksList, MemoryEnds, RunsOver, PipeEnds, ReadsFile, ReadsInput, ReadsInto, ReadsMemory, RunEnds, command_place, is_input, max_input, names_input_twice, opened, place_at, redirected, run_left, stop_text, streamed};
 ghost use Rattle.warc_arguments.specs.Command.{list_word, reads_once};
 ghost use Rattle.warc_frame.specs.Seen.{IfHeld, Seen};
 
-use crate::console::{Console, Ended, Input, Reporter, line_of};
+use crate::console::{Console, Ended, Reporter, line_of};
 use crate::program::{perform, refuse};
 use crate::write::read_front;
 use std::alloc::Global;
@@ -197,7 +197,7 @@ impl<W: Sink, E: Sink> Console<W, E> {
     {
         match list_of(alloc, system, command, &mut self.err) {
             Ok(list) => {
-                let (status, file) = self.run_over(alloc, command, &list, file);
+                let (status, file) = perform(alloc, command, &list, file, self);
                 (status, RunSource::File(file))
             }
             Err(stopped) => stopped,
@@ -308,7 +308,7 @@ impl<W: Sink, E: Sink> Console<W, E> {
             (outputs W.seen E.seen self.old) (outputs W.seen E.seen self.new) result.0 }
     {
         if command.reads_once() {
-            let (status, stream) = self.run_over(alloc, command, &[], system.stream());
+            let (status, stream) = perform(alloc, command, &[], system.stream(), self);
             (status, RunSource::Stream(stream))
         } else {
             self.run_memory(alloc, system, command, TOO_LONG)
@@ -389,22 +389,8 @@ impl<W: Sink, E: Sink> Console<W, E> {
             (outputs W.seen E.seen self.new) result }
     {
         let source = MemSource::new(bytes, usize::MAX);
-        let (status, _) = self.run_over(alloc, command, list, source);
+        let (status, _) = perform(alloc, command, list, source, self);
         status
-    }
-
-    /// Does what a command says, over a list and a source, and gives the source back.
-    fn run_over<S: Input>(
-        &mut self,
-        alloc: Global,
-        command: &Command<'_>,
-        list: &[u8],
-        source: S,
-    ) -> Ended<S>
-        ensures { IsRunOver command.now list.now (S.seen source) (S.seen result.1) (outputs W.seen E.seen self.old)
-            (outputs W.seen E.seen self.new) result.0 }
-    {
-        perform(alloc, command, list, source, self)
     }
 }
 

@@ -3,13 +3,14 @@ ghost use Rattle.std.specs.Prelude.{◌≡◌, ◌<◌, ◌++◌, List, [], ◌�
 ghost use Rattle.warc_frame.specs.Effects.{Emits, IsOfDevice};
 ghost use Rattle.warc_pieces.specs.Laws.{is_damage};
 ghost use Rattle.warc_pieces.specs.declared.piece.Piece.{Piece as Given};
-ghost use Rattle.warc_commands.specs.Devices.{used};
+ghost use Rattle.warc_commands.specs.Devices.{outputs, used};
 ghost use Rattle.warc_commands.specs.Pieces.{SalvageAllEnds, ReportsEach, damage_line, damage_lines, pieces_status, salvaged_line, stop_lines};
 ghost use Rattle.warc_commands.specs.Reads.{AsksNear};
+ghost use Rattle.warc_commands.specs.Runs.{Runs, run_seen};
 ghost use Rattle.warc_commands.specs.Program.{Reports};
 ghost use Rattle.warc_commands.specs.Walking.{CopiesPieces, IsGoodOf, IsTallyOf, ReadsGood, SendsRuns};
 
-use crate::console::{Console, Ended, Heap, Input, LINE, Reporter};
+use crate::console::{Console, Heap, Input, LINE, Reporter, Run};
 use crate::walk::{Found, Step, Tally, next_step};
 use arrayvec::ArrayString;
 use itoa::Buffer;
@@ -167,19 +168,12 @@ impl<W: Sink, E: Sink> Console<W, E> {
     }
 
     /// Writes all good records, byte for byte.
-    pub(crate) fn salvage_all<A: Heap, S: Input>(&mut self, alloc: A, source: S) -> Ended<S>
-        ensures ends { SalvageAllEnds (used (S.seen source) W.seen E.seen self.old)
-            (used (S.seen result.1) W.seen E.seen self.new) result.0 }
-
-        // The source still holds what it held.
-        ensures kept { (S.seen result.1).holds ≡ (S.seen source).holds }
-        ensures reads { AsksNear (S.seen source) (S.seen result.1) }
+    pub(crate) fn salvage_all<A: Heap, S: Input>(&mut self, alloc: A, source: S) -> Run<S>
+        ensures { Runs SalvageAllEnds AsksNear
+            (used (S.seen source) W.seen E.seen self.old) (outputs W.seen E.seen self.new) (run_seen S.seen result) }
     {
-        let mut pieces = match Pieces::new(alloc, source) {
-            Ok(pieces) => pieces,
-            Err((fault, source)) => return (self.err.refuse(fault), source),
-        };
+        let mut pieces = Pieces::new(alloc, source)?;
         let status = self.salvage_pieces(&mut pieces);
-        (status, pieces.into_source())
+        Ok((status, pieces.into_source()))
     }
 }

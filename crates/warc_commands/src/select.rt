@@ -2,13 +2,14 @@
 ghost use Rattle.std.specs.Prelude.{◌≡◌, ◌<◌, ◌≤◌, ◌++◌, All, IfOk, None, [], decimal, length};
 ghost use Rattle.warc_rewrite.specs.Selecting.{ArePositions, ReadsRecords, at_positions};
 ghost use Rattle.warc_commands.specs.Closed.{SelectedAs};
-ghost use Rattle.warc_commands.specs.Devices.{used};
+ghost use Rattle.warc_commands.specs.Devices.{outputs, used};
 ghost use Rattle.warc_commands.specs.Named.{bad_line, positions_in};
 ghost use Rattle.warc_commands.specs.Program.{Reports, reported_line};
 ghost use Rattle.warc_commands.specs.Reads.{ReadsTimes, SelectReads};
+ghost use Rattle.warc_commands.specs.Runs.{Runs, run_seen};
 ghost use Rattle.warc_commands.specs.Selected.{AreWanted, ChosenEnds, ReadsSome, SelectEnds, SendEnds, list_fault_text};
 
-use crate::console::{Console, Ended, Heap, Input, LINE, Reporter};
+use crate::console::{Console, Heap, Input, LINE, Reporter, Run};
 use crate::lists::{ListFault, first_absent, put_in_order, read_list};
 use arrayvec::ArrayString;
 use itoa::Buffer;
@@ -28,18 +29,14 @@ pub(crate) struct Wanted<'a> {
 
 impl<W: Sink, E: Sink> Console<W, E> {
     /// Writes the records at the positions that a list names, or all others, byte for byte.
-    pub(crate) fn select<A: Heap, S: Input>(&mut self, alloc: A, of: Wanted, source: S) -> Ended<S>
-        ensures ends { SelectedAs of.entry.closed of.entry.except (bad_line of.entry.list.now)
-            (positions_in of.entry.list.now)
-            (used (S.seen source) W.seen E.seen self.old) (used (S.seen result.1) W.seen E.seen self.new) result.0 }
-
-        // The source still holds what it held.
-        ensures kept { (S.seen result.1).holds ≡ (S.seen source).holds }
-        ensures reads { SelectReads of.entry.closed (S.seen source) (S.seen result.1) }
+    pub(crate) fn select<A: Heap, S: Input>(&mut self, alloc: A, of: Wanted, source: S) -> Run<S>
+        ensures { Runs (SelectedAs of.entry.closed of.entry.except (bad_line of.entry.list.now)
+            (positions_in of.entry.list.now)) (SelectReads of.entry.closed)
+            (used (S.seen source) W.seen E.seen self.old) (outputs W.seen E.seen self.new) (run_seen S.seen result) }
     {
         let named = match read_list(alloc, of.list) {
             Ok(named) => named,
-            Err(fault) => return (self.err.report_list(fault), source),
+            Err(fault) => return Ok((self.err.report_list(fault), source)),
         };
         if of.closed {
             return self.select_closed(alloc, named, of.except, source);
@@ -54,20 +51,13 @@ impl<W: Sink, E: Sink> Console<W, E> {
         named: Vec<usize, A>,
         except: bool,
         source: S,
-    ) -> Ended<S>
-        ensures ends { SelectEnds except None named.items (used (S.seen source) W.seen E.seen self.old)
-            (used (S.seen result.1) W.seen E.seen self.new) result.0 }
-
-        // The source still holds what it held.
-        ensures kept { (S.seen result.1).holds ≡ (S.seen source).holds }
-        ensures reads { ReadsTimes 2 (S.seen source) (S.seen result.1) }
+    ) -> Run<S>
+        ensures { Runs (SelectEnds except None named.items) (ReadsTimes 2)
+            (used (S.seen source) W.seen E.seen self.old) (outputs W.seen E.seen self.new) (run_seen S.seen result) }
     {
-        let mut archive = match Listing::open(alloc, source) {
-            Ok(archive) => archive,
-            Err((fault, source)) => return (self.err.refuse(fault), source),
-        };
+        let mut archive = Listing::open(alloc, source)?;
         let status = self.write_named(&mut archive, named, except);
-        (status, archive.into_source())
+        Ok((status, archive.into_source()))
     }
 
     /// Writes the records of an archive at these positions, or all others, if each position has a record.

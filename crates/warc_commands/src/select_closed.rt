@@ -4,12 +4,13 @@ ghost use Rattle.warc_frame.specs.Seen.{IfHeld};
 ghost use Rattle.warc_lookup.specs.Indexed.{IsIndexed};
 ghost use Rattle.warc_rewrite.specs.Selecting.{ArePositions, ReadsRecords, at_positions};
 ghost use Rattle.warc_commands.specs.Closed.{ClosedEnds, ClosureEnds, GivesClosed, NamedEnds, ReadsClosed, beside, beside_text};
-ghost use Rattle.warc_commands.specs.Devices.{used};
+ghost use Rattle.warc_commands.specs.Devices.{outputs, used};
 ghost use Rattle.warc_commands.specs.Program.{Reports};
 ghost use Rattle.warc_commands.specs.Reads.{ReadsTimes};
+ghost use Rattle.warc_commands.specs.Runs.{Runs, run_seen};
 ghost use Rattle.warc_commands.specs.Selected.{SendEnds, selected_line};
 
-use crate::console::{Console, Ended, Heap, Input, LINE, Reporter};
+use crate::console::{Console, Heap, Input, LINE, Reporter, Run};
 use crate::lists::{first_absent, put_in_order};
 use arrayvec::ArrayString;
 use itoa::Buffer;
@@ -26,20 +27,13 @@ impl<W: Sink, E: Sink> Console<W, E> {
         named: Vec<usize, A>,
         except: bool,
         source: S,
-    ) -> Ended<S>
-        ensures ends { ClosedEnds except None named.items (used (S.seen source) W.seen E.seen self.old)
-            (used (S.seen result.1) W.seen E.seen self.new) result.0 }
-
-        // The source still holds what it held.
-        ensures kept { (S.seen result.1).holds ≡ (S.seen source).holds }
-        ensures reads { ReadsTimes 3 (S.seen source) (S.seen result.1) }
+    ) -> Run<S>
+        ensures { Runs (ClosedEnds except None named.items) (ReadsTimes 3)
+            (used (S.seen source) W.seen E.seen self.old) (outputs W.seen E.seen self.new) (run_seen S.seen result) }
     {
-        let mut archive = match Archive::open(alloc, source) {
-            Ok(archive) => archive,
-            Err((fault, source)) => return (self.err.refuse(fault), source),
-        };
+        let mut archive = Archive::open(alloc, source)?;
         let status = self.write_closed(&mut archive, named, except);
-        (status, archive.into_source())
+        Ok((status, archive.into_source()))
     }
 
     /// Writes what these positions name of an archive, if each has a record.

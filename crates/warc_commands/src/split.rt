@@ -1,10 +1,11 @@
 //! What the program does to split the records of an archive.
 ghost use Rattle.std.specs.Prelude.{◌≡◌, ◌⊎◌};
-ghost use Rattle.warc_commands.specs.Devices.{used};
+ghost use Rattle.warc_commands.specs.Devices.{outputs, used};
 ghost use Rattle.warc_commands.specs.Program.{SplitEnds, size_of};
 ghost use Rattle.warc_commands.specs.Reads.{ReadsTimes};
+ghost use Rattle.warc_commands.specs.Runs.{Runs, run_seen};
 
-use crate::console::{Console, Ended, Heap, Input};
+use crate::console::{Console, Heap, Input, Run};
 use warc::Listing;
 use warc_arguments::Status;
 use warc_field::decimal;
@@ -22,25 +23,18 @@ fn size_of(word: &[u8]) -> Option<u64>
 
 impl<W: Sink, E: Sink> Console<W, E> {
     /// Writes an archive anew, with its records split into segments of as many bytes as a word says.
-    pub(crate) fn split<A: Heap, S: Input>(&mut self, alloc: A, size: &str, source: S) -> Ended<S>
-        ensures ends { SplitEnds (size_of size.now) (used (S.seen source) W.seen E.seen self.old)
-            (used (S.seen result.1) W.seen E.seen self.new) result.0 }
-
-        // The source still holds what it held.
-        ensures kept { (S.seen result.1).holds ≡ (S.seen source).holds }
-        ensures reads { ReadsTimes 4 (S.seen source) (S.seen result.1) }
+    pub(crate) fn split<A: Heap, S: Input>(&mut self, alloc: A, size: &str, source: S) -> Run<S>
+        ensures { Runs (SplitEnds (size_of size.now)) (ReadsTimes 4)
+            (used (S.seen source) W.seen E.seen self.old) (outputs W.seen E.seen self.new) (run_seen S.seen result) }
     {
         let Some(size) = size_of(size.as_bytes()) else {
             self.err.report("warc: bad size\n");
-            return (Status::Failed, source);
+            return Ok((Status::Failed, source));
         };
-        let mut archive = match Listing::open(alloc, source) {
-            Ok(archive) => archive,
-            Err((fault, source)) => return (self.err.refuse(fault), source),
-        };
+        let mut archive = Listing::open(alloc, source)?;
         match archive.split(size, &mut self.out) {
-            Ok(()) => (Status::Done, archive.into_source()),
-            Err(fault) => (self.err.fail(fault), archive.into_source()),
+            Ok(()) => Ok((Status::Done, archive.into_source())),
+            Err(fault) => Ok((self.err.fail(fault), archive.into_source())),
         }
     }
 }
