@@ -1,5 +1,5 @@
 -- How a run of the program ends: what went to its two sinks, and its exit status.
-use Rattle.std.specs.Prelude.{◌≡◌, ℕ, ◌+◌, ◌^◌, ◌<◌, ◌≤◌, Bool, List, [], ◌∷◌, ◌++◌, length, take, codes, decimal, Option, Some, None, Result, Ok, Err, ◌⊎◌, true, false, ◌&&◌, nat_le, nat_lt, option_and_then, if◌then◌else◌, string_bytes}
+use Rattle.std.specs.Prelude.{◌≡◌, ℕ, ◌+◌, ◌^◌, ◌<◌, ◌≤◌, Bool, List, ◌++◌, length, take, codes, decimal, Option, Some, None, Result, Ok, Err, ◌⊎◌, true, false, ◌&&◌, nat_le, nat_lt, option_and_then, if◌then◌else◌, string_bytes}
 use Rattle.std.specs.Io.KnownBytes.{append_known}
 use Rattle.warc_answer.specs.ReasonText.{replay_fault_text}
 use Rattle.warc_answer.specs.Replays.{IsReplay, IsSilent, out_result}

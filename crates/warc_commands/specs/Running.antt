@@ -6,7 +6,7 @@ use Rattle.std.specs.declared.io.Error.{Error}
 use Rattle.std.specs.declared.io.ErrorKind.{ErrorKind}
 use Rattle.std.specs.declared.io.ErrorKind.TheVariants.{OutOfMemory}
 use Rattle.warc_frame.specs.FaultText.{out_fault_text}
-use Rattle.warc_frame.specs.Seen.{IfHeld, Seen, SeenSource}
+use Rattle.warc_frame.specs.Seen.{IfHeld, SeenSource}
 use Rattle.warc_frame.specs.declared.fault.OutFault.TheVariants.{Memory}
 use Rattle.warc_arguments.specs.Command.{list_word, opens_nothing, path_word, reads_once}
 use Rattle.warc_arguments.specs.Parsed.{IsParsed, ReadLine}

@@ -1,5 +1,5 @@
 //! The command that lists captures.
-ghost use Rattle.std.specs.Prelude.{◌≡◌, Some, None, option_map, true};
+ghost use Rattle.std.specs.Prelude.{Some, None, option_map, true};
 ghost use Rattle.warc_replay.specs.Captured.{IsCaptured};
 ghost use Rattle.warc_commands.specs.Captures.{AnswerEnds, CapturesEnds, WritesListed};
 ghost use Rattle.warc_commands.specs.Devices.{outputs, used};

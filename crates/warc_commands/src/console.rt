@@ -1,5 +1,5 @@
 //! What a run writes to: its output, and a line on what went wrong.
-ghost use Rattle.std.specs.Prelude.{◌≡◌, ◌≤◌, ◌++◌, length};
+ghost use Rattle.std.specs.Prelude.{◌≡◌, ◌≤◌, length};
 ghost use Rattle.warc_frame.specs.FaultText.{out_fault_text};
 ghost use Rattle.warc_commands.specs.Program.{IsShown, Reports, fault_line, status_of_kind, reported_line};
 

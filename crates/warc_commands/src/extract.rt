@@ -1,20 +1,14 @@
 //! The command that gives the block of the first record with an id.
-ghost use Rattle.std.specs.Prelude.{◌≡◌, ◌≤◌, ◌⊎◌, ◌++◌, length, Some, codes};
-ghost use Rattle.warc_answer.specs.ReasonText.{reason_text};
+ghost use Rattle.std.specs.Prelude.{◌≡◌};
 ghost use Rattle.warc_commands.specs.Devices.{outputs, used};
-ghost use Rattle.warc_commands.specs.Program.{ExtractEnds, ReplayEnds, Reports, ReportsIf, answer_text, extract_line, extract_status, number_or_dash, replay_line, replay_status, reported_line, yes_or_no};
+ghost use Rattle.warc_commands.specs.Program.{ExtractEnds, Reports, ReportsIf, extract_line, extract_status};
 ghost use Rattle.warc_commands.specs.Reads.{ReadsTimes};
 ghost use Rattle.warc_commands.specs.Runs.{Runs, run_seen};
-ghost use Rattle.warc_commands.specs.Stored.{ReplayedAs};
 
-use crate::console::{Console, Heap, Input, LINE, Reporter, Run};
-use arrayvec::ArrayString;
-use itoa::Buffer;
+use crate::console::{Console, Heap, Input, Reporter, Run};
 use warc::{Archive, ExtractFault};
-use warc_answer::{Answer, Reason, ReplayFault};
 use warc_arguments::Status;
 use warc_frame::Sink;
-use warc_value::{Moment, read_date};
 
 impl<W: Sink, E: Sink> Console<W, E> {
     /// Writes the block of the first record with an id.

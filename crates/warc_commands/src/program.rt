@@ -13,7 +13,7 @@ use crate::replays::{AsOf, Page};
 use crate::select::Wanted;
 use warc::{Form, Listing, Part};
 use warc_arguments::{Command, CommandFault, Status};
-use warc_frame::{OutFault, Sink, Source};
+use warc_frame::{OutFault, Sink};
 
 /// Does what a command says, and returns how the run ended, and the source. A date, a size, a position and a list are
 /// judged before the source is read, and a number is explained without it.

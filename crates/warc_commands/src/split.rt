@@ -1,5 +1,5 @@
 //! What the program does to split the records of an archive.
-ghost use Rattle.std.specs.Prelude.{◌≡◌, ◌⊎◌};
+ghost use Rattle.std.specs.Prelude.{◌≡◌};
 ghost use Rattle.warc_commands.specs.Devices.{outputs, used};
 ghost use Rattle.warc_commands.specs.Program.{SplitEnds, size_of};
 ghost use Rattle.warc_commands.specs.Reads.{ReadsTimes};

@@ -1,5 +1,4 @@
 //! The command that says what an archive holds.
-ghost use Rattle.std.specs.Prelude.{◌≡◌};
 ghost use Rattle.warc_commands.specs.Devices.{outputs, used};
 ghost use Rattle.warc_commands.specs.Reads.{ReadsInOrder};
 ghost use Rattle.warc_commands.specs.Runs.{Runs, run_seen};

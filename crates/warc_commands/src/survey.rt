@@ -1,5 +1,4 @@
 //! The command that writes what `list`, `fixity`, `check`, `summary`, `captures` and `fixity --payload` write.
-ghost use Rattle.std.specs.Prelude.{◌≡◌};
 ghost use Rattle.warc_commands.specs.Devices.{outputs, used};
 ghost use Rattle.warc_commands.specs.Reads.{AsksNear};
 ghost use Rattle.warc_commands.specs.Runs.{Runs, run_seen};
