@@ -11,30 +11,30 @@ use Rattle.warc_arguments.specs.CommandLine.{asked_of, warc_app}
 abbrev plainly : List ℕ → List (List ℕ) → Option Asked
 plainly name texts = Some (record { command = (name, texts); flags = []; quiet = false; hints = false })
 
--- warc list a.warc
-list_names : asked_of (codes "warc" ∷ codes "list" ∷ codes "a.warc" ∷ []) ≡ plainly (codes "list") (codes "a.warc" ∷ [])
+-- warc check a.warc
+path_names : asked_of (codes "warc" ∷ codes "check" ∷ codes "a.warc" ∷ []) ≡ plainly (codes "check") (codes "a.warc" ∷ [])
 unfolding clap_on_literals
-list_names = refl
+path_names = refl
 
-list_takes : takes warc_app (codes "warc" ∷ codes "list" ∷ codes "a.warc" ∷ []) ≡ true
+check_takes : takes warc_app (codes "warc" ∷ codes "check" ∷ codes "a.warc" ∷ []) ≡ true
 unfolding clap_on_literals
-list_takes = refl
+check_takes = refl
 
 -- an empty word is a word, and a word with a minus comes after `--`
-empty_names : asked_of (codes "warc" ∷ codes "list" ∷ [] ∷ []) ≡ plainly (codes "list") ([] ∷ [])
+empty_names : asked_of (codes "warc" ∷ codes "check" ∷ [] ∷ []) ≡ plainly (codes "check") ([] ∷ [])
 unfolding clap_on_literals
 empty_names = refl
 
-minus_names : asked_of (codes "warc" ∷ codes "list" ∷ codes "--" ∷ codes "-a" ∷ []) ≡ plainly (codes "list") (codes "-a" ∷ [])
+minus_names : asked_of (codes "warc" ∷ codes "check" ∷ codes "--" ∷ codes "-a" ∷ []) ≡ plainly (codes "check") (codes "-a" ∷ [])
 unfolding clap_on_literals
 minus_names = refl
 
-minus_faults : fault_of warc_app (codes "warc" ∷ codes "list" ∷ codes "-a" ∷ []) ≡ UnknownArgument ∷ []
+minus_faults : fault_of warc_app (codes "warc" ∷ codes "check" ∷ codes "-a" ∷ []) ≡ UnknownArgument ∷ []
 unfolding clap_on_literals
 minus_faults = refl
 
 -- the flags of every command, before or after its words
-quiet_asked : asked_of (codes "warc" ∷ codes "list" ∷ codes "a.warc" ∷ codes "--quiet" ∷ []) ≡ Some (record { command = (codes "list", codes "a.warc" ∷ []); flags = []; quiet = true; hints = false })
+quiet_asked : asked_of (codes "warc" ∷ codes "check" ∷ codes "a.warc" ∷ codes "--quiet" ∷ []) ≡ Some (record { command = (codes "check", codes "a.warc" ∷ []); flags = []; quiet = true; hints = false })
 unfolding clap_on_literals
 quiet_asked = refl
 
@@ -42,11 +42,11 @@ quiet_first : asked_of (codes "warc" ∷ codes "split" ∷ codes "--quiet" ∷ c
 unfolding clap_on_literals
 quiet_first = refl
 
-hints_asked : asked_of (codes "warc" ∷ codes "list" ∷ codes "--hints" ∷ codes "a.warc" ∷ []) ≡ Some (record { command = (codes "list", codes "a.warc" ∷ []); flags = []; quiet = false; hints = true })
+hints_asked : asked_of (codes "warc" ∷ codes "check" ∷ codes "--hints" ∷ codes "a.warc" ∷ []) ≡ Some (record { command = (codes "check", codes "a.warc" ∷ []); flags = []; quiet = false; hints = true })
 unfolding clap_on_literals
 hints_asked = refl
 
-both_asked : asked_of (codes "warc" ∷ codes "list" ∷ codes "--hints" ∷ codes "a.warc" ∷ codes "--quiet" ∷ []) ≡ Some (record { command = (codes "list", codes "a.warc" ∷ []); flags = []; quiet = true; hints = true })
+both_asked : asked_of (codes "warc" ∷ codes "check" ∷ codes "--hints" ∷ codes "a.warc" ∷ codes "--quiet" ∷ []) ≡ Some (record { command = (codes "check", codes "a.warc" ∷ []); flags = []; quiet = true; hints = true })
 unfolding clap_on_literals
 both_asked = refl
 
@@ -64,7 +64,7 @@ bare_faults : fault_of warc_app (codes "warc" ∷ []) ≡ MissingSubcommand ∷ 
 unfolding clap_on_literals
 bare_faults = refl
 
-list_faults : fault_of warc_app (codes "warc" ∷ codes "list" ∷ []) ≡ MissingRequiredArgument ∷ []
+list_faults : fault_of warc_app (codes "warc" ∷ codes "check" ∷ []) ≡ MissingRequiredArgument ∷ []
 unfolding clap_on_literals
 list_faults = refl
 
@@ -102,3 +102,12 @@ payload_twice = refl
 payload_elsewhere : fault_of warc_app (codes "warc" ∷ codes "check" ∷ codes "--payload" ∷ codes "a.warc" ∷ []) ≡ UnknownArgument ∷ []
 unfolding clap_on_literals
 payload_elsewhere = refl
+
+-- warc list --json a.warc
+json_names : asked_of (codes "warc" ∷ codes "list" ∷ codes "--json" ∷ codes "a.warc" ∷ []) ≡ Some (record { command = (codes "list", codes "a.warc" ∷ []); flags = true ∷ []; quiet = false; hints = false })
+unfolding clap_on_literals
+json_names = refl
+
+list_names : asked_of (codes "warc" ∷ codes "list" ∷ codes "a.warc" ∷ []) ≡ Some (record { command = (codes "list", codes "a.warc" ∷ []); flags = false ∷ []; quiet = false; hints = false })
+unfolding clap_on_literals
+list_names = refl

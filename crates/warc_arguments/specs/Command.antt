@@ -13,7 +13,7 @@ draft_texts d = d.kind.now ∷ d.uri.now ∷ d.date.now ∷ d.uuid.now ∷ d.con
 
 -- its name, and the texts in order of the words that are given
 abbrev pub view_of : Command → Text × List Text
-view_of (command.List archive) = (codes "list", archive.now ∷ [])
+view_of (command.List archive json) = (codes "list", archive.now ∷ [])
 view_of (command.Check archive) = (codes "check", archive.now ∷ [])
 view_of (command.Extract archive id) = (codes "extract", archive.now ∷ id.now ∷ [])
 view_of (command.Replay archive uri date hex stored) = (codes "replay", archive.now ∷ uri.now ∷ date.now ∷ [])
@@ -36,6 +36,7 @@ view_of (command.Explain number) = (codes "explain", number.now ∷ [])
 
 -- whether each of its flags is given, in order; `--quiet` and `--hints`, which every command has, aren't among them
 abbrev pub flags_of : Command → List Bool
+flags_of (command.List archive json) = json ∷ []
 flags_of (command.Replay archive uri date hex stored) = hex ∷ stored ∷ []
 flags_of (command.Body archive position stored) = stored ∷ []
 flags_of (command.Captures archive uri hex) = hex ∷ []
@@ -56,7 +57,7 @@ asked_by r = record { command = view_of r.command; flags = flags_of r.command; q
 
 -- the path of the file that it reads; empty if it reads none
 abbrev pub path_word : Command → Text
-path_word (command.List archive) = archive.now
+path_word (command.List archive json) = archive.now
 path_word (command.Check archive) = archive.now
 path_word (command.Extract archive id) = archive.now
 path_word (command.Replay archive uri date hex stored) = archive.now
@@ -83,7 +84,7 @@ list_word _ = None
 
 -- whether it can ask for each offset once, in order
 abbrev pub reads_once : Command → Bool
-reads_once (command.List archive) = true
+reads_once (command.List archive json) = true
 reads_once (command.Check archive) = true
 reads_once (command.Fixity archive false) = true
 reads_once (command.Summary archive) = true

@@ -26,10 +26,15 @@ pub record Layout : Type 0 where
 abbrev pub layout : Text → List Text → Layout
 layout name words = record { name = name; words = words; optional = []; flags = [] }
 
-abbrev pub list_layout : Layout
-list_layout = layout (codes "list") (codes "archive" ∷ [])
-
 -- those with flags, and with a word that may be left out
+abbrev pub list_layout : Layout
+list_layout = record {
+  name = codes "list";
+  words = codes "archive" ∷ [];
+  optional = [];
+  flags = codes "json" ∷ [];
+}
+
 abbrev pub replay_layout : Layout
 replay_layout = record {
   name = codes "replay";

@@ -5,9 +5,10 @@ ghost use Rattle.warc_arguments.specs.Command.{gives_bytes, list_word, opens_not
 /// What the program is asked to do. The texts are borrowed from the words.
 #[derive(Clone, Copy, Debug, PartialEq, Eq)]
 pub enum Command<'a> {
-    /// A line for each record.
+    /// A line for each record, of columns or of JSON.
     List {
         archive: &'a str,
+        json: bool,
     },
     /// A line for each finding.
     Check {
@@ -122,7 +123,7 @@ impl<'a> Command<'a> {
         ensures { result.now ≡ path_word self.now }
     {
         match self {
-            Command::List { archive } => archive,
+            Command::List { archive, json: _ } => archive,
             Command::Check { archive } => archive,
             Command::Extract { archive, id: _ } => archive,
             Command::Replay {
@@ -192,7 +193,10 @@ impl<'a> Command<'a> {
         ensures { result ≡ reads_once self.now }
     {
         match self {
-            Command::List { archive: _ }
+            Command::List {
+                archive: _,
+                json: _,
+            }
             | Command::Check { archive: _ }
             | Command::Fixity {
                 archive: _,

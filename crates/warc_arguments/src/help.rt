@@ -48,7 +48,9 @@ Example: warc list examples/abc.warc";
 const LIST_NOTES: &str =
     "A line has seven columns, with a tab between two: the record's position from
 0, its offset in bytes, the length of its block, its type, date, id and
-target; '-' for no target.
+target; '-' for no target. With --json a line is an object with the members
+position, offset, length, type, date, id and target, which is null if there is
+none. A text that isn't UTF-8 is an object whose member hex has its bytes.
 
 Exit status: 0 listed; 2 the archive is refused, and nothing was written;
 3 see 'warc --help'.
@@ -370,6 +372,11 @@ pub(crate) const PAYLOAD: Word = Word {
     help: "Compares payloads, and not blocks, with their digests",
 };
 
+pub(crate) const JSON: Word = Word {
+    name: "json",
+    help: "Prints a line of JSON for each",
+};
+
 pub(crate) const ALL: Word = Word {
     name: "all",
     help: "Writes the good records after a fault too",
@@ -422,7 +429,7 @@ pub(crate) const FIRST_COMMANDS: [CommandEntry; 6] = [
         notes: LIST_NOTES,
         words: &[ARCHIVE],
         optional: &[],
-        flags: &[],
+        flags: &[JSON],
     },
     CommandEntry {
         name: "check",

@@ -263,7 +263,10 @@ fn read_command<'a>(name: &str, texts: &ArgMatches<'a>) -> Command<'a>
         "explain" => Command::Explain {
             number: text_at(texts, "number"),
         },
-        _ => Command::List { archive },
+        _ => Command::List {
+            archive,
+            json: is_given(texts, "json"),
+        },
     }
 }
 

@@ -27,7 +27,7 @@ use Rattle.warc_arguments.specs.declared.command.Command.TheVariants as command
 
 -- how a run of the command ends, by the list that it reads beside its source, if it reads one
 abbrev pub Ends : Command → List ℕ → Devices → Devices → Status → Type 0
-Ends (command.List archive) list = ListEnds
+Ends (command.List archive json) list = ListEnds json
 Ends (command.Check archive) list = CheckEnds
 Ends (command.Extract archive id) list = ExtractEnds id.now
 Ends (command.Replay archive uri date hex stored) list =
@@ -62,7 +62,7 @@ MayFind status = (status ≡ Done) ⊎ ((status ≡ Found) ⊎ ((status ≡ Refu
 
 -- the exit statuses of a command
 abbrev pub IsStatusOf : Command → Status → Type 0
-IsStatusOf (command.List archive) status = MayRefuse status
+IsStatusOf (command.List archive json) status = MayRefuse status
 IsStatusOf (command.Check archive) status = MayFind status
 IsStatusOf (command.Extract archive id) status = MayFind status
 IsStatusOf (command.Replay archive uri date hex stored) status = MayFind status

@@ -34,6 +34,7 @@ use Rattle.warc_reading.specs.Opening.{IsRefusalOf, faults_after}
 use Rattle.warc_reading.specs.Archive.{AreGood, IsArchiveOf}
 use Rattle.warc_checking.specs.Checking.{check_text, findings_of_archive}
 use Rattle.warc_frame.specs.Failing.{HasFailedBy, MayHaveFailedBy, failed_by, failed_with, is_read}
+use Rattle.warc_json.specs.Rows.{json_listing}
 use Rattle.warc_judged.specs.Listing.{listing}
 use Rattle.warc_reading.specs.Row.{Row}
 use Rattle.warc_arguments.specs.declared.status.Status.{Status}
@@ -72,30 +73,35 @@ pub record IsNotOpened (old new : Devices) (status : Status) : Type 0 where
   pub reported : Reports (fault_line fault) old.err new.err
   pub status_is : status ≡ status_of_kind fault.kind
 
+-- the lines of `list`: columns, or with `--json` an object each
+abbrev pub listed_as : Bool → List Row → List ℕ
+listed_as json rows = if json then json_listing rows else listing rows
+
 -- all lines of `list` went out
-pub record IsListed (old new : Devices) (status : Status) : Type 0 where
+pub record IsListed (json : Bool) (old new : Devices) (status : Status) : Type 0 where
   pub rows : List Row
   pub are : IfHeld old.source.holds (λ bytes. IsArchiveOf bytes rows)
-  pub reported : new.out.reports ≡ append_known old.out.reports (listing rows)
+  pub reported : new.out.reports ≡ append_known old.out.reports (listed_as json rows)
   pub unfailed : new.out.faults ≡ old.out.faults
   pub sound : new.source.faults ≡ old.source.faults
   pub silent : new.err ≡ old.err
   pub status_is : status ≡ Done
 
 -- a write failed: a front of the lines of `list` went out
-pub record IsListCutOff (old new : Devices) (status : Status) : Type 0 where
+pub record IsListCutOff (json : Bool) (old new : Devices) (status : Status) : Type 0 where
   pub rows : List Row
   pub are : IfHeld old.source.holds (λ bytes. IsArchiveOf bytes rows)
   pub sent : ℕ
-  pub front : WentOut old.out.reports (listing rows) new.out.reports sent
+  pub front : WentOut old.out.reports (listed_as json rows) new.out.reports sent
   pub failed : new.out.faults ≡ raised old.out.faults
   pub sound : new.source.faults ≡ old.source.faults
   pub reported : Reports (reported_line (out_fault_text (Write sent))) old.err new.err
   pub status_is : status ≡ Failed
 
 -- how `list` ends
-abbrev pub ListEnds : Devices → Devices → Status → Type 0
-ListEnds old new status = IsListed old new status ⊎ (IsNotOpened old new status ⊎ IsListCutOff old new status)
+abbrev pub ListEnds : Bool → Devices → Devices → Status → Type 0
+ListEnds json old new status =
+    IsListed json old new status ⊎ (IsNotOpened old new status ⊎ IsListCutOff json old new status)
 
 -- the status where an archive was checked, by how many things were found
 abbrev pub status_of_count : ℕ → Status

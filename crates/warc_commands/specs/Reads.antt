@@ -40,7 +40,7 @@ SelectReads true = ReadsTimes 3
 -- is split is read three times: to judge it, for the digests of its segments, and to be copied. For a closed selection
 -- heads are read again before what is written
 abbrev pub CommandReads : Command → SeenSource → SeenSource → Type 0
-CommandReads (command.List archive) = ReadsInOrder
+CommandReads (command.List archive json) = ReadsInOrder
 CommandReads (command.Check archive) = ReadsInOrder
 CommandReads (command.Fixity archive false) = ReadsInOrder
 CommandReads (command.Fixity archive true) = AsksNear

@@ -1,19 +1,21 @@
 //! What the program does with a command, a source and a console.
 ghost use Rattle.std.specs.Prelude.{◌≡◌, false, IfErr, IfOk};
 ghost use Rattle.warc_commands.specs.Ends.{Ends, IsStatusOf, writes_front};
-ghost use Rattle.warc_commands.specs.Program.{FaultEnds, ListEnds, WriteEnds, status_of_kind};
+ghost use Rattle.warc_commands.specs.Program.{FaultEnds, ListEnds, WriteEnds, listed_as, status_of_kind};
 ghost use Rattle.warc_commands.specs.Devices.{outputs, used};
 ghost use Rattle.warc_commands.specs.Reads.{CommandReads, ReadsInOrder, ReadsTimes};
 ghost use Rattle.warc_commands.specs.Running.{IsRunOver};
 ghost use Rattle.warc_commands.specs.Runs.{Runs, run_seen};
+ghost use Rattle.warc_frame.specs.Effects.{SendsText};
 ghost use Rattle.warc_rewrite.specs.Forms.{texts_as};
 
 use crate::console::{Console, Ended, Heap, Input, Run};
 use crate::replays::{AsOf, Page};
 use crate::select::Wanted;
+use std::alloc::Allocator;
 use warc::{Form, Listing, Part};
 use warc_arguments::{Command, CommandFault, Status};
-use warc_frame::{OutFault, Sink};
+use warc_frame::{OutFault, Sink, Source};
 
 /// Does what a command says, and returns how the run ended, and the source. A date, a size, a position and a list are
 /// judged before the source is read, and a number is explained without it.
@@ -38,6 +40,21 @@ pub fn perform<A: Heap, S: Input, W: Sink, E: Sink>(
     }
 }
 
+/// Writes a line for each record: columns, or an object of JSON.
+fn list_as<S: Source, A: Allocator + Copy, W: Sink>(
+    json: bool,
+    listing: &Listing<S, A>,
+    out: &mut W,
+) -> Result<(), OutFault>
+    ensures { SendsText (W.seen out.old) (W.seen out.new) result (listed_as json listing.now.rows) }
+{
+    if json {
+        warc_json::list_rows(listing, out)
+    } else {
+        listing.list(out)
+    }
+}
+
 impl<W: Sink, E: Sink> Console<W, E> {
     /// Does what a command says, up to the report that its source isn't opened.
     fn carry_out<A: Heap, S: Input>(
@@ -56,7 +73,7 @@ impl<W: Sink, E: Sink> Console<W, E> {
         ensures can_refuse { IfErr result (λ it. IsStatusOf command.now (status_of_kind it.0.kind)) }
     {
         match command {
-            Command::List { archive: _ } => self.list(alloc, source),
+            Command::List { archive: _, json } => self.list(alloc, *json, source),
             Command::Check { archive: _ } => self.check(alloc, source),
             Command::Extract { archive: _, id } => self.extract(alloc, id, source),
             Command::Replay {
@@ -135,12 +152,13 @@ impl<W: Sink, E: Sink> Console<W, E> {
         }
     }
 
-    fn list<A: Heap, S: Input>(&mut self, alloc: A, source: S) -> Run<S>
-        ensures { Runs ListEnds ReadsInOrder
+    /// Lists the records, a line each.
+    fn list<A: Heap, S: Input>(&mut self, alloc: A, json: bool, source: S) -> Run<S>
+        ensures { Runs (ListEnds json) ReadsInOrder
             (used (S.seen source) W.seen E.seen self.old) (outputs W.seen E.seen self.new) (run_seen S.seen result) }
     {
         let listing = Listing::open(alloc, source)?;
-        match listing.list(&mut self.out) {
+        match list_as(json, &listing, &mut self.out) {
             Ok(()) => Ok((Status::Done, listing.into_source())),
             Err(fault) => Ok((self.err.fail(fault), listing.into_source())),
         }

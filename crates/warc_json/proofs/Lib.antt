@@ -1,0 +1,6 @@
+mod EscapeLemmas
+mod EachLemmas
+mod LawLemmas
+mod ObjectLemmas
+mod PutLemmas
+mod RowLemmas

@@ -1,0 +1,12 @@
+use Rattle.std.proofs.Common.{◌≡◌, ◌++◌, ℕ, List, Option, take}
+use Rattle.json.specs.Print.{escape}
+use Rattle.warc_frame.specs.Send.{IsStaged}
+use Rattle.warc_json.proofs.strings.put_each.Given as goal
+
+-- the bytes so far are staged, and no write has failed
+abbrev pub invariant-putting : goal.invariant-putting
+invariant-putting g l = record {
+  staged : (start : Option (List ℕ)) (output : List ℕ) → IsStaged start output ((g.W.Sink.seen l.fn.out).reports) l.fn.buffer
+      → IsStaged start (output ++ escape (take l.byte-index l.text)) ((g.W.Sink.seen l.out).reports) l.buffer;
+  sound : (g.W.Sink.seen l.out).faults ≡ (g.W.Sink.seen l.fn.out).faults;
+}
