@@ -10,15 +10,15 @@ use Rattle.warc_frame.specs.Effects.{FailsBy}
 use Rattle.warc_frame.specs.Failing.{HasFailedBy, MayHaveFailedBy, failed_with, is_read}
 use Rattle.warc_frame.specs.Record.{Record}
 use Rattle.warc_frame.specs.Seen.{SeenSource}
-use Rattle.warc_frame.specs.Send.{WentOut, sent_of}
+use Rattle.warc_frame.specs.Send.{WentOut, ended_by, sent_of}
 use Rattle.warc_frame.specs.declared.fault.OutFault.{OutFault}
 use Rattle.warc_frame.specs.declared.fault.OutFault.TheVariants.{Read as ReadFailed, Write as WriteFailed, Memory as OutOfMemory}
 use Rattle.warc_frame.proofs.EffectLemmas.{fails_never}
 use Rattle.warc_reading.specs.Archive.{contents}
-use Rattle.warc_reading.specs.Rereading.{AreCheckable, ended_by}
+use Rattle.warc_reading.specs.Rereading.{AreCheckable}
 use Rattle.warc_reading.specs.Row.{Placed, Row, row_of}
-use Rattle.warc_reading.specs.declared.reread.RereadFault.{RereadFault}
-use Rattle.warc_reading.specs.declared.reread.RereadFault.TheVariants.{Read, Memory}
+use Rattle.warc_frame.specs.declared.fault.EarlyFault.{EarlyFault}
+use Rattle.warc_frame.specs.declared.fault.EarlyFault.TheVariants.{Read, Memory}
 use Rattle.warc_reading.proofs.PlacedLemmas.{below, content_at, take_one}
 use Rattle.warc_checking.specs.Checking.{Line, about_record, findings_at, findings_after, findings_of_records, line_text}
 use Rattle.warc_checking.specs.Lines.{findings_of_first, first_text, record_lines, records_text}
@@ -101,11 +101,11 @@ fails_unread {X} {Expected} (Ok x) {old} {new} none same = fails_never same
 fails_unread {X} {Expected} (Err e) {old} {new} none same =
     record { may = (unread X e old.faults new.faults none same).0; failed = λ bytes held is. (unread X e old.faults new.faults none same).1 }
 
-unsent : (fault : RereadFault) → sent_of (ended_by fault 0) ≡ 0
+unsent : (fault : EarlyFault) → sent_of (ended_by fault 0) ≡ 0
 unsent Read = refl
 unsent Memory = refl
 
-silent : (fault : RereadFault) (n : ℕ) → failed_with (ended_by fault 0) n ≡ n
+silent : (fault : EarlyFault) (n : ℕ) → failed_with (ended_by fault 0) n ≡ n
 silent Read n = refl
 silent Memory n = refl
 
@@ -114,7 +114,7 @@ append_none None = refl
 append_none (Some text) = ap (λ l. Some l) (append-nil text)
 
 -- an output that ends before it begins
-module _ (fault : RereadFault) (e : OutFault) (is : e ≡ ended_by fault 0) where
+module _ (fault : EarlyFault) (e : OutFault) (is : e ≡ ended_by fault 0) where
   pub none_sent : sent_of e ≡ 0
   none_sent = ap sent_of is ∙ unsent fault
 

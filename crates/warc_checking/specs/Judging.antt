@@ -10,8 +10,8 @@ use Rattle.warc_frame.specs.Record.{Record}
 use Rattle.warc_record.specs.Findings.{SeenFinding}
 use Rattle.warc_record.specs.Heads.{head_fault}
 use Rattle.warc_record.specs.Readings.{digest_wanted}
-use Rattle.warc_reading.specs.declared.reread.RereadFault.{RereadFault}
-use Rattle.warc_reading.specs.declared.reread.RereadFault.TheVariants.{Memory}
+use Rattle.warc_frame.specs.declared.fault.EarlyFault.{EarlyFault}
+use Rattle.warc_frame.specs.declared.fault.EarlyFault.TheVariants.{Memory}
 use Rattle.warc_checking.specs.OwnFindings.{Found, all_of, shown_by, with_bad}
 
 -- what a record shows, once it is known whether its digest differs
@@ -39,7 +39,7 @@ IsOneMore fields block_len old new = new ≡ old ++ shown_by fields block_len fa
 
 -- a text that is a good head of a block of this length is answered by the digest that it asks for, and its record is
 -- added, unless memory ran out
-abbrev pub AddsGoodHead : List ℕ → ℕ → List Found → List Found → Result Wanted RereadFault → Type 0
+abbrev pub AddsGoodHead : List ℕ → ℕ → List Found → List Found → Result Wanted EarlyFault → Type 0
 AddsGoodHead text block_len old new answer =
     (r : Record)
     → head_of any_fields text

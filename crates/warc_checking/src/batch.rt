@@ -5,15 +5,14 @@ ghost use Rattle.warc_value.specs.Digests.{verdict_of};
 ghost use Rattle.warc_frame.specs.Effects.{FailsBy, HasRange, ReadsRange};
 ghost use Rattle.warc_frame.specs.Seen.{IfHeld};
 ghost use Rattle.warc_digest.specs.Judging.{judged_len};
-ghost use Rattle.warc_reading.specs.Rereading.{reread_result};
+ghost use Rattle.warc_frame.specs.Send.{early_result};
 ghost use Rattle.warc_checking.specs.Batch.{AreKeptIn, digest_in, verdict_with, verdicts_in};
 
 use std::alloc::{AllocError, Allocator};
 use std::marker::Model;
 use warc_digest::judge_range;
-use warc_frame::{Source, read_range};
+use warc_frame::{EarlyFault, Source, read_range};
 use warc_lanes::{DIGEST_LEN, digest_each};
-use warc_reading::RereadFault;
 use warc_value::{Verdict, Wanted, digest};
 
 /// How many blocks wait at most.
@@ -91,7 +90,7 @@ impl<A: Allocator> Blocks<A> {
     }
 
     /// Adds bytes of the source, for which there is room.
-    fn add<S: Source>(&mut self, source: &mut S, at: u64, len: usize) -> Result<(), RereadFault>
+    fn add<S: Source>(&mut self, source: &mut S, at: u64, len: usize) -> Result<(), EarlyFault>
         requires room { length self.old + len ≤ MAX_KEPT }
         requires end { at + len < 2 ^ 64 }
         ensures bytes { IfHeld (S.seen source.old).holds (λ bytes.
@@ -99,16 +98,16 @@ impl<A: Allocator> Blocks<A> {
         ensures more { OnOk result ((more : List ℕ) × (self.new ≡ self.old ++ more)) }
         ensures err { OnErr result (self.new ≡ self.old) }
         ensures reads { ReadsRange at len (S.seen source.old) (S.seen source.new) }
-        ensures fails { FailsBy (λ bytes. at + len ≤ length bytes) (reread_result result) (S.seen source.old)
+        ensures fails { FailsBy (λ bytes. at + len ≤ length bytes) (early_result result) (S.seen source.old)
             (S.seen source.new) }
     {
         let end = self.used + len;
         let Ok(()) = lengthen(&mut self.bytes, end) else {
-            return Err(RereadFault::Memory);
+            return Err(EarlyFault::Memory);
         };
         match read_range(source, at, &mut self.bytes[self.used..end]) {
             Ok(()) => {}
-            Err(_) => return Err(RereadFault::Read),
+            Err(_) => return Err(EarlyFault::Read),
         }
         self.used = end;
         Ok(())
@@ -202,14 +201,14 @@ fn read_block<S: Source, A: Allocator>(
     wanted: &Wanted,
     blocks: &mut Blocks<A>,
     buf: &mut [u8],
-) -> Result<BlockCheck, RereadFault>
+) -> Result<BlockCheck, EarlyFault>
     requires { 0 < length buf.old }
     ensures more { (more : List ℕ) × (blocks.new ≡ blocks.old ++ more) }
     ensures verdict { IfHeld (S.seen source.old).holds (λ bytes. IfOk result (λ check.
         verdict_with check (sha1 (drop (length blocks.old) blocks.new))
         ≡ verdict_of wanted.now (take len (drop at bytes)))) }
     ensures reads { ReadsRange at (judged_len wanted.now len) (S.seen source.old) (S.seen source.new) }
-    ensures fails { FailsBy (HasRange at len) (reread_result result) (S.seen source.old) (S.seen source.new) }
+    ensures fails { FailsBy (HasRange at len) (early_result result) (S.seen source.old) (S.seen source.new) }
 {
     let Wanted::Sha1(digest) = wanted else {
         return Ok(BlockCheck::Known(Verdict::Unchecked));
@@ -217,7 +216,7 @@ fn read_block<S: Source, A: Allocator>(
     if len > u64::MAX - at || !blocks.fits(len) {
         return match judge_range(source, at, len, wanted, buf) {
             Ok(verdict) => Ok(BlockCheck::Known(verdict)),
-            Err(_) => Err(RereadFault::Read),
+            Err(_) => Err(EarlyFault::Read),
         };
     }
     match blocks.add(source, at, len as usize) {
@@ -269,7 +268,7 @@ fn add_read_block<S: Source, A: Allocator>(
     len: u64,
     wanted: &Wanted,
     buf: &mut [u8],
-) -> Result<(), RereadFault>
+) -> Result<(), EarlyFault>
     requires buf { 0 < length buf.old }
     requires kept { AreKeptIn (length blocks.old) waiting.old.items }
     ensures kept { AreKeptIn (length blocks.new) waiting.new.items }
@@ -281,10 +280,10 @@ fn add_read_block<S: Source, A: Allocator>(
         ≡ verdicts_in blocks.old waiting.old.items) }
     ensures count { length waiting.new.items ≤ length waiting.old.items + 1 }
     ensures reads { ReadsRange at (judged_len wanted.now len) (S.seen source.old) (S.seen source.new) }
-    ensures fails { FailsBy (HasRange at len) (reread_result result) (S.seen source.old) (S.seen source.new) }
+    ensures fails { FailsBy (HasRange at len) (early_result result) (S.seen source.old) (S.seen source.new) }
 {
     let Ok(()) = waiting.reserve(1) else {
-        return Err(RereadFault::Memory);
+        return Err(EarlyFault::Memory);
     };
     let start = blocks.len();
     let check = match read_block(source, at, len, wanted, blocks, buf) {
@@ -408,7 +407,7 @@ impl<A: Allocator> Batch<A> {
         len: u64,
         wanted: &Wanted,
         buf: &mut [u8],
-    ) -> Result<(), RereadFault>
+    ) -> Result<(), EarlyFault>
         requires few { length self.old < MAX_WAITING }
         requires room { 0 < length buf.old }
         ensures added { IfHeld (S.seen source.old).holds (λ bytes.
@@ -416,7 +415,7 @@ impl<A: Allocator> Batch<A> {
         ensures more { OnOk result ((verdict : Verdict) × (self.new ≡ self.old ++ verdict ∷ [])) }
         ensures err { OnErr result (self.new ≡ self.old) }
         ensures reads { ReadsRange at (judged_len wanted.now len) (S.seen source.old) (S.seen source.new) }
-        ensures fails { FailsBy (HasRange at len) (reread_result result) (S.seen source.old) (S.seen source.new) }
+        ensures fails { FailsBy (HasRange at len) (early_result result) (S.seen source.old) (S.seen source.new) }
     {
         add_read_block(
             &mut self.waiting,

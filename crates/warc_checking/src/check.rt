@@ -7,7 +7,8 @@ ghost use Rattle.warc_frame.specs.Seen.{IfHeld};
 ghost use Rattle.warc_reading.specs.Archive.{contents};
 ghost use Rattle.warc_reading.specs.Judging.{verdict_on};
 ghost use Rattle.warc_reading.specs.Placing.{IsInRow};
-ghost use Rattle.warc_reading.specs.Rereading.{AreCheckable, HasRecordsOf, HasTextOf, IsHeadBy, ReadsRows, reread_result, row_len};
+ghost use Rattle.warc_frame.specs.Send.{early_result};
+ghost use Rattle.warc_reading.specs.Rereading.{AreCheckable, HasRecordsOf, HasTextOf, IsHeadBy, ReadsRows, row_len};
 ghost use Rattle.warc_reading.specs.Row.{Placed};
 ghost use Rattle.warc_checking.specs.Checks.{Checks};
 ghost use Rattle.warc_checking.specs.Judged.{own_findings};
@@ -20,8 +21,8 @@ use std::alloc::Allocator;
 use warc_digest::judge_range;
 use warc_field::Fields;
 use warc_frame::laws::head_of_spelled;
-use warc_frame::{OutFault, Sink, Source};
-use warc_reading::{RereadFault, Row, Rows, head_buffer, reread_good};
+use warc_frame::{EarlyFault, OutFault, Sink, Source};
+use warc_reading::{Row, Rows, head_buffer, reread_good};
 use warc_value::Verdict;
 
 /// A record's fields, read again, and how its block compares with the digest that they ask for.
@@ -39,13 +40,13 @@ pub fn judge_again<S: Source, A: Allocator + Copy>(
     source: &mut S,
     row: &Row<'_>,
     buf: &mut [u8],
-) -> Result<Rejudged<A>, RereadFault>
+) -> Result<Rejudged<A>, EarlyFault>
     requires { max_head ≤ length buf.old }
     ensures judged { IfHeld (S.seen source.old).holds (λ bytes. (is : HasTextOf row.now bytes) → IfOk result (λ x.
         (x.fields ≡ is.placed.content.fields) × (x.verdict ≡ verdict_on is.placed))) }
     ensures whole { IfOk result (λ x. IsHeadBy row.now x.fields) }
     ensures reads { ReadsOnly (IsInRow row.now) (row_len row.now) (S.seen source.old) (S.seen source.new) }
-    ensures fails { FailsBy (HasTextOf row.now) (reread_result result) (S.seen source.old) (S.seen source.new) }
+    ensures fails { FailsBy (HasTextOf row.now) (early_result result) (S.seen source.old) (S.seen source.new) }
 {
     let head = reread_good(alloc, source, row, buf)?;
     let wanted = head.wanted();
@@ -54,7 +55,7 @@ pub fn judge_again<S: Source, A: Allocator + Copy>(
             fields: head.into_fields(),
             verdict,
         }),
-        Err(_) => Err(RereadFault::Read),
+        Err(_) => Err(EarlyFault::Read),
     }
 }
 
@@ -66,14 +67,14 @@ fn judge_each<S: Source, A: Allocator + Copy>(
     rows: &Rows<A>,
     judging: &mut Judging<A>,
     head: &mut [u8],
-) -> Result<(), RereadFault>
+) -> Result<(), EarlyFault>
     requires head { max_head ≤ length head.old }
     requires none { judging.old ≡ [] }
     ensures judged { IfHeld (S.seen source.old).holds (λ bytes. (records : List Placed)
         → AreCheckable bytes records rows.now
         → OnOk result (judging.new ≡ map own_findings (contents records))) }
     ensures reads { ReadsRows rows.now (S.seen source.old) (S.seen source.new) }
-    ensures fails { FailsBy (HasRecordsOf rows.now) (reread_result result) (S.seen source.old) (S.seen source.new) }
+    ensures fails { FailsBy (HasRecordsOf rows.now) (early_result result) (S.seen source.old) (S.seen source.new) }
 {
     'judging: for position in 0..rows.len() {
         let Some(row) = rows.get(position) else {
@@ -89,15 +90,15 @@ fn row_findings<S: Source, A: Allocator + Copy>(
     alloc: A,
     source: &mut S,
     rows: &Rows<A>,
-) -> Result<OwnFindings<A>, RereadFault>
+) -> Result<OwnFindings<A>, EarlyFault>
     ensures judged { IfHeld (S.seen source.old).holds (λ bytes. (records : List Placed)
         → AreCheckable bytes records rows.now
         → IfOk result (λ found. map all_of found ≡ map own_findings (contents records))) }
     ensures reads { ReadsRows rows.now (S.seen source.old) (S.seen source.new) }
-    ensures fails { FailsBy (HasRecordsOf rows.now) (reread_result result) (S.seen source.old) (S.seen source.new) }
+    ensures fails { FailsBy (HasRecordsOf rows.now) (early_result result) (S.seen source.old) (S.seen source.new) }
 {
     let Ok(mut head) = head_buffer(alloc) else {
-        return Err(RereadFault::Memory);
+        return Err(EarlyFault::Memory);
     };
     let mut judging = Judging::new(alloc);
     judge_each(alloc, source, rows, &mut judging, &mut head)?;

@@ -2,8 +2,7 @@
 ghost use Rattle.std.specs.Prelude.{◌≡◌, ◌+◌, ◌<◌, false, List, [], ◌∷◌, ◌++◌, length, map, take, OnErr, OnOk};
 ghost use Rattle.std.specs.List.{filter};
 ghost use Rattle.warc_frame.specs.Effects.{Puts};
-ghost use Rattle.warc_record.specs.Findings.{SeenFinding, finding_seen, findings_of, once};
-ghost use Rattle.warc_quick.specs.PlainFindings.{plain_seen};
+ghost use Rattle.warc_record.specs.Findings.{SeenFinding, finding_seen, findings_of, once, plain_seen};
 ghost use Rattle.warc_checking.specs.Lines.{record_lines};
 ghost use Rattle.warc_checking.specs.OwnFindings.{AreNamed, IsNamed, IsPart, all_found, finding_in, is_between, findings_of_part, finding_by_number, with_both};
 
@@ -13,8 +12,7 @@ use std::marker::Model;
 use warc_field::Fields;
 use warc_frame::laws::went_out_of_longer;
 use warc_frame::{OutBuffer, SendFault, Sink};
-use warc_quick::PlainFinding;
-use warc_record::{ArchiveFacts, Finding};
+use warc_record::{ArchiveFacts, Finding, PlainFinding};
 
 /// The number of the finding that a digest differs: N4.
 const DIGEST_NUMBER: u8 = 4;

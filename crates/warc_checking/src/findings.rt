@@ -9,7 +9,8 @@ ghost use Rattle.warc_record.specs.Readings.{digest_wanted};
 ghost use Rattle.warc_reading.specs.Archive.{contents};
 ghost use Rattle.warc_reading.specs.Judging.{IsNextPlain};
 ghost use Rattle.warc_reading.specs.Placing.{IsInRow};
-ghost use Rattle.warc_reading.specs.Rereading.{HasHeadOf, HasRoomFor, HasTextOf, ReadsHeads, reread_result, row_len};
+ghost use Rattle.warc_frame.specs.Send.{early_result};
+ghost use Rattle.warc_reading.specs.Rereading.{HasHeadOf, HasRoomFor, HasTextOf, ReadsHeads, row_len};
 ghost use Rattle.warc_reading.specs.Row.{Placed};
 ghost use Rattle.warc_checking.specs.Judged.{own_findings};
 ghost use Rattle.warc_checking.specs.Judging.{AddsGoodHead, IsOneMore, all_shown, settled};
@@ -20,9 +21,9 @@ use crate::own_findings::OwnFindings;
 use std::alloc::{AllocError, Allocator};
 use std::marker::Model;
 use warc_field::Fields;
-use warc_frame::Source;
+use warc_frame::{EarlyFault, Source};
 use warc_quick::{QuickHead, QuickRecord, text_findings};
-use warc_reading::{BlockDigest, Keep, RereadFault, Row, good_head_in, reread_text};
+use warc_reading::{BlockDigest, Keep, Row, good_head_in, reread_text};
 use warc_record::GoodHead;
 use warc_value::{Verdict, Wanted};
 
@@ -70,7 +71,7 @@ fn add_good_head<A: Allocator + Copy>(
     text: &[u8],
     block_len: u64,
     findings: &mut OwnFindings<A>,
-) -> Result<Wanted, RereadFault>
+) -> Result<Wanted, EarlyFault>
     ensures is { AddsGoodHead text.now block_len findings.old findings.new result }
     ensures more { OnOk result ((found : Found) × (findings.new ≡ findings.old ++ found ∷ [])) }
     ensures err { OnErr result (findings.new ≡ findings.old) }
@@ -78,7 +79,7 @@ fn add_good_head<A: Allocator + Copy>(
     let head = good_head_in(alloc, text, block_len)?;
     match findings.add(alloc, head.fields(), block_len) {
         Ok(()) => Ok(head.wanted()),
-        Err(_) => Err(RereadFault::Memory),
+        Err(_) => Err(EarlyFault::Memory),
     }
 }
 
@@ -88,7 +89,7 @@ fn add_head<A: Allocator + Copy>(
     text: &[u8],
     block_len: u64,
     findings: &mut OwnFindings<A>,
-) -> Result<Wanted, RereadFault>
+) -> Result<Wanted, EarlyFault>
     ensures is { AddsGoodHead text.now block_len findings.old findings.new result }
     ensures more { OnOk result ((found : Found) × (findings.new ≡ findings.old ++ found ∷ [])) }
     ensures err { OnErr result (findings.new ≡ findings.old) }
@@ -98,7 +99,7 @@ fn add_head<A: Allocator + Copy>(
     };
     match findings.add_plain(&found) {
         Ok(()) => Ok(wanted),
-        Err(_) => Err(RereadFault::Memory),
+        Err(_) => Err(EarlyFault::Memory),
     }
 }
 
@@ -188,7 +189,7 @@ fn reread_head<S: Source, A: Allocator + Copy>(
     row: &Row<'_>,
     findings: &mut OwnFindings<A>,
     buf: &mut [u8],
-) -> Result<Wanted, RereadFault>
+) -> Result<Wanted, EarlyFault>
     requires { HasRoomFor row.now buf.old }
     ensures read { IfHeld (S.seen source.old).holds (λ bytes. (is : HasHeadOf row.now bytes) →
         IfOk result (λ wanted. (wanted ≡ digest_wanted is.placed.content.fields)
@@ -197,7 +198,7 @@ fn reread_head<S: Source, A: Allocator + Copy>(
     ensures err { OnErr result (findings.new ≡ findings.old) }
     ensures size { IfOk result (λ _. row.now.offset ≤ row.now.block_start) }
     ensures reads { ReadsHeads (row.now ∷ []) (S.seen source.old) (S.seen source.new) }
-    ensures fails { FailsBy (HasHeadOf row.now) (reread_result result) (S.seen source.old) (S.seen source.new) }
+    ensures fails { FailsBy (HasHeadOf row.now) (early_result result) (S.seen source.old) (S.seen source.new) }
 {
     let len = reread_text(source, row, buf)?;
     add_head(alloc, &buf[..len], row.block_len, findings)
@@ -211,7 +212,7 @@ fn add_reread<S: Source, A: Allocator + Copy>(
     findings: &mut OwnFindings<A>,
     batch: &mut Batch<A>,
     buf: &mut [u8],
-) -> Result<(), RereadFault>
+) -> Result<(), EarlyFault>
     requires room { max_head ≤ length buf.old }
     requires few { length batch.old < MAX_WAITING }
     requires last { length batch.old ≤ length findings.old }
@@ -221,7 +222,7 @@ fn add_reread<S: Source, A: Allocator + Copy>(
         ≡ all_shown findings.old batch.old ++ own_findings is.placed.content ∷ [])) }
     ensures err { OnErr result (all_shown findings.new batch.new ≡ all_shown findings.old batch.old) }
     ensures reads { ReadsOnly (IsInRow row.now) (row_len row.now) (S.seen source.old) (S.seen source.new) }
-    ensures fails { FailsBy (HasTextOf row.now) (reread_result result) (S.seen source.old) (S.seen source.new) }
+    ensures fails { FailsBy (HasTextOf row.now) (early_result result) (S.seen source.old) (S.seen source.new) }
 {
     let count = findings.len();
     let wanted = reread_head(alloc, source, row, findings, buf)?;
@@ -309,13 +310,13 @@ impl<A: Allocator + Copy> Judging<A> {
         source: &mut S,
         row: &Row<'_>,
         buf: &mut [u8],
-    ) -> Result<(), RereadFault>
+    ) -> Result<(), EarlyFault>
         requires { max_head ≤ length buf.old }
         ensures added { IfHeld (S.seen source.old).holds (λ bytes. (is : HasTextOf row.now bytes) →
             OnOk result (self.new ≡ self.old ++ own_findings is.placed.content ∷ [])) }
         ensures err { OnErr result (self.new ≡ self.old) }
         ensures reads { ReadsOnly (IsInRow row.now) (row_len row.now) (S.seen source.old) (S.seen source.new) }
-        ensures fails { FailsBy (HasTextOf row.now) (reread_result result) (S.seen source.old) (S.seen source.new) }
+        ensures fails { FailsBy (HasTextOf row.now) (early_result result) (S.seen source.old) (S.seen source.new) }
     {
         settle_if_full(&mut self.findings, &mut self.batch, row.block_len);
         add_reread(alloc, source, row, &mut self.findings, &mut self.batch, buf)

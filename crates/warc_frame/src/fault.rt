@@ -1,10 +1,11 @@
 //! The first fault of an archive: what it is, and where.
 ghost use Rattle.std.specs.Prelude.{◌≡◌, ◌≤◌, ◌++◌, decimal, length, Some};
-ghost use Rattle.warc_frame.specs.Send.{sent_of};
+ghost use Rattle.warc_frame.specs.Send.{ended_by, sent_of};
 ghost use Rattle.warc_frame.specs.FaultText.{name_of, kind_text, fault_text, out_fault_text};
 
 use crate::names;
 use crate::send::SendFault;
+use crate::source::ReadFault;
 use std::alloc::AllocError;
 use std::fmt;
 use thiserror::Error;
@@ -195,6 +196,61 @@ impl From<SendFault> for OutFault {
 
     fn from(fault: SendFault) -> OutFault {
         OutFault::Write(fault.sent)
+    }
+}
+
+/// Why a call fails that writes nothing, or an output before its first byte.
+#[derive(Clone, Copy, PartialEq, Eq, Debug)]
+pub enum EarlyFault {
+    /// A read failed, or the source doesn't give what it gave before.
+    Read,
+
+    /// A growth of the memory was refused.
+    Memory,
+}
+
+impl EarlyFault {
+    /// The same as the end of an output of which `sent` bytes went out.
+    pub fn after(self, sent: u64) -> OutFault
+        ensures { result ≡ ended_by self sent }
+    {
+        match self {
+            EarlyFault::Read => OutFault::Read(sent),
+            EarlyFault::Memory => OutFault::Memory(sent),
+        }
+    }
+}
+
+impl From<ReadFault> for EarlyFault {
+    ghost use Rattle.std.specs.Prelude.{◌≡◌};
+    ghost use Rattle.warc_frame.specs.declared.fault.EarlyFault.TheVariants.{Read};
+
+    ghost from_gives = { λ _ e. e ≡ Read };
+
+    fn from(_: ReadFault) -> EarlyFault {
+        EarlyFault::Read
+    }
+}
+
+impl From<AllocError> for EarlyFault {
+    ghost use Rattle.std.specs.Prelude.{◌≡◌};
+    ghost use Rattle.warc_frame.specs.declared.fault.EarlyFault.TheVariants.{Memory};
+
+    ghost from_gives = { λ _ e. e ≡ Memory };
+
+    fn from(_: AllocError) -> EarlyFault {
+        EarlyFault::Memory
+    }
+}
+
+impl From<EarlyFault> for OutFault {
+    ghost use Rattle.std.specs.Prelude.{◌≡◌};
+    ghost use Rattle.warc_frame.specs.Send.{ended_by};
+
+    ghost from_gives = { λ fault out. out ≡ ended_by fault 0 };
+
+    fn from(fault: EarlyFault) -> OutFault {
+        fault.after(0)
     }
 }
 

@@ -22,7 +22,7 @@ mod version;
 pub use buffer::{OutBuffer, put_all, put_columns};
 pub use canonical::write_one;
 pub use count::raise;
-pub use fault::{Fault, FaultKind, Mandatory, OutFault};
+pub use fault::{EarlyFault, Fault, FaultKind, Mandatory, OutFault};
 pub use field_name::{FieldName, NAME_COUNT};
 pub use framed::{Framed, FramedFault};
 pub use front::{Head, MAX_BLOCK, MAX_HEAD, read_head, read_one};

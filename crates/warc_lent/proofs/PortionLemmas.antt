@@ -7,8 +7,8 @@ use Rattle.std.proofs.Math.Seq.{drop-append_seam, take-append_seam}
 use Rattle.warc_field.specs.Lines.{crlf}
 use Rattle.warc_reading.specs.Archive.{IsArchiveOf, contents}
 use Rattle.warc_reading.specs.Row.{Row, row_of}
-use Rattle.warc_reading.specs.declared.reread.RereadFault.{RereadFault}
-use Rattle.warc_reading.specs.declared.reread.RereadFault.TheVariants.{Memory}
+use Rattle.warc_frame.specs.declared.fault.EarlyFault.{EarlyFault}
+use Rattle.warc_frame.specs.declared.fault.EarlyFault.TheVariants.{Memory}
 use Rattle.warc_rewrite.specs.Selecting.{record_bytes}
 use Rattle.warc_portions.specs.Outputs.{EndsAfterRecords, IsAny, IsFollowed, IsNextPortion, Left, NothingIsLeft, left_selected}
 use Rattle.warc_portions.specs.Portions.{IsPortionOf, IsRecordPlace}
@@ -45,7 +45,7 @@ pub next_put : {A : Type 0} (left : Left) (MayBe : Cursor → Type 0) (cursor : 
 next_put {A} left MayBe cursor lent portion next numbers buffer (text, of, followed) same put =
     (text, put text of, subst (λ c. IsFollowed left MayBe cursor text c) (sym same) followed)
 
-pub next_refused : (fault : RereadFault) → fault ≡ Memory → problem_of_reread fault ≡ problems.Memory
+pub next_refused : (fault : EarlyFault) → fault ≡ Memory → problem_of_reread fault ≡ problems.Memory
 next_refused fault is = ap problem_of_reread is
 
 past : {X : Type 0} (xs : List X) (i : ℕ) → slice_get xs i ≡ None → length xs ≤ i

@@ -3,8 +3,8 @@ use Rattle.std.specs.Prelude.{◌≡◌, ◌⊎◌, ℕ, ◌+◌, Bool, true, fa
 use Rattle.warc_frame.specs.Effects.{HasRange}
 use Rattle.warc_frame.specs.Record.{Record}
 use Rattle.warc_frame.specs.Spelling.{canonical}
-use Rattle.warc_reading.specs.declared.reread.RereadFault.{RereadFault}
-use Rattle.warc_reading.specs.declared.reread.RereadFault.TheVariants as rereads
+use Rattle.warc_frame.specs.declared.fault.EarlyFault.{EarlyFault}
+use Rattle.warc_frame.specs.declared.fault.EarlyFault.TheVariants as rereads
 use Rattle.warc_write.specs.Making.{Plan, made}
 use Rattle.warc_write.specs.declared.made.MakeFault.{MakeFault}
 use Rattle.warc_write.specs.declared.made.MakeFault.TheVariants.{Memory as NoMemory}
@@ -17,7 +17,7 @@ use Rattle.warc_lent.specs.declared.problem.Problem.{Problem}
 use Rattle.warc_lent.specs.declared.problem.Problem.TheVariants as problems
 
 -- why no portion is made
-abbrev pub problem_of_reread : RereadFault → Problem
+abbrev pub problem_of_reread : EarlyFault → Problem
 problem_of_reread rereads.Read = problems.Changed
 problem_of_reread rereads.Memory = problems.Memory
 

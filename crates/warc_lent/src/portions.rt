@@ -16,10 +16,10 @@ use crate::buffers::put_text_at;
 use crate::problem::Problem;
 use std::alloc::Allocator;
 use warc::{Archive, Form};
-use warc_frame::Source;
+use warc_frame::{EarlyFault, Source};
 use warc_portions::laws::{ends_after_positions, ends_after_records};
 use warc_portions::{Cursor, Portion, next_as, next_selected, next_split, portion_made};
-use warc_reading::{RereadFault, Row};
+use warc_reading::Row;
 use warc_record::Kind;
 
 /// What closes a record.
@@ -42,12 +42,12 @@ pub struct PortionNumbers {
 }
 
 /// Why no portion is made.
-fn problem_of_reread(fault: RereadFault) -> Problem
+fn problem_of_reread(fault: EarlyFault) -> Problem
     ensures { result ≡ problem_of_reread fault }
 {
     match fault {
-        RereadFault::Read => Problem::Changed,
-        RereadFault::Memory => Problem::Memory,
+        EarlyFault::Read => Problem::Changed,
+        EarlyFault::Memory => Problem::Memory,
     }
 }
 

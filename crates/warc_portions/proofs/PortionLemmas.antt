@@ -14,8 +14,8 @@ use Rattle.warc_portions.specs.Portions.{IsInPlace, IsPortionOf, IsRecordPlace}
 use Rattle.warc_portions.specs.declared.portion.Portion.{Portion}
 use Rattle.warc_reading.specs.Archive.{IsArchiveOf}
 use Rattle.warc_reading.specs.Row.{Placed, Row}
-use Rattle.warc_reading.specs.declared.reread.RereadFault.{RereadFault}
-use Rattle.warc_reading.specs.declared.reread.RereadFault.TheVariants.{Memory}
+use Rattle.warc_frame.specs.declared.fault.EarlyFault.{EarlyFault}
+use Rattle.warc_frame.specs.declared.fault.EarlyFault.TheVariants.{Memory}
 use Rattle.warc_rewrite.specs.Forms.{text_as}
 use Rattle.warc_rewrite.specs.declared.forms.Form.TheVariants.{Converted}
 use Rattle.warc_record.specs.Readings.{digest_wanted}
@@ -123,23 +123,23 @@ cuttable bytes row p version fields len size bad block at version_is fields_are 
 
 -- ---- what a call gives
 
-abbrev pub IsOfHead : {A : Type 0} → Result (Portion A) RereadFault → Version → List Pair → ℕ → ℕ → Type 0
+abbrev pub IsOfHead : {A : Type 0} → Result (Portion A) EarlyFault → Version → List Pair → ℕ → ℕ → Type 0
 IsOfHead result version fields start len =
     IfOk result (λ portion. portion.head.items ≡ head_text version (canonical_fields fields))
     × IfOk result (λ portion. portion.block_start ≡ start) × IfOk result (λ portion. portion.block_len ≡ len)
     × IfErr result (λ fault. fault ≡ Memory)
 
-abbrev pub GivesText : {A : Type 0} → Result (Portion A) RereadFault → List ℕ → List ℕ → Type 0
+abbrev pub GivesText : {A : Type 0} → Result (Portion A) EarlyFault → List ℕ → List ℕ → Type 0
 GivesText result bytes text = MatchResult result (λ portion. IsPortionOf portion bytes text) (λ fault. fault ≡ Memory)
 
-pub gives_copied : {A : Type 0} (result : Result (Portion A) RereadFault) (version : Version) (fields : List Pair) (start len : ℕ)
+pub gives_copied : {A : Type 0} (result : Result (Portion A) EarlyFault) (version : Version) (fields : List Pair) (start len : ℕ)
     → IsOfHead result version fields start len → (bytes : List ℕ) (row : Row) (p : Placed) → IsInPlace bytes row p → version ≡ p.content.version
     → fields ≡ p.content.fields → start ≡ row.block_start → len ≡ row.block_len → GivesText result bytes (canonical p.content)
 gives_copied {A} (Ok portion) version fields start len of_head bytes row p at version_is fields_are start_is len_is =
     copied portion bytes row p version fields at of_head.0 version_is fields_are (of_head.1 ∙ start_is) (of_head.2 ∙ len_is)
 gives_copied {A} (Err fault) version fields start len of_head bytes row p at version_is fields_are start_is len_is = of_head.3
 
-pub gives_converted : {A : Type 0} (result : Result (Portion A) RereadFault) (fields : List Pair) (start len : ℕ)
+pub gives_converted : {A : Type 0} (result : Result (Portion A) EarlyFault) (fields : List Pair) (start len : ℕ)
     → IsOfHead result V1_1 fields start len → (bytes : List ℕ) (row : Row) (p : Placed) → IsInPlace bytes row p
     → fields ≡ converted_fields p.content.fields → start ≡ row.block_start → len ≡ row.block_len
     → GivesText result bytes (text_as Converted p.content)
@@ -147,7 +147,7 @@ gives_converted {A} (Ok portion) fields start len of_head bytes row p at fields_
     copied_converted portion bytes row p fields at of_head.0 fields_are (of_head.1 ∙ start_is) (of_head.2 ∙ len_is)
 gives_converted {A} (Err fault) fields start len of_head bytes row p at fields_are start_is len_is = of_head.3
 
-pub gives_segment : {A : Type 0} (result : Result (Portion A) RereadFault) (version : Version) (fields : List Pair) (start len : ℕ)
+pub gives_segment : {A : Type 0} (result : Result (Portion A) EarlyFault) (version : Version) (fields : List Pair) (start len : ℕ)
     → IsOfHead result version fields start len → (bytes : List ℕ) (row : Row) (p : Placed) (given : List Pair) (uuid : List ℕ)
     (size at : ℕ) (part : SegmentPart) (digest : List ℕ) → IsInPlace bytes row p → at * size < row.block_len → version ≡ p.content.version
     → given ≡ p.content.fields → fields ≡ segment_fields given uuid part → start ≡ row.block_start + at * size

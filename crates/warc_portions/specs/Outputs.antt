@@ -4,8 +4,8 @@ use Rattle.std.specs.Prelude.{◌≡◌, ◌<◌, ◌≤◌, ℕ, ◌+◌, ⊤, 
 use Rattle.std.specs.List.{flat_map}
 use Rattle.warc_frame.specs.Record.{Record}
 use Rattle.warc_reading.specs.Row.{Row}
-use Rattle.warc_reading.specs.declared.reread.RereadFault.{RereadFault}
-use Rattle.warc_reading.specs.declared.reread.RereadFault.TheVariants.{Memory}
+use Rattle.warc_frame.specs.declared.fault.EarlyFault.{EarlyFault}
+use Rattle.warc_frame.specs.declared.fault.EarlyFault.TheVariants.{Memory}
 use Rattle.warc_write.specs.Cutting.{split_or_whole}
 use Rattle.warc_write.specs.Rendering.{canonical_texts}
 use Rattle.warc_rewrite.specs.Forms.{split_text}
@@ -24,7 +24,7 @@ IsFollowed left MayBe cursor text next = (left cursor ≡ text ++ left next) × 
 
 -- what is left at a cursor is a portion and what is left at the next cursor, or memory ran out
 abbrev pub IsNextPortion : {A : Type 0} → Left → (Cursor → Type 0) → Cursor → List ℕ
-    → Result (Portion A × Cursor) RereadFault → Type 0
+    → Result (Portion A × Cursor) EarlyFault → Type 0
 IsNextPortion left MayBe cursor lent (Ok given) =
     (text : List ℕ) × IsPortionOf given.0 lent text × IsFollowed left MayBe cursor text given.1
 IsNextPortion left MayBe cursor lent (Err fault) = fault ≡ Memory

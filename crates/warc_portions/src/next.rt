@@ -12,7 +12,8 @@ use crate::place::record_place;
 use crate::portion::{Portion, portion_as};
 use crate::segments::portion_split;
 use std::alloc::Allocator;
-use warc_reading::{RereadFault, Row};
+use warc_frame::EarlyFault;
+use warc_reading::Row;
 use warc_rewrite::Form;
 
 /// Where the next portion of an output is.
@@ -44,7 +45,7 @@ pub fn next_as<A: Allocator + Copy>(
     row: &Row<'_>,
     bytes: &[u8],
     cursor: Cursor,
-) -> Result<(Portion<A>, Cursor), RereadFault>
+) -> Result<(Portion<A>, Cursor), EarlyFault>
     requires { cursor.place + 1 < 2 ^ 64 }
     ensures next { (rows : List Seen) (is : IsArchiveOf bytes.now rows) → slice_get rows cursor.place ≡ Some row.now →
         IsNextPortion (left_of (text_as form) (contents is.are.records)) IsAny cursor bytes.now result }
@@ -80,7 +81,7 @@ pub fn next_split<A: Allocator + Copy>(
     row: &Row<'_>,
     bytes: &[u8],
     cursor: Cursor,
-) -> Result<(Portion<A>, Cursor), RereadFault>
+) -> Result<(Portion<A>, Cursor), EarlyFault>
     requires { cursor.place + 1 < 2 ^ 64 }
     ensures next { (rows : List Seen) (is : IsArchiveOf bytes.now rows) → slice_get rows cursor.place ≡ Some row.now →
         IsInSplit size (contents is.are.records) cursor → IsNextPortion (left_split size (contents is.are.records))

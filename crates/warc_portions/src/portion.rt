@@ -10,8 +10,8 @@ ghost use Rattle.warc_rewrite.specs.Forms.{text_as};
 
 use std::alloc::{AllocError, Allocator};
 use warc_field::{Fields, write_area};
-use warc_frame::{Head, Version};
-use warc_reading::{RereadFault, Row, head_in};
+use warc_frame::{EarlyFault, Head, Version};
+use warc_reading::{Row, head_in};
 use warc_rewrite::Form;
 use warc_write::convert_fields;
 
@@ -48,12 +48,12 @@ pub(crate) fn portion_of<A: Allocator + Copy>(
     fields: &Fields<A>,
     block_start: u64,
     block_len: u64,
-) -> Result<Portion<A>, RereadFault>
+) -> Result<Portion<A>, EarlyFault>
     ensures head { IfOk result (λ portion.
         portion.head.items ≡ head_text version (canonical_fields fields.now)) }
     ensures start { IfOk result (λ portion. portion.block_start ≡ block_start) }
     ensures len { IfOk result (λ portion. portion.block_len ≡ block_len) }
-    ensures memory { IfErr result (λ fault. fault ≡ RereadFault.Memory) }
+    ensures memory { IfErr result (λ fault. fault ≡ EarlyFault.Memory) }
 {
     match head_text(alloc, version, fields) {
         Ok(head) => Ok(Portion {
@@ -61,7 +61,7 @@ pub(crate) fn portion_of<A: Allocator + Copy>(
             block_start,
             block_len,
         }),
-        Err(_) => Err(RereadFault::Memory),
+        Err(_) => Err(EarlyFault::Memory),
     }
 }
 
@@ -82,13 +82,13 @@ pub(crate) fn head_at<A: Allocator + Copy>(
     alloc: A,
     row: &Row<'_>,
     bytes: &[u8],
-) -> Result<Head<A>, RereadFault>
+) -> Result<Head<A>, EarlyFault>
     ensures head { (p : Placed) → IsInPlace bytes.now row.now p →
-        MatchResult result (IsHeadReadOf p.content) (λ fault. fault ≡ RereadFault.Memory) }
+        MatchResult result (IsHeadReadOf p.content) (λ fault. fault ≡ EarlyFault.Memory) }
     ensures range { OnOk result (HasRange row.now.block_start row.now.block_len bytes.now) }
 {
     if !are_within(row, bytes) {
-        return Err(RereadFault::Read);
+        return Err(EarlyFault::Read);
     }
     let text = &bytes[row.offset as usize..row.block_start as usize];
     head_in(alloc, text, row.block_len)
@@ -100,9 +100,9 @@ pub(crate) fn portion_as<A: Allocator + Copy>(
     form: Form,
     row: &Row<'_>,
     bytes: &[u8],
-) -> Result<Portion<A>, RereadFault>
+) -> Result<Portion<A>, EarlyFault>
     ensures written { (p : Placed) → IsInPlace bytes.now row.now p → MatchResult result
-        (λ portion. IsPortionOf portion bytes.now (text_as form p.content)) (λ fault. fault ≡ RereadFault.Memory) }
+        (λ portion. IsPortionOf portion bytes.now (text_as form p.content)) (λ fault. fault ≡ EarlyFault.Memory) }
     ensures range { IfOk result (λ portion. HasRange portion.block_start portion.block_len bytes.now) }
 {
     let head = match head_at(alloc, row, bytes) {
@@ -114,7 +114,7 @@ pub(crate) fn portion_as<A: Allocator + Copy>(
         Form::Canonical => portion_of(alloc, head.version, &head.fields, start, len),
         Form::Converted => match convert_fields(alloc, &head.fields) {
             Ok(fields) => portion_of(alloc, Version::V1_1, &fields, start, len),
-            Err(_) => Err(RereadFault::Memory),
+            Err(_) => Err(EarlyFault::Memory),
         },
     }
 }

@@ -13,19 +13,17 @@ ghost use Rattle.warc_write.specs.Splitting.{segment_of};
 
 use crate::portion::{Portion, head_at, portion_of};
 use std::alloc::Allocator;
-use warc_frame::Head;
-use warc_reading::{RereadFault, Row};
+use warc_frame::{EarlyFault, Head};
+use warc_reading::Row;
 use warc_record::wanted;
-use warc_value::{Running, digest};
+use warc_value::digest;
 use warc_write::{SplitFault, cut, part_at, segment_count, segment_head, splittable};
 
 /// Whether a block isn't what the digest of its head says.
 fn is_bad<A: Allocator>(head: &Head<A>, block: &[u8]) -> bool
     ensures { result ≡ is_bad (verdict_of (digest_wanted head.now.fields) block.now) }
 {
-    let mut running = Running::new();
-    running.update(block);
-    running.verdict(&wanted(&head.fields)).is_bad()
+    wanted(&head.fields).verdict(block).is_bad()
 }
 
 /// How a row's record is cut: the bytes of its UUID, or `None` where it stays whole, since it is short or isn't split.
@@ -36,12 +34,12 @@ fn cut_first<A: Allocator + Copy>(
     row: &Row<'_>,
     head: &Head<A>,
     bytes: &[u8],
-) -> Result<Option<[u8; 16]>, RereadFault>
+) -> Result<Option<[u8; 16]>, EarlyFault>
     requires { HasRange row.now.block_start row.now.block_len bytes.now }
     ensures cut { (p : Placed) → IsInPlace bytes.now row.now p → IsHeadReadOf p.content head.now →
         IfOk result (λ uuid. split_or_whole size p.content ≡ records_by p.content size uuid) }
     ensures long { IfOk result (λ uuid. IfSome uuid (λ _. (0 < size) × (size < row.now.block_len))) }
-    ensures memory { IfErr result (λ fault. fault ≡ RereadFault.Memory) }
+    ensures memory { IfErr result (λ fault. fault ≡ EarlyFault.Memory) }
 {
     if row.block_len <= size {
         return Ok(None);
@@ -50,7 +48,7 @@ fn cut_first<A: Allocator + Copy>(
     let bad = is_bad(head, block);
     match cut(alloc, head.version, &head.fields, size, row.block_len, bad) {
         Ok(uuid) => Ok(uuid),
-        Err(SplitFault::Memory) => Err(RereadFault::Memory),
+        Err(SplitFault::Memory) => Err(EarlyFault::Memory),
         Err(_) => Ok(None),
     }
 }
@@ -60,21 +58,21 @@ fn cut_further<A: Allocator>(
     size: u64,
     row: &Row<'_>,
     head: &Head<A>,
-) -> Result<Option<[u8; 16]>, RereadFault>
+) -> Result<Option<[u8; 16]>, EarlyFault>
     ensures cut { (r s : Record) (at : ℕ) → IsHeadReadOf r head.now → length r.block ≡ row.now.block_len → 0 < at →
         slice_get (split_or_whole size r) at ≡ Some s →
         MatchResult result (λ uuid. split_or_whole size r ≡ records_by r size uuid) (λ fault. ⊥) }
     ensures long { IfOk result (λ uuid. IfSome uuid (λ _. (0 < size) × (size < row.now.block_len))) }
 {
     if size == 0 {
-        return Err(RereadFault::Read);
+        return Err(EarlyFault::Read);
     }
     if row.block_len <= size {
-        return Err(RereadFault::Read);
+        return Err(EarlyFault::Read);
     }
     match splittable(&head.fields, size) {
         Ok(uuid) => Ok(Some(uuid)),
-        Err(_) => Err(RereadFault::Read),
+        Err(_) => Err(EarlyFault::Read),
     }
 }
 
@@ -86,12 +84,12 @@ fn cut_at<A: Allocator + Copy>(
     head: &Head<A>,
     at: u64,
     bytes: &[u8],
-) -> Result<Option<[u8; 16]>, RereadFault>
+) -> Result<Option<[u8; 16]>, EarlyFault>
     requires { HasRange row.now.block_start row.now.block_len bytes.now }
     ensures cut { (p : Placed) (s : Record) → IsInPlace bytes.now row.now p → IsHeadReadOf p.content head.now →
         slice_get (split_or_whole size p.content) at ≡ Some s → MatchResult result
         (λ uuid. split_or_whole size p.content ≡ records_by p.content size uuid)
-        (λ fault. fault ≡ RereadFault.Memory) }
+        (λ fault. fault ≡ EarlyFault.Memory) }
     ensures long { IfOk result (λ uuid. IfSome uuid (λ _. (0 < size) × (size < row.now.block_len))) }
 {
     if at == 0 {
@@ -110,14 +108,14 @@ fn segment_at<A: Allocator + Copy>(
     uuid: &[u8; 16],
     at: u64,
     bytes: &[u8],
-) -> Result<Portion<A>, RereadFault>
+) -> Result<Portion<A>, EarlyFault>
     requires range { HasRange row.now.block_start row.now.block_len bytes.now }
     requires some { 0 < size }
     requires inside { at * size < row.now.block_len }
     ensures segment { (p : Placed) → IsInPlace bytes.now row.now p → IsHeadReadOf p.content head.now → IfOk result
         (λ portion. IsPortionOf portion bytes.now (canonical (segment_of p.content uuid.now size at))) }
     ensures within { IfOk result (λ portion. HasRange portion.block_start portion.block_len bytes.now) }
-    ensures memory { IfErr result (λ fault. fault ≡ RereadFault.Memory) }
+    ensures memory { IfErr result (λ fault. fault ≡ EarlyFault.Memory) }
 {
     let gone = at * size;
     let start = row.block_start + gone;
@@ -126,7 +124,7 @@ fn segment_at<A: Allocator + Copy>(
     let part = part_at(size, row.block_len, at, digest);
     match segment_head(alloc, &head.fields, uuid, &part) {
         Ok(fields) => portion_of(alloc, head.version, &fields, start, len),
-        Err(_) => Err(RereadFault::Memory),
+        Err(_) => Err(EarlyFault::Memory),
     }
 }
 
@@ -139,11 +137,11 @@ pub(crate) fn portion_split<A: Allocator + Copy>(
     row: &Row<'_>,
     at: u64,
     bytes: &[u8],
-) -> Result<(Portion<A>, u64), RereadFault>
+) -> Result<(Portion<A>, u64), EarlyFault>
     ensures written { (p : Placed) (s : Record) → IsInPlace bytes.now row.now p →
         slice_get (split_or_whole size p.content) at ≡ Some s → MatchResult result
         (λ given. IsPortionOf given.0 bytes.now (canonical s) × (given.1 ≡ length (split_or_whole size p.content)))
-        (λ fault. fault ≡ RereadFault.Memory) }
+        (λ fault. fault ≡ EarlyFault.Memory) }
     ensures range { IfOk result (λ given. HasRange given.0.block_start given.0.block_len bytes.now) }
 {
     let head = match head_at(alloc, row, bytes) {
@@ -154,7 +152,7 @@ pub(crate) fn portion_split<A: Allocator + Copy>(
         Ok(Some(uuid)) => {
             let count = segment_count(size, row.block_len);
             if at >= count {
-                return Err(RereadFault::Read);
+                return Err(EarlyFault::Read);
             }
             match segment_at(alloc, size, row, &head, &uuid, at, bytes) {
                 Ok(portion) => Ok((portion, count)),

@@ -6,12 +6,13 @@ use Rattle.warc_frame.specs.Effects.{FailsBy}
 use Rattle.warc_frame.specs.Failing.{HasFailedBy, MayHaveFailedBy}
 use Rattle.warc_frame.specs.Seen.{SeenSource}
 use Rattle.warc_frame.specs.declared.fault.OutFault.{OutFault}
-use Rattle.warc_reading.specs.Rereading.{HasHead, HasHeadOf, HasRoomFor, IsHeadBy, ended_by, reread_result}
+use Rattle.warc_frame.specs.Send.{early_result, ended_by}
+use Rattle.warc_reading.specs.Rereading.{HasHead, HasHeadOf, HasRoomFor, IsHeadBy}
 use Rattle.warc_field.specs.Area.{Pair}
 use Rattle.warc_frame.specs.declared.version.Version.{Version}
 use Rattle.warc_reading.specs.Row.{Placed, Row, row_of}
-use Rattle.warc_reading.specs.declared.reread.RereadFault.{RereadFault}
-use Rattle.warc_reading.specs.declared.reread.RereadFault.TheVariants.{Memory, Read}
+use Rattle.warc_frame.specs.declared.fault.EarlyFault.{EarlyFault}
+use Rattle.warc_frame.specs.declared.fault.EarlyFault.TheVariants.{Memory, Read}
 
 -- how long the head is, by the row
 pub len_by_row : (bytes : List ℕ) (p : Placed) (row : Row) (has : HasHead bytes p) → row ≡ row_of p → row.block_start ≡ row.offset + has.len
@@ -41,26 +42,26 @@ reads_head bytes text p row len has same len_is text_is size =
     let to : ℕ → ℕ → Result Head Fault = λ m k. Ok (record { version = p.content.version; fields = p.content.fields; len = m; block_len = k }) in
     ap (head_of any_fields) is ∙ has.reads ∙ ap (λ m. to m (length p.content.block)) n ∙ ap (to (length text)) (sym block)
 
-pub read_or_memory : {X : Type 0} (r : Result X RereadFault) (P : X → Type 0) → MatchResult r P (λ fault. fault ≡ Memory) → IfOk r P
+pub read_or_memory : {X : Type 0} (r : Result X EarlyFault) (P : X → Type 0) → MatchResult r P (λ fault. fault ≡ Memory) → IfOk r P
 read_or_memory (Ok x) P is = is
 read_or_memory (Err e) P is = tt
 
 -- want of memory isn't a failure of the source
-pub only_memory : {X : Type 0} (r : Result X RereadFault) (P : X → Type 0) (old new : ℕ)
-    → MatchResult r P (λ fault. fault ≡ Memory) → new ≡ old → HasFailedBy (reread_result r) old new
+pub only_memory : {X : Type 0} (r : Result X EarlyFault) (P : X → Type 0) (old new : ℕ)
+    → MatchResult r P (λ fault. fault ≡ Memory) → new ≡ old → HasFailedBy (early_result r) old new
 only_memory (Ok x) P old new is same = same
 only_memory (Err e) P old new is same =
-    subst (λ (f : RereadFault). HasFailedBy {X = Unit {0}} (Err (ended_by f 0)) old new) (sym is) same
+    subst (λ (f : EarlyFault). HasFailedBy {X = Unit {0}} (Err (ended_by f 0)) old new) (sym is) same
 
 -- a source that hasn't failed may give something else
-pub may_be_sound : {X : Type 0} (r : Result X RereadFault) (old new : ℕ) → new ≡ old
-    → MayHaveFailedBy (reread_result r) old new
+pub may_be_sound : {X : Type 0} (r : Result X EarlyFault) (old new : ℕ) → new ≡ old
+    → MayHaveFailedBy (early_result r) old new
 may_be_sound (Ok x) old new same = same
 may_be_sound (Err Read) old new same = inl same
 may_be_sound (Err Memory) old new same = same
 
 -- a head that isn't read again, as the end of an output
-pub fails_ended : {X : Type 0} {Expected : List ℕ → Type 0} {old new : SeenSource} (fault : RereadFault) (e : OutFault)
+pub fails_ended : {X : Type 0} {Expected : List ℕ → Type 0} {old new : SeenSource} (fault : EarlyFault) (e : OutFault)
     (n : ℕ) → e ≡ ended_by fault n → FailsBy {X = Unit {0}} Expected (Err (ended_by fault 0)) old new
     → FailsBy {X = X} Expected (Err e) old new
 fails_ended {X} {Expected} {old} {new} Read e n is has =

@@ -9,15 +9,13 @@ use Rattle.warc_frame.specs.Record.{Record, max_archive, max_head}
 use Rattle.warc_frame.specs.Seen.{SeenSource}
 use Rattle.warc_frame.specs.declared.fault.FaultKind.{FaultKind}
 use Rattle.warc_frame.specs.declared.fault.FaultKind.TheVariants.{Memory as NoMemory}
-use Rattle.warc_frame.specs.declared.fault.OutFault.{OutFault}
-use Rattle.warc_frame.specs.declared.fault.OutFault.TheVariants.{Read as ReadFailed, Memory as OutOfMemory}
 use Rattle.warc_frame.specs.declared.front.Head.{Head}
 use Rattle.warc_frame.specs.declared.version.Version.{Version}
 use Rattle.warc_record.specs.Heads.{head_fault}
 use Rattle.warc_reading.specs.Placing.{ArePlacedIn, IsInAnyRow, IsPlacedIn}
 use Rattle.warc_reading.specs.Row.{Placed, Row, row_of}
-use Rattle.warc_reading.specs.declared.reread.RereadFault.{RereadFault}
-use Rattle.warc_reading.specs.declared.reread.RereadFault.TheVariants.{Read, Memory}
+use Rattle.warc_frame.specs.declared.fault.EarlyFault.{EarlyFault}
+use Rattle.warc_frame.specs.declared.fault.EarlyFault.TheVariants.{Read, Memory}
 
 -- the record's head is in the bytes where its place says, and it is good
 pub record HasHead (bytes : List ℕ) (p : Placed) : Type 0 where
@@ -64,19 +62,9 @@ pub record IsHeadReadOf {A : Type 0} (r : Record) (h : Head A) : Type 0 where
   pub fields : h.fields ≡ r.fields
 
 -- why a head isn't read again, by the outcome of reading it
-abbrev pub reread_fault_of : FaultKind → RereadFault
+abbrev pub reread_fault_of : FaultKind → EarlyFault
 reread_fault_of NoMemory = Memory
 reread_fault_of kind = Read
-
--- an output that ends so, after n bytes
-abbrev pub ended_by : RereadFault → ℕ → OutFault
-ended_by Read sent = ReadFailed sent
-ended_by Memory sent = OutOfMemory sent
-
--- the same as the end of an output of which nothing went out
-abbrev pub reread_result : {X : Type 0} → Result X RereadFault → Result (Unit {0}) OutFault
-reread_result (Ok x) = Ok tt
-reread_result (Err e) = Err (ended_by e 0)
 
 -- the head of a row's record is in the bytes
 pub record HasHeadOf (row : Row) (bytes : List ℕ) : Type 0 where

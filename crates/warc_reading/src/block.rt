@@ -6,8 +6,10 @@ ghost use Rattle.warc_record.specs.Readings.{digest_wanted};
 ghost use Rattle.warc_reading.specs.Blocks.{HasSeen};
 
 use std::alloc::Allocator;
+use warc_fixity::Judge;
+use warc_fixity::laws::wanted_is_judged;
 use warc_record::GoodHead;
-use warc_value::{Running, Verdict, Wanted};
+use warc_value::Verdict;
 
 /// What takes the bytes of a block as they come.
 pub trait TakeBlock: Drop + Sized {
@@ -40,41 +42,21 @@ impl TakeBlock for NoBlock {
     fn take_part(&mut self, _part: &[u8]) {}
 }
 
-/// The digest that a block is judged by, and the digest of the block's bytes so far.
+/// A block that is judged by the digest that its head asks for, as its bytes come.
 #[derive(Drop)]
 pub struct BlockDigest {
-    wanted: Wanted,
-    running: Running,
+    judge: Judge,
 }
 
 impl BlockDigest {
-    /// No byte of the block is there yet.
-    fn new(wanted: Wanted) -> BlockDigest
-        ensures { (fields : List Pair) → wanted ≡ digest_wanted fields → HasSeen result fields [] }
-    {
-        BlockDigest {
-            wanted,
-            running: Running::new(),
-        }
-    }
-
-    /// Takes the block's next bytes. If no digest is wanted, it takes no time.
-    fn update(&mut self, part: &[u8])
-        ensures { (fields : List Pair) (bytes : List ℕ) → HasSeen self.old fields bytes → HasSeen self.new fields
-            (bytes ++ part.now) }
-    {
-        if let Wanted::Sha1(_) = self.wanted {
-            self.running.update(part);
-        }
-    }
-
     /// How the block compares with the digest that its head asks for.
     pub fn verdict(self) -> Verdict
         ensures { (fields : List Pair) (bytes : List ℕ) → HasSeen self fields bytes → result
             ≡ verdict_of (digest_wanted fields) bytes }
     {
-        let BlockDigest { wanted, running } = self;
-        running.verdict(&wanted)
+        wanted_is_judged();
+        let BlockDigest { judge } = self;
+        judge.verdict()
     }
 }
 
@@ -82,10 +64,12 @@ impl TakeBlock for BlockDigest {
     ghost has_seen = { HasSeen };
 
     fn begin<A: Allocator>(head: &GoodHead<A>) -> BlockDigest {
-        BlockDigest::new(head.wanted())
+        BlockDigest {
+            judge: Judge::wanting(&head.wanted()),
+        }
     }
 
     fn take_part(&mut self, part: &[u8]) {
-        self.update(part);
+        self.judge.update(part);
     }
 }

@@ -17,8 +17,7 @@ pub use kept::{Keep, RowsAlone};
 pub use opened::Opened;
 pub use pair::KeptPair;
 pub use reread::{
-    RereadFault, buffer_for, good_head_in, head_buffer, head_in, reread_good, reread_head,
-    reread_text,
+    buffer_for, good_head_in, head_buffer, head_in, reread_good, reread_head, reread_text,
 };
 pub use row_iter::RowIter;
 pub use rows::{Row, Rows, rows_fit};

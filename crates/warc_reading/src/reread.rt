@@ -6,42 +6,22 @@ ghost use Rattle.warc_frame.specs.Record.{Record, max_head};
 ghost use Rattle.warc_frame.specs.Seen.{IfHeld};
 ghost use Rattle.warc_frame.specs.declared.version.Version.{Version};
 ghost use Rattle.warc_record.specs.Heads.{head_fault};
-ghost use Rattle.warc_reading.specs.Rereading.{HasHeadOf, HasRoomFor, IsHeadBy, IsHeadReadOf, IsHeadText, ReadsHeads, ended_by, reread_fault_of, reread_result};
+ghost use Rattle.warc_frame.specs.Send.{early_result, ended_by};
+ghost use Rattle.warc_reading.specs.Rereading.{HasHeadOf, HasRoomFor, IsHeadBy, IsHeadReadOf, IsHeadText, ReadsHeads, reread_fault_of};
 
 use crate::rows::Row;
 use std::alloc::{AllocError, Allocator};
 use warc_field::Fields;
-use warc_frame::{FaultKind, Head, MAX_HEAD, OutFault, Source, read_head, read_range};
+use warc_frame::{EarlyFault, FaultKind, Head, MAX_HEAD, OutFault, Source, read_head, read_range};
 use warc_record::{GoodHead, good_head_of};
 
-/// Why a head isn't read again.
-#[derive(Clone, Copy, PartialEq, Eq, Debug)]
-pub enum RereadFault {
-    /// A read failed, or the source doesn't give what it gave before.
-    Read,
-    /// A growth of the memory was refused.
-    Memory,
-}
-
-impl RereadFault {
-    /// The same as the end of an output of which `sent` bytes went out.
-    pub fn after(self, sent: u64) -> OutFault
-        ensures { result ≡ ended_by self sent }
-    {
-        match self {
-            RereadFault::Read => OutFault::Read(sent),
-            RereadFault::Memory => OutFault::Memory(sent),
-        }
-    }
-}
-
 /// Why a head isn't read again, by the outcome of reading it.
-fn reread_fault_of(kind: FaultKind) -> RereadFault
+fn reread_fault_of(kind: FaultKind) -> EarlyFault
     ensures { result ≡ reread_fault_of kind }
 {
     match kind {
-        FaultKind::Memory => RereadFault::Memory,
-        _ => RereadFault::Read,
+        FaultKind::Memory => EarlyFault::Memory,
+        _ => EarlyFault::Read,
     }
 }
 
@@ -50,10 +30,10 @@ pub fn head_in<A: Allocator + Copy>(
     alloc: A,
     text: &[u8],
     block_len: u64,
-) -> Result<Head<A>, RereadFault>
+) -> Result<Head<A>, EarlyFault>
     ensures is { (r : Record) → head_of any_fields text.now
         ≡ Ok (record { version = r.version; fields = r.fields; len = length text.now; block_len = block_len })
-        → MatchResult result (IsHeadReadOf r) (λ e. e ≡ RereadFault.Memory) }
+        → MatchResult result (IsHeadReadOf r) (λ e. e ≡ EarlyFault.Memory) }
     ensures whole { IfOk result (λ h. head_of any_fields text.now
         ≡ Ok (record { version = h.version; fields = h.fields; len = length text.now; block_len = block_len })) }
 {
@@ -62,16 +42,16 @@ pub fn head_in<A: Allocator + Copy>(
         Err(fault) => return Err(reread_fault_of(fault.kind)),
     };
     if head.len != text.len() || head.block_len != block_len {
-        return Err(RereadFault::Read);
+        return Err(EarlyFault::Read);
     }
     Ok(head)
 }
 
 /// The good head of these fields.
-fn judged<A: Allocator>(fields: Fields<A>) -> Result<GoodHead<A>, RereadFault>
+fn judged<A: Allocator>(fields: Fields<A>) -> Result<GoodHead<A>, EarlyFault>
     ensures fields { IfOk result (λ head. head ≡ fields) }
     ensures read { head_fault fields ≡ None →
-        MatchResult result (λ head. head ≡ fields) (λ e. e ≡ RereadFault.Memory) }
+        MatchResult result (λ head. head ≡ fields) (λ e. e ≡ EarlyFault.Memory) }
 {
     match good_head_of(fields) {
         Ok(head) => Ok(head),
@@ -84,10 +64,10 @@ pub fn good_head_in<A: Allocator + Copy>(
     alloc: A,
     text: &[u8],
     block_len: u64,
-) -> Result<GoodHead<A>, RereadFault>
+) -> Result<GoodHead<A>, EarlyFault>
     ensures is { (r : Record) → head_of any_fields text.now
         ≡ Ok (record { version = r.version; fields = r.fields; len = length text.now; block_len = block_len })
-        → head_fault r.fields ≡ None → MatchResult result (λ head. head ≡ r.fields) (λ e. e ≡ RereadFault.Memory) }
+        → head_fault r.fields ≡ None → MatchResult result (λ head. head ≡ r.fields) (λ e. e ≡ EarlyFault.Memory) }
     ensures whole { IfOk result (λ head. (version : Version) × (head_of any_fields text.now
         ≡ Ok (record { version = version; fields = head; len = length text.now; block_len = block_len }))) }
 {
@@ -127,21 +107,21 @@ pub fn reread_text<S: Source>(
     source: &mut S,
     row: &Row<'_>,
     buf: &mut [u8],
-) -> Result<usize, RereadFault>
+) -> Result<usize, EarlyFault>
     requires { HasRoomFor row.now buf.old }
     ensures text { IfHeld (S.seen source.old).holds (λ bytes. (is : HasHeadOf row.now bytes) →
         IfOk result (λ len. IsHeadText is.placed.content row.now (take len buf.new))) }
     ensures size { IfOk result (λ len. (len ≤ length buf.new) × (row.now.offset + len ≡ row.now.block_start)) }
     ensures kept { length buf.new ≡ length buf.old }
     ensures reads { ReadsHeads (row.now ∷ []) (S.seen source.old) (S.seen source.new) }
-    ensures fails { FailsBy (HasHeadOf row.now) (reread_result result) (S.seen source.old) (S.seen source.new) }
+    ensures fails { FailsBy (HasHeadOf row.now) (early_result result) (S.seen source.old) (S.seen source.new) }
 {
     let Some(len) = head_len(row, buf.len()) else {
-        return Err(RereadFault::Read);
+        return Err(EarlyFault::Read);
     };
     match read_range(source, row.offset, &mut buf[..len]) {
         Ok(()) => Ok(len),
-        Err(_) => Err(RereadFault::Read),
+        Err(_) => Err(EarlyFault::Read),
     }
 }
 
@@ -152,13 +132,13 @@ pub fn reread_head<S: Source, A: Allocator + Copy>(
     source: &mut S,
     row: &Row<'_>,
     buf: &mut [u8],
-) -> Result<Head<A>, RereadFault>
+) -> Result<Head<A>, EarlyFault>
     requires { HasRoomFor row.now buf.old }
     ensures read { IfHeld (S.seen source.old).holds (λ bytes. (is : HasHeadOf row.now bytes) →
         IfOk result (IsHeadReadOf is.placed.content)) }
     ensures whole { IfOk result (λ h. IsHeadBy row.now h.fields) }
     ensures reads { ReadsHeads (row.now ∷ []) (S.seen source.old) (S.seen source.new) }
-    ensures fails { FailsBy (HasHeadOf row.now) (reread_result result) (S.seen source.old) (S.seen source.new) }
+    ensures fails { FailsBy (HasHeadOf row.now) (early_result result) (S.seen source.old) (S.seen source.new) }
 {
     let len = reread_text(source, row, buf)?;
     head_in(alloc, &buf[..len], row.block_len)
@@ -171,13 +151,13 @@ pub fn reread_good<S: Source, A: Allocator + Copy>(
     source: &mut S,
     row: &Row<'_>,
     buf: &mut [u8],
-) -> Result<GoodHead<A>, RereadFault>
+) -> Result<GoodHead<A>, EarlyFault>
     requires { HasRoomFor row.now buf.old }
     ensures read { IfHeld (S.seen source.old).holds (λ bytes. (is : HasHeadOf row.now bytes) →
         IfOk result (λ head. head ≡ is.placed.content.fields)) }
     ensures whole { IfOk result (λ head. IsHeadBy row.now head) }
     ensures reads { ReadsHeads (row.now ∷ []) (S.seen source.old) (S.seen source.new) }
-    ensures fails { FailsBy (HasHeadOf row.now) (reread_result result) (S.seen source.old) (S.seen source.new) }
+    ensures fails { FailsBy (HasHeadOf row.now) (early_result result) (S.seen source.old) (S.seen source.new) }
 {
     let len = reread_text(source, row, buf)?;
     good_head_in(alloc, &buf[..len], row.block_len)

@@ -6,16 +6,15 @@ use Rattle.warc_frame.specs.Effects.{Emits, FailsBy, Puts}
 use Rattle.warc_frame.specs.Device.{Staged}
 use Rattle.warc_frame.specs.Failing.{failed_by}
 use Rattle.warc_frame.specs.Seen.{Seen, SeenSource}
-use Rattle.warc_frame.specs.Send.{WentOut, sent_of}
+use Rattle.warc_frame.specs.Send.{WentOut, ended_by, sent_of}
 use Rattle.warc_frame.specs.declared.fault.OutFault.{OutFault}
 use Rattle.warc_frame.specs.declared.fault.OutFault.TheVariants.{Write, Memory}
 use Rattle.warc_frame.specs.declared.send.SendFault.{SendFault}
 use Rattle.warc_frame.proofs.LawLemmas.{same_out, same_staged, staged_went_out, went_out_of_longer}
 use Rattle.warc_frame.proofs.EffectLemmas.{fails_after, fails_as, fails_more, fails_never}
 use Rattle.warc_reading.proofs.HeadLemmas.{fails_ended}
-use Rattle.warc_reading.specs.Rereading.{ended_by}
-use Rattle.warc_reading.specs.declared.reread.RereadFault.{RereadFault}
-use Rattle.warc_reading.specs.declared.reread.RereadFault.TheVariants.{Read as NotRead, Memory as NoMemory}
+use Rattle.warc_frame.specs.declared.fault.EarlyFault.{EarlyFault}
+use Rattle.warc_frame.specs.declared.fault.EarlyFault.TheVariants.{Read as NotRead, Memory as NoMemory}
 
 -- what the bytes of a source have to give
 abbrev pub Giving : Type 1
@@ -134,16 +133,16 @@ of_read {X} {x} kept sound = record {
 }
 
 -- an end before the text, for a head that isn't read again
-ended_sent : (fault : RereadFault) (e : OutFault) (sent : ℕ) → e ≡ ended_by fault sent → sent_of e ≡ sent
+ended_sent : (fault : EarlyFault) (e : OutFault) (sent : ℕ) → e ≡ ended_by fault sent → sent_of e ≡ sent
 ended_sent NotRead e sent is = ap sent_of is
 ended_sent NoMemory e sent is = ap sent_of is
 
-ended_sound : (X : Type 0) (fault : RereadFault) (e : OutFault) (sent n : ℕ) → e ≡ ended_by fault sent → n ≡ failed_by {X = X} (Err e) n
+ended_sound : (X : Type 0) (fault : EarlyFault) (e : OutFault) (sent n : ℕ) → e ≡ ended_by fault sent → n ≡ failed_by {X = X} (Err e) n
 ended_sound X NotRead e sent n is = ap (λ f. failed_by {X = X} (Err f) n) (sym is)
 ended_sound X NoMemory e sent n is = ap (λ f. failed_by {X = X} (Err f) n) (sym is)
 
 pub of_fault : {X : Type 0} {All : Giving} {from last : SeenSource} {to : Seen} {waits : Staged} {Expected : List ℕ → Type 0}
-    (fault : RereadFault) (e : OutFault) (sent : ℕ) → e ≡ ended_by fault sent → sent ≡ waits.sent
+    (fault : EarlyFault) (e : OutFault) (sent : ℕ) → e ≡ ended_by fault sent → sent ≡ waits.sent
     → last.holds ≡ from.holds → FailsBy {X = Unit {0}} Expected (Err (ended_by fault 0)) from last
     → ((bytes text : List ℕ) → All bytes text → Expected bytes) → Emits {X = X} All from last to to waits waits (Err e)
 of_fault {X} {All} {from} {last} {to} {waits} {Expected} fault e sent is is_sent kept fails expected = record {

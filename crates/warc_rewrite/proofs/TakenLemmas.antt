@@ -12,10 +12,11 @@ use Rattle.warc_frame.specs.Seen.{SeenSource}
 use Rattle.warc_frame.proofs.EffectLemmas.{reads_both, reads_within}
 use Rattle.warc_reading.specs.Archive.{IsArchiveOf}
 use Rattle.warc_lookup.specs.Indexed.{placed_record}
-use Rattle.warc_reading.specs.Rereading.{HasHeadOf, IsInHead, ReadsHeads, ended_by, heads_len}
+use Rattle.warc_frame.specs.Send.{ended_by}
+use Rattle.warc_reading.specs.Rereading.{HasHeadOf, IsInHead, ReadsHeads, heads_len}
 use Rattle.warc_reading.specs.Row.{Placed, Row, row_of}
-use Rattle.warc_reading.specs.declared.reread.RereadFault.{RereadFault}
-use Rattle.warc_reading.specs.declared.reread.RereadFault.TheVariants.{Read, Memory}
+use Rattle.warc_frame.specs.declared.fault.EarlyFault.{EarlyFault}
+use Rattle.warc_frame.specs.declared.fault.EarlyFault.TheVariants.{Read, Memory}
 use Rattle.warc_reading.proofs.PlaceLemmas.{HeadsAreRead, checkable_archive}
 use Rattle.warc_reading.proofs.PlacedLemmas.{placed, take_one}
 use Rattle.warc_reading.proofs.ReadLemmas.{one_row}
@@ -115,7 +116,7 @@ head_is_present law bytes rows i row is at =
     let (p, there, same) = placed is.are.records i row (sym (ap (λ l. slice_get l i) is.are.rows_are) ∙ at) in
     head_has law bytes rows i row is p at there
 
-pub ended_early : (fault : RereadFault) → IsEarly (Out (ended_by fault 0))
+pub ended_early : (fault : EarlyFault) → IsEarly (Out (ended_by fault 0))
 ended_early Read = refl
 ended_early Memory = refl
 

@@ -1,9 +1,10 @@
 -- Which records are marked as needed, by position. States of the code: no public clause cites them.
-use Rattle.std.specs.Prelude.{◌≡◌, ◌⊎◌, ◌↔◌, ℕ, ◌<◌, Bool, true, false, List, [], ◌∷◌, length, map, Contains, slice_get, slice_index_or, Option, Some, Result, IfErr, IfOk, OnOk}
+use Rattle.std.specs.Prelude.{◌≡◌, ◌⊎◌, ◌↔◌, ℕ, ◌<◌, Bool, true, false, List, [], ◌∷◌, length, map, Contains, slice_get, slice_index_or, Option, Some, Result, IfOk, OnOk}
 use Rattle.warc_field.specs.Area.{Pair}
 use Rattle.warc_frame.specs.Effects.{FailsBy}
 use Rattle.warc_frame.specs.Seen.{IfHeld, SeenSource}
-use Rattle.warc_frame.specs.declared.fault.OutFault.{OutFault}
+use Rattle.warc_frame.specs.Send.{early_result}
+use Rattle.warc_frame.specs.declared.fault.EarlyFault.{EarlyFault}
 use Rattle.warc_record.specs.Readings.{Reading, reading_of}
 use Rattle.warc_record.specs.declared.readings.SegmentNumber.TheVariants.{Number}
 use Rattle.warc_index.specs.Walks.{walk}
@@ -15,8 +16,6 @@ use Rattle.warc_lookup.specs.Indexed.{placed_record, ArePartsOf}
 use Rattle.warc_reading.specs.Rereading.{ReadsHeads}
 use Rattle.warc_reading.specs.Row.{Placed, Row}
 use Rattle.warc_rewrite.specs.Selecting.{ArePositions}
-use Rattle.warc_answer.specs.Seen.{IsEarly}
-use Rattle.warc_answer.specs.declared.answer.ReplayFault.TheVariants.{Out}
 use Rattle.warc_rewrite.specs.declared.needs.Mark.{Mark}
 use Rattle.warc_rewrite.specs.declared.needs.Mark.TheVariants.{Free, Needed, Segment}
 
@@ -96,12 +95,11 @@ pub record IsSegmentAt (records : List Placed) (p q : ℕ) : Type 0 where
 
 -- the fields of the record at a position, read again; of the source its head alone is read
 pub record SaysAgain (rows : List Row) (position : ℕ) (old new : SeenSource)
-    (answer : Result (List Pair) OutFault) : Type 0 where
+    (answer : Result (List Pair) EarlyFault) : Type 0 where
   pub reported : IfHeld old.holds (λ bytes. (is : IsArchiveOf bytes rows) (p : Placed)
       → slice_get is.are.records position ≡ Some p → IfOk answer (λ head. head ≡ p.content.fields))
-  pub early : IfErr answer (λ e. IsEarly (Out e))
   pub reads : (row : Row) → slice_get rows position ≡ Some row → ReadsHeads (row ∷ []) old new
-  pub fails : FailsBy (λ bytes. IsArchiveOf bytes rows) answer old new
+  pub fails : FailsBy (λ bytes. IsArchiveOf bytes rows) (early_result answer) old new
 
 -- of the first n records that are marked at the beginning, the segments are marked as well, and nothing else
 pub record AreTakenOf (records : List Placed) (n : ℕ) (base marks : List Mark) : Type 0 where
@@ -117,23 +115,21 @@ HasNoSegment marks = (q : ℕ) → mark_in marks q ≡ Segment → ⊥
 
 -- the series of the record at a position is marked, where the source holds the archive's bytes
 pub record TakesOne (rows : List Row) (parts : Parts) (position : ℕ) (marks left : List Mark) (old new : SeenSource)
-    (answer : Result (Unit {0}) OutFault) : Type 0 where
+    (answer : Result (Unit {0}) EarlyFault) : Type 0 where
   pub reported : IfHeld old.holds (λ bytes. (is : IsArchiveOf bytes rows) (p : Placed)
       → slice_get is.are.records position ≡ Some p → ArePartsOf is.are.records parts
       → AreTaken (pieces_of is.are.records) marks
       → OnOk answer (TakesSeries (pieces_of is.are.records) (reading_of p.content.fields) marks left))
-  pub early : IfErr answer (λ e. IsEarly (Out e))
   pub reads : (row : Row) → slice_get rows position ≡ Some row → ReadsHeads (row ∷ []) old new
-  pub fails : FailsBy (λ bytes. IsArchiveOf bytes rows) answer old new
+  pub fails : FailsBy (λ bytes. IsArchiveOf bytes rows) (early_result answer) old new
 
 -- the segments of all marked records are marked; each head is read at most once, and nothing else
 pub record TakesAll (rows : List Row) (parts : Parts) (marks left : List Mark) (old new : SeenSource)
-    (answer : Result (Unit {0}) OutFault) : Type 0 where
+    (answer : Result (Unit {0}) EarlyFault) : Type 0 where
   pub reported : IfHeld old.holds (λ bytes. (is : IsArchiveOf bytes rows) → ArePartsOf is.are.records parts
       → HasNoSegment marks → OnOk answer (AreTakenOf is.are.records (length rows) marks left))
-  pub early : IfErr answer (λ e. IsEarly (Out e))
   pub reads : ReadsHeads rows old new
-  pub fails : FailsBy (λ bytes. IsArchiveOf bytes rows) answer old new
+  pub fails : FailsBy (λ bytes. IsArchiveOf bytes rows) (early_result answer) old new
 
 -- the positions below a count that pass a test
 pub record AreWhere (test : ℕ → Bool) (count : ℕ) (positions : List ℕ) : Type 0 where

@@ -1,14 +1,13 @@
 -- What is and what is left out besides named records, by position. States of the code: no public clause cites them.
-use Rattle.std.specs.Prelude.{◌≡◌, ◌⊎◌, ◌↔◌, ℕ, ◌<◌, Bool, true, false, List, [], ◌∷◌, length, Contains, slice_get, slice_index_or, slice_set, Option, Some, Result, IfErr, OnOk}
+use Rattle.std.specs.Prelude.{◌≡◌, ◌⊎◌, ◌↔◌, ℕ, ◌<◌, Bool, true, false, List, [], ◌∷◌, length, Contains, slice_get, slice_index_or, slice_set, Option, Some, Result, OnOk}
 use Rattle.warc_frame.specs.Effects.{FailsBy}
 use Rattle.warc_frame.specs.Seen.{IfHeld, SeenSource}
-use Rattle.warc_frame.specs.declared.fault.OutFault.{OutFault}
+use Rattle.warc_frame.specs.Send.{early_result}
+use Rattle.warc_frame.specs.declared.fault.EarlyFault.{EarlyFault}
 use Rattle.warc_record.specs.Readings.{Reading, reading_of}
 use Rattle.warc_index.specs.Walks.{walk}
 use Rattle.warc_segment.specs.Kept.{Kept as Parts}
 use Rattle.warc_segment.specs.Series.{IsMemberAt, Piece, series_of}
-use Rattle.warc_answer.specs.Seen.{IsEarly}
-use Rattle.warc_answer.specs.declared.answer.ReplayFault.TheVariants.{Out}
 use Rattle.warc_reading.specs.Archive.{IsArchiveOf}
 use Rattle.warc_lookup.specs.Indexed.{AreOf, ArePartsOf}
 use Rattle.warc_reading.specs.Rereading.{ReadsHeads}
@@ -126,23 +125,21 @@ AreFresh statuses = (q : ℕ) → (status_at statuses q ≡ Open) ⊎ IsNamedAt 
 
 -- the record at a position is judged by its segments, where the source holds the archive's bytes
 pub record JudgesRecord (rows : List Row) (parts : Parts) (position : ℕ) (statuses left : List Status)
-    (old new : SeenSource) (answer : Result (Unit {0}) OutFault) : Type 0 where
+    (old new : SeenSource) (answer : Result (Unit {0}) EarlyFault) : Type 0 where
   pub reported : IfHeld old.holds (λ bytes. (is : IsArchiveOf bytes rows) (p : Placed)
       → slice_get is.are.records position ≡ Some p → ArePartsOf is.are.records parts
       → AreMemos (pieces_of is.are.records) statuses
       → OnOk answer (LeavesIfNamed (pieces_of is.are.records) (reading_of p.content.fields) position statuses left))
-  pub early : IfErr answer (λ e. IsEarly (Out e))
   pub reads : (row : Row) → slice_get rows position ≡ Some row → ReadsHeads (row ∷ []) old new
-  pub fails : FailsBy (λ bytes. IsArchiveOf bytes rows) answer old new
+  pub fails : FailsBy (λ bytes. IsArchiveOf bytes rows) (early_result answer) old new
 
 -- all records are judged by their segments; each head is read at most once, and nothing else
 pub record JudgesRecords (rows : List Row) (parts : Parts) (statuses left : List Status) (old new : SeenSource)
-    (answer : Result (Unit {0}) OutFault) : Type 0 where
+    (answer : Result (Unit {0}) EarlyFault) : Type 0 where
   pub reported : IfHeld old.holds (λ bytes. (is : IsArchiveOf bytes rows) → ArePartsOf is.are.records parts
       → AreFresh statuses → OnOk answer (AreLeftBySegments is.are.records (length rows) statuses left))
-  pub early : IfErr answer (λ e. IsEarly (Out e))
   pub reads : ReadsHeads rows old new
-  pub fails : FailsBy (λ bytes. IsArchiveOf bytes rows) answer old new
+  pub fails : FailsBy (λ bytes. IsArchiveOf bytes rows) (early_result answer) old new
 
 -- ---- the ways
 
@@ -188,11 +185,10 @@ pub record AreAllSettled (next : ℕ → Option ℕ) (base statuses : List Statu
 
 -- where the source holds the archive's bytes, the records that are kept are those that need none at the positions
 pub record FindsStatuses (rows : List Row) (index : Indexes) (parts : Parts) (positions : List ℕ)
-    (statuses left : List Status) (old new : SeenSource) (answer : Result (Unit {0}) OutFault) : Type 0 where
+    (statuses left : List Status) (old new : SeenSource) (answer : Result (Unit {0}) EarlyFault) : Type 0 where
   pub reported : IfHeld old.holds (λ bytes. (is : IsArchiveOf bytes rows) → AreOf is.are.records index parts
       → ((q : ℕ) → status_at statuses q ≡ Open)
       → OnOk answer ((p : ℕ) → p < length rows
       → IsKeptAt left p ↔ (NeedsOneOf (records_read is.are.records) positions p → ⊥)))
-  pub early : IfErr answer (λ e. IsEarly (Out e))
   pub reads : ReadsHeads rows old new
-  pub fails : FailsBy (λ bytes. IsArchiveOf bytes rows) answer old new
+  pub fails : FailsBy (λ bytes. IsArchiveOf bytes rows) (early_result answer) old new

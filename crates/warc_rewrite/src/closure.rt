@@ -11,7 +11,7 @@ use crate::remainder::{
 };
 use std::alloc::Allocator;
 use warc_frame::laws::head_of_spelled;
-use warc_frame::{OutFault, Source};
+use warc_frame::{EarlyFault, OutFault, Source};
 use warc_lookup::Lookup;
 use warc_reading::{Rows, buffer_for, reread_good};
 use warc_record::GoodHead;
@@ -22,7 +22,7 @@ fn head_at<S: Source, A: Allocator + Copy>(
     source: &mut S,
     rows: &Rows<A>,
     position: usize,
-) -> Result<GoodHead<A>, OutFault>
+) -> Result<GoodHead<A>, EarlyFault>
     requires { position < length rows.now }
     ensures { SaysAgain rows.now position (S.seen source.old) (S.seen source.new) result }
 {
@@ -31,13 +31,8 @@ fn head_at<S: Source, A: Allocator + Copy>(
     let Some(row) = rows.get(position) else {
         unreachable!()
     };
-    let Ok(mut buf) = buffer_for(alloc, &row) else {
-        return Err(OutFault::Memory(0));
-    };
-    match reread_good(alloc, source, &row, &mut buf) {
-        Ok(head) => Ok(head),
-        Err(fault) => Err(fault.after(0)),
-    }
+    let mut buf = buffer_for(alloc, &row)?;
+    reread_good(alloc, source, &row, &mut buf)
 }
 
 /// Marks the segments of the record at a position, if it is the first one.
@@ -47,7 +42,7 @@ fn take_segments_of<S: Source, A: Allocator + Copy>(
     parts: &Parts<A>,
     marks: &mut [Mark],
     position: usize,
-) -> Result<(), OutFault>
+) -> Result<(), EarlyFault>
     requires inside { position < length rows.now }
     requires table { length marks.old ≡ length rows.now }
     ensures same { length marks.new ≡ length marks.old }
@@ -55,10 +50,8 @@ fn take_segments_of<S: Source, A: Allocator + Copy>(
         (S.seen source.new) result }
 {
     let head = head_at(source, rows, position)?;
-    match take_series(parts, marks, &head.typed()) {
-        Ok(()) => Ok(()),
-        Err(_) => Err(OutFault::Memory(0)),
-    }
+    take_series(parts, marks, &head.typed())?;
+    Ok(())
 }
 
 /// Marks the segments of all marked records. The head of each is read again.
@@ -67,7 +60,7 @@ fn take_segments<S: Source, A: Allocator + Copy>(
     rows: &Rows<A>,
     parts: &Parts<A>,
     marks: &mut [Mark],
-) -> Result<(), OutFault>
+) -> Result<(), EarlyFault>
     requires table { length marks.old ≡ length rows.now }
     ensures same { length marks.new ≡ length marks.old }
     ensures takes { TakesAll rows.now parts.now marks.old marks.new (S.seen source.old) (S.seen source.new) result }
@@ -87,7 +80,7 @@ fn take_all<S: Source, A: Allocator + Copy>(
     rows: &Rows<A>,
     parts: &Parts<A>,
     marks: &mut [Mark],
-) -> Result<(), OutFault>
+) -> Result<(), EarlyFault>
     requires table { length marks.old ≡ length rows.now }
     ensures same { length marks.new ≡ length marks.old }
     ensures takes { TakesAll rows.now parts.now marks.old marks.new (S.seen source.old) (S.seen source.new) result }
@@ -129,17 +122,15 @@ fn leave_segments_of<S: Source, A: Allocator + Copy>(
     parts: &Parts<A>,
     statuses: &mut [Status],
     position: usize,
-) -> Result<(), OutFault>
+) -> Result<(), EarlyFault>
     requires inside { position < length rows.now }
     ensures same { length statuses.new ≡ length statuses.old }
     ensures judges { JudgesRecord rows.now parts.now position statuses.old statuses.new (S.seen source.old)
         (S.seen source.new) result }
 {
     let head = head_at(source, rows, position)?;
-    match leave_if_named(parts, statuses, &head.typed(), position) {
-        Ok(()) => Ok(()),
-        Err(_) => Err(OutFault::Memory(0)),
-    }
+    leave_if_named(parts, statuses, &head.typed(), position)?;
+    Ok(())
 }
 
 /// Leaves out the records that have a named segment. The head of each that isn't named is read again.
@@ -148,7 +139,7 @@ fn leave_segments<S: Source, A: Allocator + Copy>(
     rows: &Rows<A>,
     parts: &Parts<A>,
     statuses: &mut [Status],
-) -> Result<(), OutFault>
+) -> Result<(), EarlyFault>
     requires table { length statuses.old ≡ length rows.now }
     ensures same { length statuses.new ≡ length statuses.old }
     ensures judges { JudgesRecords rows.now parts.now statuses.old statuses.new (S.seen source.old)
@@ -169,7 +160,7 @@ fn judge_all<S: Source, A: Allocator + Copy>(
     rows: &Rows<A>,
     parts: &Parts<A>,
     statuses: &mut [Status],
-) -> Result<(), OutFault>
+) -> Result<(), EarlyFault>
     requires table { length statuses.old ≡ length rows.now }
     ensures same { length statuses.new ≡ length statuses.old }
     ensures judges { JudgesRecords rows.now parts.now statuses.old statuses.new (S.seen source.old)
@@ -189,7 +180,7 @@ fn remain<S: Source, A: Allocator + Copy>(
     lookup: &Lookup<A>,
     statuses: &mut [Status],
     positions: &[usize],
-) -> Result<(), OutFault>
+) -> Result<(), EarlyFault>
     requires table { length statuses.old ≡ length rows.now }
     requires positions { ArePositions (length rows.now) positions.now }
     ensures same { length statuses.new ≡ length statuses.old }

@@ -1,5 +1,5 @@
 use Rattle.std.proofs.Common.{map, take, ◌∙◌}
-use Rattle.warc_quick.specs.PlainFindings.{plain_seen}
+use Rattle.warc_record.specs.Findings.{plain_seen}
 use Rattle.warc_checking.proofs.finding_list.add_plain_findings.Goals as goal
 
 pub returns-in_err-push-clause-more : goal.returns-in_err-push-clause-more

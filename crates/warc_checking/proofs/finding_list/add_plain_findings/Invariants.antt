@@ -1,5 +1,5 @@
 use Rattle.std.proofs.Common.{◌≡◌, ◌++◌, map, take}
-use Rattle.warc_quick.specs.PlainFindings.{plain_seen}
+use Rattle.warc_record.specs.Findings.{plain_seen}
 use Rattle.warc_checking.proofs.finding_list.add_plain_findings.Given as goal
 
 -- the findings so far are added

@@ -4,7 +4,7 @@ use Rattle.warc_field.specs.Area.{Pair}
 use Rattle.warc_frame.specs.Reading.{any_fields, head_of}
 use Rattle.warc_frame.specs.declared.version.Version.{Version}
 use Rattle.warc_record.specs.Heads.{head_fault}
-use Rattle.warc_reading.specs.declared.reread.RereadFault.TheVariants.{Memory}
+use Rattle.warc_frame.specs.declared.fault.EarlyFault.TheVariants.{Memory}
 use Rattle.warc_reading.proofs.reread.good_head_in.Goals as goal
 
 pub returns-clause-is : goal.returns-clause-is

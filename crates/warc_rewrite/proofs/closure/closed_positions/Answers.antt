@@ -1,8 +1,10 @@
-use Rattle.std.proofs.Common.{◌≡◌, ◌<◌, ℕ, List, length, map, sym, ap, subst, ◌∙◌, arith}
+use Rattle.std.proofs.Common.{◌≡◌, ◌<◌, ℕ, List, length, map, refl, sym, ap, subst, ◌∙◌, arith}
 use Rattle.std.specs.Prelude.{All, replicate}
 use Rattle.std.proofs.lemmas.List.{length-map, length-replicate}
 use Rattle.std.proofs.lemmas.List.{take_at}
-use Rattle.warc_frame.proofs.EffectLemmas.{fails_never}
+use Rattle.std.proofs.lemmas.Result.{err_from_is_err_and}
+use Rattle.warc_frame.proofs.EffectLemmas.{fails_more, fails_never}
+use Rattle.warc_reading.proofs.HeadLemmas.{fails_ended}
 use Rattle.warc_index.specs.Referents.{next_of}
 use Rattle.warc_lookup.specs.Indexed.{indexed_record}
 use Rattle.warc_rewrite.specs.declared.needs.Mark.{Mark}
@@ -10,7 +12,7 @@ use Rattle.warc_rewrite.specs.declared.needs.Mark.TheVariants.{Free}
 use Rattle.warc_rewrite.specs.Marks.{AreMarked, AreWhere, HasNoSegment, marks_needed, mark_in}
 use Rattle.warc_rewrite.specs.Selecting.{ArePositions}
 use Rattle.warc_rewrite.proofs.NeededLemmas.{closed_are, none_marked, none_segment}
-use Rattle.warc_rewrite.proofs.TakenLemmas.{as_many}
+use Rattle.warc_rewrite.proofs.TakenLemmas.{as_many, ended_early}
 use Rattle.warc_rewrite.proofs.closure.closed_positions.Goals as goal
 
 pub returns-in-Ok-marked_positions : goal.returns-in-Ok-marked_positions
@@ -48,3 +50,15 @@ returns-in-Ok-marked_positions g c =
       early = tt;
       fails = fails_never c.in_ok-take_all.ensures.takes.fails.may;
     }
+
+pub returns-in_err-take_all : goal.returns-in_err-take_all
+returns-in_err-take_all g c =
+    let p = err_from_is_err_and c.from_residual.result c.from_residual.ensures.1 in
+    let found = c.in_err-take_all.ensures.takes in
+    rw (p.1, p.2) (record {
+      reported = λ bytes held is are. tt;
+      are = tt;
+      reads = found.reads;
+      early = ended_early c.in_err-take_all.field-0.0;
+      fails = fails_ended c.in_err-take_all.field-0.0 _ 0 refl (fails_more (λ bytes held (is, are). is) found.fails);
+    })

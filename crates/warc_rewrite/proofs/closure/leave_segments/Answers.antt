@@ -53,7 +53,6 @@ returns-in_err-leave_segments_of-clause-judges g c =
     let (row, at) = some_at c.args.rows.now c.judging.position within in
     rw (p.1, p.2) (record {
       reported = λ bytes held is parts fresh. tt;
-      early = next.judges.early;
       reads = heads_all c.args.rows.now (c.judging.position + 1)
           (heads_more c.args.rows.now c.judging.position row at old.reads (next.judges.reads row at));
       fails = fails_after old.reads.kept old.sound next.judges.fails;
@@ -66,7 +65,6 @@ returns-clause-judges g c =
       reported = λ bytes held is parts fresh.
           judged_fewer is.are.records (length c.args.rows.now) c.judging.position c.args.statuses.now c.judging.statuses
           (omega (arith, c.judging-test.false, c.len-position-end.ensures)) (old.reported bytes held is parts fresh);
-      early = tt;
       reads = heads_all c.args.rows.now c.judging.position old.reads;
       fails = fails_never old.sound;
     }

@@ -28,7 +28,6 @@ returns-clause-is_present g c =
           λ p low.
           is_present_by records positions (length rows) (length all) c.name_all.new.statuses c.judge_all.new.statuses
           c.settle_all.new.statuses (omega (arith, many)) names judged settled p (omega (arith, low, many, same));
-      early = tt;
       reads = c.in_ok-judge_all.ensures.judges.reads;
       fails = fails_never c.in_ok-judge_all.ensures.judges.fails.may;
     }

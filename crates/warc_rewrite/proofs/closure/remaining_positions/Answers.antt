@@ -1,13 +1,16 @@
-use Rattle.std.proofs.Common.{◌≡◌, ℕ, List, length, ap, subst, ◌∙◌, arith}
+use Rattle.std.proofs.Common.{◌≡◌, ℕ, List, length, ap, refl, subst, ◌∙◌, arith}
 use Rattle.std.specs.Prelude.{replicate}
 use Rattle.std.proofs.lemmas.List.{length-replicate, take_at}
-use Rattle.warc_frame.proofs.EffectLemmas.{fails_never}
+use Rattle.std.proofs.lemmas.Result.{err_from_is_err_and}
+use Rattle.warc_frame.proofs.EffectLemmas.{fails_more, fails_never}
+use Rattle.warc_reading.proofs.HeadLemmas.{fails_ended}
 use Rattle.warc_rewrite.specs.declared.remainder.Status.{Status}
 use Rattle.warc_rewrite.specs.declared.remainder.Status.TheVariants.{Open}
 use Rattle.warc_rewrite.specs.Marks.{AreWhere}
 use Rattle.warc_rewrite.specs.Selecting.{ArePositions}
 use Rattle.warc_rewrite.specs.Statuses.{needs_none, status_at}
 use Rattle.warc_rewrite.proofs.LeftLemmas.{open_all, others_are}
+use Rattle.warc_rewrite.proofs.TakenLemmas.{ended_early}
 use Rattle.warc_rewrite.proofs.closure.remaining_positions.Goals as goal
 
 pub returns-in-Ok-kept_positions : goal.returns-in-Ok-kept_positions
@@ -34,3 +37,15 @@ returns-in-Ok-kept_positions g c =
       early = tt;
       fails = fails_never c.in_ok-remain.ensures.is_present.fails.may;
     }
+
+pub returns-in_err-remain : goal.returns-in_err-remain
+returns-in_err-remain g c =
+    let p = err_from_is_err_and c.from_residual.result c.from_residual.ensures.1 in
+    let found = c.in_err-remain.ensures.is_present in
+    rw (p.1, p.2) (record {
+      reported = λ bytes held is are. tt;
+      are = tt;
+      reads = found.reads;
+      early = ended_early c.in_err-remain.field-0.0;
+      fails = fails_ended c.in_err-remain.field-0.0 _ 0 refl (fails_more (λ bytes held (is, are). is) found.fails);
+    })

@@ -43,7 +43,6 @@ returns-in_err-take_segments_of-clause-takes g c =
     let (row, at) = some_at c.args.rows.now c.taking.position within in
     rw (p.1, p.2) (record {
       reported = λ bytes held is parts none. tt;
-      early = next.takes.early;
       reads = heads_all c.args.rows.now (c.taking.position + 1)
           (heads_more c.args.rows.now c.taking.position row at old.reads (next.takes.reads row at));
       fails = fails_after old.reads.kept old.sound next.takes.fails;
@@ -56,7 +55,6 @@ returns-clause-takes g c =
       reported = λ bytes held is parts none.
           taken_fewer is.are.records (length c.args.rows.now) c.taking.position c.args.marks.now c.taking.marks
           (omega (arith, c.taking-test.false, c.len-position-end.ensures)) (old.reported bytes held is parts none);
-      early = tt;
       reads = heads_all c.args.rows.now c.taking.position old.reads;
       fails = fails_never old.sound;
     }

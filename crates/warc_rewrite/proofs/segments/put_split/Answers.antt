@@ -4,7 +4,7 @@ use Rattle.warc_frame.specs.Seen.{IsInRange}
 use Rattle.warc_frame.specs.declared.fault.OutFault.TheVariants as outs
 use Rattle.warc_frame.proofs.EffectLemmas.{reads_both, reads_within}
 use Rattle.warc_reading.specs.Row.{Row}
-use Rattle.warc_reading.specs.declared.reread.RereadFault.TheVariants.{Read}
+use Rattle.warc_frame.specs.declared.fault.EarlyFault.TheVariants.{Read}
 use Rattle.warc_rewrite.proofs.EmitLemmas.{both, of_fault, of_read, unkept}
 use Rattle.warc_rewrite.proofs.SplitLemmas.{IsCutBy, segments_of_row, whole_of_row}
 use Rattle.warc_rewrite.proofs.segments.put_split.Goals as goal
