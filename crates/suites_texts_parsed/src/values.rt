@@ -5,7 +5,8 @@ use std::alloc::{AllocError, Global};
 use std::cmp::Ordering;
 use suites_script::Case;
 use warc_field::Value;
-use warc_value::{Moment, Running, Verdict, Wanted, base32, digest, read_date, unbase32};
+use warc_fixity::Judge;
+use warc_value::{Moment, Verdict, Wanted, base32, digest, read_date, unbase32};
 
 /// Adds the day and the nanosecond of a moment, in a line.
 pub(crate) fn say_moment(
@@ -97,11 +98,11 @@ fn say_digest(answer: &mut Vec<u8>, block: &[u8]) -> Result<(), AllocError> {
 
 /// The verdict on a block that comes in pieces of `piece` bytes.
 fn verdict_in_pieces(block: &[u8], piece: usize, wanted: &Wanted) -> Verdict {
-    let mut running = Running::new();
+    let mut judge = Judge::wanting(wanted);
     for part in block.chunks(piece.max(1)) {
-        running.update(part);
+        judge.update(part);
     }
-    running.verdict(wanted)
+    judge.verdict()
 }
 
 /// Adds the verdict on a block, in pieces of as many bytes as each word from the third on says.

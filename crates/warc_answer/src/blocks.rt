@@ -9,11 +9,13 @@ ghost use Rattle.warc_answer.specs.Origins.{ReadsToJudge};
 ghost use Rattle.warc_answer.specs.Places.{IsPlacedText, LieIn, ReadsPlaces, bytes_at, len_of, text_at};
 
 use crate::replay::total;
-use warc_digest::update_range;
+use warc_digest::take_range;
+use warc_fixity::Judge;
+use warc_fixity::laws::wanted_is_judged;
 use warc_frame::laws::went_out_of_longer;
 use warc_frame::{OutBuffer, OutFault, PIECE, ReadFault, Sink, Source, put_range, read_range};
 use warc_segment::Place;
-use warc_value::{Running, Verdict, Wanted};
+use warc_value::{Verdict, Wanted};
 
 /// The length of the buffer through which blocks are read that are no longer together. Clearing a longer one would take
 /// as long as reading them.
@@ -56,12 +58,13 @@ fn judge_block<S: Source>(
     if let Wanted::Unchecked = place.wanted {
         return Ok(Verdict::Unchecked);
     }
-    let mut running = Running::new();
-    running.update(front);
+    wanted_is_judged();
+    let mut judge = Judge::wanting(&place.wanted);
+    judge.update(front);
     let done = front.len() as u64;
     let at = place.start.saturating_add(done);
-    update_range(source, at, place.len - done, scratch, &mut running)?;
-    Ok(running.verdict(&place.wanted))
+    take_range(source, at, place.len - done, scratch, &mut judge)?;
+    Ok(judge.verdict())
 }
 
 /// Judges the joined blocks one after another, through `scratch`, and fills the buffer with their front, as far as

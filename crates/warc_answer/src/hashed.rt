@@ -3,7 +3,7 @@ ghost use Rattle.std.specs.Prelude.{◌≡◌, ℕ, ◌+◌, ◌++◌, ◌<◌, 
 ghost use Rattle.warc_fixity.specs.declared.names.Algorithm.{Algorithm};
 ghost use Rattle.warc_fixity.specs.Judged.{HasherHasTaken, digest_seen};
 ghost use Rattle.warc_fixity.specs.Stated.{block_hash};
-ghost use Rattle.warc_frame.specs.Effects.{FailsBy, HasRange, ReadsOnly, ReadsRange, read_result};
+ghost use Rattle.warc_frame.specs.Effects.{FailsBy, HasRange, ReadsOnly, read_result};
 ghost use Rattle.warc_frame.specs.Record.{Record};
 ghost use Rattle.warc_frame.specs.Seen.{IfHeld, IsInRange};
 ghost use Rattle.warc_record.specs.Readings.{reading_of};
@@ -18,8 +18,9 @@ ghost use Rattle.warc_answer.specs.Places.{LieIn, ReadsPlaces, len_of, text_at};
 use crate::blocks::{SHORT, any_bad, judge_blocks};
 use crate::body::is_http_response;
 use crate::replay::total;
+use warc_digest::take_range;
 use warc_fixity::{Algorithm, Digest, Hasher};
-use warc_frame::{PIECE, ReadFault, Source, read_range};
+use warc_frame::{PIECE, ReadFault, Source};
 use warc_payload::laws::{front_has_head, front_has_no_head};
 use warc_payload::{MOST_HEAD_BYTES, body_start};
 use warc_record::Typed;
@@ -34,36 +35,6 @@ pub struct PayloadDigest {
 
     /// Whether a field of the HTTP head says that a transfer coding was applied.
     pub coded: bool,
-}
-
-/// Adds `len` bytes at an offset of the source to what is hashed. They are read in pieces as long as `scratch` at most.
-/// It fails if a read does, if the source ends too early, and if the range doesn't end before offset 2^64.
-fn hash_range<S: Source>(
-    source: &mut S,
-    at: u64,
-    len: u64,
-    scratch: &mut [u8],
-    hasher: &mut Hasher,
-) -> Result<(), ReadFault>
-    requires { 0 < length scratch.old }
-    ensures taken { IfHeld (S.seen source.old).holds (λ bytes. (algorithm : Algorithm) (taken : List ℕ) →
-        HasherHasTaken hasher.old algorithm taken →
-        OnOk result (HasherHasTaken hasher.new algorithm (taken ++ take len (drop at bytes)))) }
-    ensures reads { ReadsRange at len (S.seen source.old) (S.seen source.new) }
-    ensures fails { FailsBy (HasRange at len) (read_result result) (S.seen source.old) (S.seen source.new) }
-{
-    if len > u64::MAX - at {
-        return Err(ReadFault);
-    }
-    let mut done = 0u64;
-    'hashing: while done < len {
-        let want = (len - done).min(scratch.len() as u64) as usize;
-        let piece = &mut scratch[..want];
-        read_range(source, at + done, piece)?;
-        hasher.update(piece);
-        done += want as u64;
-    }
-    Ok(())
 }
 
 /// Adds the joined blocks to what is hashed, without their first `skip` bytes, through `scratch`.
@@ -85,7 +56,7 @@ fn hash_blocks<S: Source>(
     'adding: for place in places {
         let gone = left.min(place.len);
         let at = place.start.saturating_add(gone);
-        hash_range(source, at, place.len - gone, scratch, hasher)?;
+        take_range(source, at, place.len - gone, scratch, hasher)?;
         left -= gone;
     }
     Ok(())

@@ -4,26 +4,33 @@
 ghost use Rattle.std.specs.Prelude.{◌≡◌, ℕ, ◌<◌, ◌++◌, List, length, take, drop, IfOk, OnOk};
 ghost use Rattle.sha1.specs.Sha1.{sha1};
 ghost use Rattle.warc_value.specs.Digests.{verdict_of};
-ghost use Rattle.warc_value.specs.Running.{HasTaken};
 ghost use Rattle.warc_frame.specs.Effects.{FailsBy, HasRange, ReadsRange, read_result};
 ghost use Rattle.warc_frame.specs.Seen.{IfHeld};
+ghost use Rattle.warc_fixity.specs.Judged.{stated_verdict};
 ghost use Rattle.warc_digest.specs.Judging.{judged_len};
 
-use warc_frame::{ReadFault, Source, read_range};
-use warc_value::{Running, Verdict, Wanted};
+mod pieces;
 
-/// Adds `len` bytes at an offset of the source to what is hashed. They are read in pieces as long as `scratch` at most.
-/// It fails if a read does, if the source ends too early, and if the range doesn't end before offset 2^64.
-pub fn update_range<S: Source>(
+pub use pieces::TakePieces;
+use warc_fixity::Judge;
+use warc_fixity::laws::wanted_is_judged;
+use warc_frame::{ReadFault, Source, read_range};
+use warc_lanes::OneDigest;
+use warc_value::{Verdict, Wanted};
+
+/// Gives `len` bytes at an offset of the source to what hashes them. They are read in pieces as long as `scratch` at
+/// most. It fails if a read does, if the source ends too early, and if the range doesn't end before offset 2^64.
+pub fn take_range<S: Source, T: TakePieces>(
     source: &mut S,
     at: u64,
     len: u64,
     scratch: &mut [u8],
-    running: &mut Running,
+    hashing: &mut T,
 ) -> Result<(), ReadFault>
     requires { 0 < length scratch.old }
-    ensures taken { IfHeld (S.seen source.old).holds (λ bytes. (taken : List ℕ) → HasTaken running.old taken →
-        OnOk result (HasTaken running.new (taken ++ take len (drop at bytes)))) }
+    ensures taken { IfHeld (S.seen source.old).holds (λ bytes. (of : T.Begun) (taken : List ℕ) →
+        T.has_taken hashing.old of taken →
+        OnOk result (T.has_taken hashing.new of (taken ++ take len (drop at bytes)))) }
     ensures reads { ReadsRange at len (S.seen source.old) (S.seen source.new) }
     ensures fails { FailsBy (HasRange at len) (read_result result) (S.seen source.old) (S.seen source.new) }
 {
@@ -34,17 +41,14 @@ pub fn update_range<S: Source>(
     'digesting: while done < len {
         let want = (len - done).min(scratch.len() as u64) as usize;
         let piece = &mut scratch[..want];
-        match read_range(source, at + done, piece) {
-            Ok(()) => {}
-            Err(fault) => return Err(fault),
-        }
-        running.update(piece);
+        read_range(source, at + done, piece)?;
+        hashing.take_piece(piece);
         done += want as u64;
     }
     Ok(())
 }
 
-/// The SHA-1 (FIPS 180-4) of `len` bytes at an offset of the source. It fails as `update_range` does.
+/// The SHA-1 (FIPS 180-4) of `len` bytes at an offset of the source. It fails as `take_range` does.
 pub fn digest_range<S: Source>(
     source: &mut S,
     at: u64,
@@ -57,15 +61,13 @@ pub fn digest_range<S: Source>(
     ensures reads { ReadsRange at len (S.seen source.old) (S.seen source.new) }
     ensures fails { FailsBy (HasRange at len) (read_result result) (S.seen source.old) (S.seen source.new) }
 {
-    let mut running = Running::new();
-    match update_range(source, at, len, scratch, &mut running) {
-        Ok(()) => Ok(running.digest()),
-        Err(fault) => Err(fault),
-    }
+    let mut hash = OneDigest::new();
+    take_range(source, at, len, scratch, &mut hash)?;
+    Ok(hash.finish())
 }
 
 /// How `len` bytes at an offset of the source compare with the digest that is wanted of them. If none is wanted,
-/// nothing is read. It fails as `update_range` does.
+/// nothing is read. It fails as `take_range` does.
 pub fn judge_range<S: Source>(
     source: &mut S,
     at: u64,
@@ -82,9 +84,31 @@ pub fn judge_range<S: Source>(
     if let Wanted::Unchecked = wanted {
         return Ok(Verdict::Unchecked);
     }
-    let mut running = Running::new();
-    match update_range(source, at, len, scratch, &mut running) {
-        Ok(()) => Ok(running.verdict(wanted)),
-        Err(fault) => Err(fault),
+    wanted_is_judged();
+    let mut judge = Judge::wanting(wanted);
+    take_range(source, at, len, scratch, &mut judge)?;
+    Ok(judge.verdict())
+}
+
+/// How `len` bytes at an offset of the source compare with the digest that a value states. If it states none, nothing
+/// is read. It fails as `take_range` does.
+pub fn stated_range<S: Source>(
+    source: &mut S,
+    at: u64,
+    len: u64,
+    value: &[u8],
+    scratch: &mut [u8],
+) -> Result<Verdict, ReadFault>
+    requires { 0 < length scratch.old }
+    ensures verdict { IfHeld (S.seen source.old).holds (λ bytes.
+        IfOk result (λ verdict. verdict ≡ stated_verdict value.now (take len (drop at bytes)))) }
+    ensures reads { ReadsRange at len (S.seen source.old) (S.seen source.new) }
+    ensures fails { FailsBy (HasRange at len) (read_result result) (S.seen source.old) (S.seen source.new) }
+{
+    let mut judge = Judge::stated(value);
+    if !judge.is_checked() {
+        return Ok(Verdict::Unchecked);
     }
+    take_range(source, at, len, scratch, &mut judge)?;
+    Ok(judge.verdict())
 }

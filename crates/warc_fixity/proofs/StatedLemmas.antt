@@ -21,7 +21,7 @@ use Rattle.warc_fixity.specs.declared.names.Algorithm.{Algorithm}
 use Rattle.warc_fixity.specs.declared.names.Algorithm.TheVariants.{Md5, Sha1, Sha256, Sha384, Sha512}
 use Rattle.warc_fixity.specs.Stated.{algorithm_of, digest_len, States}
 use Rattle.warc_fixity.specs.Decoded.{bits_in, decoded, stated_in, stated_around, stated_digest}
-use Rattle.warc_fixity.specs.Judged.{stated_verdict, verdict_if_stated}
+use Rattle.warc_fixity.specs.Judged.{stated_verdict, verdict_if_stated, wanted_stated}
 use Rattle.warc_fixity.proofs.BitLemmas.{is_byte, byte_below, a_byte}
 use Rattle.warc_fixity.proofs.TextLemmas.{IsText, whole_text, length-bits_in}
 use Rattle.warc_fixity.proofs.WritesLemmas.{written_is_decoded, decoded_is_written}
@@ -219,3 +219,7 @@ stated_at value rest k at is =
 pub nothing_stated : (value : List ℕ) → None ≡ position is_colon value → stated_digest value ≡ None
 unfolding stated_digest
 nothing_stated value at = ap (option_and_then (stated_around value)) (sym at)
+
+pub wanted_is_judged : (w : Wanted) (block : List ℕ) → verdict_if_stated (wanted_stated w) block ≡ verdict_of w block
+wanted_is_judged wanted.Unchecked block = refl
+wanted_is_judged (wanted.Sha1 digest) block = refl

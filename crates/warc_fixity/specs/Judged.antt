@@ -7,6 +7,8 @@ use Rattle.sha2.specs.Hashers.{Holds256, Holds384, Holds512}
 use Rattle.warc_lanes.specs.Digests.{DigestHasTaken}
 use Rattle.warc_value.specs.declared.hash.Verdict.{Verdict}
 use Rattle.warc_value.specs.declared.hash.Verdict.TheVariants.{Good, Bad, Unchecked}
+use Rattle.warc_value.specs.declared.hash.Wanted.{Wanted}
+use Rattle.warc_value.specs.declared.hash.Wanted.TheVariants.{Sha1 as WantedSha1, Unchecked as NotWanted}
 use Rattle.warc_fixity.specs.declared.names.Algorithm.{Algorithm}
 use Rattle.warc_fixity.specs.declared.names.Algorithm.TheVariants as algorithm
 use Rattle.warc_fixity.specs.declared.hasher.Digest.{Digest}
@@ -53,6 +55,11 @@ IsChecking (Some (hasher, digest)) stated taken =
     (stated ≡ Some (digest_seen digest)) × HasherHasTaken hasher (digest_seen digest).0 taken
 IsChecking None stated taken = stated ≡ None
 
--- a judge was made for a value, and all updates so far, joined, are these bytes
-abbrev pub JudgeHasTaken : Judge → List ℕ → List ℕ → Type 0
-JudgeHasTaken judge value taken = IsChecking judge.checking (stated_digest value) taken
+-- a judge was made for a digest, or for none, and all updates so far, joined, are these bytes
+abbrev pub JudgeHasTaken : Judge → Option (Algorithm × List ℕ) → List ℕ → Type 0
+JudgeHasTaken judge stated taken = IsChecking judge.checking stated taken
+
+-- the digest that is wanted of a block, and its algorithm
+abbrev pub wanted_stated : Wanted → Option (Algorithm × List ℕ)
+wanted_stated NotWanted = None
+wanted_stated (WantedSha1 digest) = Some (algorithm.Sha1, digest)

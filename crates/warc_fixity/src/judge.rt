@@ -5,7 +5,7 @@ ghost use Rattle.warc_fixity.specs.Decoded.{stated_digest};
 ghost use Rattle.warc_fixity.specs.Judged.{digest_seen, stated_verdict, verdict_if_stated};
 
 use crate::hasher::{Digest, Hasher};
-use warc_value::Verdict;
+use warc_value::{Verdict, Wanted};
 
 /// The verdict of a comparison.
 fn verdict_if(equal: bool) -> Verdict
@@ -25,7 +25,7 @@ impl Digest {
     }
 }
 
-/// One block that is hashed as its pieces come, for the digest that a value states.
+/// One block that is hashed as its pieces come, for a digest that is stated of it.
 #[derive(Drop)]
 pub struct Judge {
     // The hash of the bytes taken so far, and the digest that is stated of all.
@@ -33,13 +33,15 @@ pub struct Judge {
 }
 
 impl Judge {
-    ghost use Rattle.warc_fixity.specs.Judged.{JudgeHasTaken};
+    ghost use Rattle.std.specs.Prelude.{Option, option_map};
+    ghost use Rattle.warc_fixity.specs.declared.names.Algorithm.{Algorithm};
+    ghost use Rattle.warc_fixity.specs.Judged.{JudgeHasTaken, wanted_stated};
 
-    /// Nothing is taken yet.
-    pub fn new(value: &[u8]) -> Judge
-        ensures { JudgeHasTaken result value.now [] }
+    /// Nothing is taken yet. `None`: no digest is stated.
+    fn new(digest: Option<Digest>) -> Judge
+        ensures { JudgeHasTaken result (option_map digest_seen digest) [] }
     {
-        match Digest::stated(value) {
+        match digest {
             Some(digest) => Judge {
                 checking: Some((Hasher::new(digest.algorithm()), digest)),
             },
@@ -47,10 +49,27 @@ impl Judge {
         }
     }
 
+    /// For the digest that a value states. Nothing is taken yet.
+    pub fn stated(value: &[u8]) -> Judge
+        ensures { JudgeHasTaken result (stated_digest value.now) [] }
+    {
+        Judge::new(Digest::stated(value))
+    }
+
+    /// For the digest that is wanted of a block. Nothing is taken yet.
+    pub fn wanting(wanted: &Wanted) -> Judge
+        ensures { JudgeHasTaken result (wanted_stated wanted.now) [] }
+    {
+        match wanted {
+            Wanted::Sha1(digest) => Judge::new(Some(Digest::Sha1(*digest))),
+            Wanted::Unchecked => Judge::new(None),
+        }
+    }
+
     /// Takes the next piece of the block, of any length. If no digest is stated, it does nothing.
     pub fn update(&mut self, piece: &[u8])
-        ensures { (value bytes : List ℕ) → JudgeHasTaken self.old value bytes →
-            JudgeHasTaken self.new value (bytes ++ piece.now) }
+        ensures { (stated : Option (Algorithm × List ℕ)) (bytes : List ℕ) → JudgeHasTaken self.old stated bytes →
+            JudgeHasTaken self.new stated (bytes ++ piece.now) }
     {
         if let Some((hasher, _)) = &mut self.checking {
             hasher.update(piece);
@@ -59,14 +78,16 @@ impl Judge {
 
     /// Whether a digest is stated. If none is, no byte of the block need be read.
     pub fn is_checked(&self) -> bool
-        ensures { (value bytes : List ℕ) → JudgeHasTaken self.now value bytes → result ≡ is_some (stated_digest value) }
+        ensures { (stated : Option (Algorithm × List ℕ)) (bytes : List ℕ) → JudgeHasTaken self.now stated bytes →
+            result ≡ is_some stated }
     {
         self.checking.is_some()
     }
 
     /// The verdict on the block that the pieces joined are.
     pub fn verdict(self) -> Verdict
-        ensures { (value bytes : List ℕ) → JudgeHasTaken self value bytes → result ≡ stated_verdict value bytes }
+        ensures { (stated : Option (Algorithm × List ℕ)) (bytes : List ℕ) → JudgeHasTaken self stated bytes →
+            result ≡ verdict_if_stated stated bytes }
     {
         let Judge { checking } = self;
         match checking {

@@ -318,7 +318,7 @@ fn counted_bytes() -> [u8; MOST] {
 
 // The verdict on a block whose pieces are of one length.
 fn verdict_by_pieces(value: &[u8], block: &[u8], len: usize) -> Verdict {
-    let mut judge = Judge::new(value);
+    let mut judge = Judge::stated(value);
     for piece in block.chunks(len.max(1)) {
         judge.update(piece);
     }
@@ -329,7 +329,7 @@ fn verdict_by_pieces(value: &[u8], block: &[u8], len: usize) -> Verdict {
 fn verdict_of(value: &str, block: &[u8]) -> Option<Verdict> {
     let value = value.as_bytes();
     let verdict = stated_verdict(value, block);
-    let agree = Judge::new(value).is_checked() == (verdict != Verdict::Unchecked)
+    let agree = Judge::stated(value).is_checked() == (verdict != Verdict::Unchecked)
         && verdict_by_pieces(value, block, 1) == verdict
         && verdict_by_pieces(value, block, 55) == verdict
         && verdict_by_pieces(value, block, 64) == verdict;

@@ -20,5 +20,5 @@ pub use flags::{RecordFlags, WaitingFlags, has_segment_number};
 pub use lines::{put_counts, put_fixity, verdict_text};
 pub use marks::HeadMarks;
 pub use row::{is_capture, list_rows, put_rows, shown_as};
-pub use stated::{block_verdict, digest_value, stated_range};
+pub use stated::{block_verdict, digest_value};
 pub use summary::{Summary, summary_of};

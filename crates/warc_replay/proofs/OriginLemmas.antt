@@ -7,7 +7,7 @@ use Rattle.warc_frame.specs.Reading.{Head, any_fields, head_of}
 use Rattle.warc_frame.specs.declared.fault.Fault.{Fault}
 use Rattle.warc_frame.specs.Record.{Record}
 use Rattle.warc_frame.specs.Seen.{SeenSource}
-use Rattle.warc_frame.specs.Send.{sent_of}
+use Rattle.warc_frame.specs.Send.{ended_by, sent_of}
 use Rattle.warc_frame.specs.declared.fault.OutFault.{OutFault}
 use Rattle.warc_frame.specs.declared.fault.OutFault.TheVariants as outs
 use Rattle.warc_frame.proofs.EffectLemmas.{reads_both, reads_within}
@@ -29,10 +29,10 @@ use Rattle.warc_answer.specs.declared.answer.ReplayFault.{ReplayFault}
 use Rattle.warc_answer.specs.declared.answer.ReplayFault.TheVariants.{Reason, Out}
 use Rattle.warc_reading.specs.Archive.{SpellsFrom, contents}
 use Rattle.warc_lookup.specs.Indexed.{placed_record}
-use Rattle.warc_reading.specs.Rereading.{ReadsHeads, ended_by}
+use Rattle.warc_reading.specs.Rereading.{ReadsHeads}
 use Rattle.warc_reading.specs.Row.{Placed, Row, row_of}
-use Rattle.warc_reading.specs.declared.reread.RereadFault.{RereadFault}
-use Rattle.warc_reading.specs.declared.reread.RereadFault.TheVariants.{Read, Memory}
+use Rattle.warc_frame.specs.declared.fault.EarlyFault.{EarlyFault}
+use Rattle.warc_frame.specs.declared.fault.EarlyFault.TheVariants.{Read, Memory}
 use Rattle.warc_replay.specs.Looking.{ArePlacesIn}
 use Rattle.warc_replay.specs.KnownSeries.{IsSharedBy}
 use Rattle.warc_replay.specs.Origins.{IsOfSeries, IsOriginAt, IsOriginBy, IsOriginFound, IsOriginOf, IsPlacedBy, IsSharedAt, IsUnjoined, place_in, placed_by}
@@ -51,7 +51,7 @@ preserves_both first then = record { kept = then.kept ∙ first.kept; watched = 
 
 -- ---- faults that come before anything goes out
 
-pub ended_early : (fault : RereadFault) → IsEarly (Out (ended_by fault 0))
+pub ended_early : (fault : EarlyFault) → IsEarly (Out (ended_by fault 0))
 ended_early Read = refl
 ended_early Memory = refl
 

@@ -7,7 +7,7 @@ use Rattle.warc_value.specs.Dates.{Instant}
 use Rattle.warc_frame.specs.Effects.{ReadsOnly}
 use Rattle.warc_frame.proofs.EffectLemmas.{reads_none, reads_within}
 use Rattle.warc_frame.specs.Seen.{AsksOnly, Seen, SeenSource}
-use Rattle.warc_frame.specs.Send.{sent_of}
+use Rattle.warc_frame.specs.Send.{ended_by, sent_of}
 use Rattle.std.proofs.lemmas.List.{length-append, length-map}
 use Rattle.std.proofs.lemmas.List.Elements.{All-cons, All-contains, All-head, All-nil, All-tail}
 use Rattle.std.specs.List.{All, cons_option, filter_map}
@@ -28,14 +28,14 @@ use Rattle.warc_answer.specs.Replays.{WritesLate}
 use Rattle.warc_answer.specs.declared.answer.ReplayFault.TheVariants.{Out}
 use Rattle.warc_answer.specs.declared.answer.Path.{Path}
 use Rattle.warc_reading.specs.Archive.{SpellsFrom, contents}
-use Rattle.warc_reading.specs.Rereading.{IsInHead, ReadsHeads, ended_by, heads_len}
+use Rattle.warc_reading.specs.Rereading.{IsInHead, ReadsHeads, heads_len}
 use Rattle.warc_lookup.specs.Indexed.{indexed_record, place_of, placed_record}
 use Rattle.warc_replay.specs.Looking.{ArePlacesFor}
 use Rattle.warc_replay.specs.Replaying.{IsOfOrigin, joined_len, origin_joined, reads_of}
 use Rattle.warc_reading.specs.Row.{Placed, Row, row_of}
 use Rattle.warc_reading.specs.Placing.{IsPlacedIn}
-use Rattle.warc_reading.specs.declared.reread.RereadFault.{RereadFault}
-use Rattle.warc_reading.specs.declared.reread.RereadFault.TheVariants.{Read, Memory}
+use Rattle.warc_frame.specs.declared.fault.EarlyFault.{EarlyFault}
+use Rattle.warc_frame.specs.declared.fault.EarlyFault.TheVariants.{Read, Memory}
 use Rattle.warc_reading.proofs.ReadLemmas.{one_row}
 use Rattle.warc_reading.proofs.RemainLemmas.{written}
 
@@ -104,12 +104,12 @@ places_for bytes records p items joined is law whole are = record {
 }
 
 -- a head that isn't read again, as the end of an output
-pub ended_sent : (fault : RereadFault) → sent_of (ended_by fault 0) ≡ 0
+pub ended_sent : (fault : EarlyFault) → sent_of (ended_by fault 0) ≡ 0
 ended_sent Read = refl
 ended_sent Memory = refl
 
 -- nothing goes out before it
-pub ended_late : {X : Type 0} (fault : RereadFault) (o : Seen) → WritesLate {X = X} (Err (Out (ended_by fault 0))) o o
+pub ended_late : {X : Type 0} (fault : EarlyFault) (o : Seen) → WritesLate {X = X} (Err (Out (ended_by fault 0))) o o
 ended_late {X} Read o = record { silent = tt; cause = refl }
 ended_late {X} Memory o = record { silent = (refl, refl); cause = refl }
 

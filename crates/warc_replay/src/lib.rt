@@ -21,7 +21,7 @@ pub use record::verdict::{take_stated_at, take_verdict_at};
 pub use record::whole::take_record_at;
 pub use replay::answer::{path_from, path_in, replay_rows};
 pub use replay::body::give_body;
-pub use replay::capture_line::list_outcomes;
+pub use replay::capture_line::{date_front, date_rest, list_outcomes};
 pub use replay::capture_lines::{put_captures, write_judged, write_unjudged};
 pub use replay::captures::{capture_positions, judge_all};
 pub use replay::location::{locate_at, locate_for};

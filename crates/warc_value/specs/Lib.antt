@@ -1,4 +1,3 @@
 pub mod Dates
 pub mod Base32
 pub mod Digests
-pub mod Running

@@ -1,5 +1,5 @@
 //! The SHA-1 of a block, and the verdict on it.
-ghost use Rattle.std.specs.Prelude.{◌≡◌, ◌++◌, ◌↔◌, List, ℕ, []};
+ghost use Rattle.std.specs.Prelude.{◌≡◌};
 ghost use Rattle.sha1.specs.Sha1.{sha1};
 ghost use Rattle.warc_value.specs.Digests.{is_bad, wanted_digest, verdict_of};
 
@@ -52,6 +52,22 @@ impl Wanted {
             None => Wanted::Unchecked,
         }
     }
+
+    /// How a block compares with it.
+    pub fn verdict(&self, block: &[u8]) -> Verdict
+        ensures { result ≡ verdict_of self.now block.now }
+    {
+        match self {
+            Wanted::Sha1(wanted) => {
+                if digest(block) == *wanted {
+                    Verdict::Good
+                } else {
+                    Verdict::Bad
+                }
+            }
+            Wanted::Unchecked => Verdict::Unchecked,
+        }
+    }
 }
 
 /// The SHA-1 of a whole block (FIPS 180-4).
@@ -61,56 +77,4 @@ pub fn digest(block: &[u8]) -> [u8; 20]
     let mut state = OneDigest::new();
     state.update(block);
     state.finish()
-}
-
-/// The SHA-1 of a block that comes in pieces.
-#[derive(Drop)]
-pub struct Running {
-    state: OneDigest,
-}
-
-impl Running {
-    ghost use Rattle.warc_value.specs.Running.{HasTaken};
-
-    /// Nothing is taken yet.
-    pub fn new() -> Running
-        ensures { HasTaken result [] }
-    {
-        Running {
-            state: OneDigest::new(),
-        }
-    }
-
-    /// Takes the next piece, of any length.
-    pub fn update(&mut self, piece: &[u8])
-        ensures { (taken : List ℕ) → HasTaken self.old taken → HasTaken self.new (taken ++ piece.now) }
-    {
-        self.state.update(piece);
-    }
-
-    /// The SHA-1 of the pieces joined (FIPS 180-4).
-    pub fn digest(self) -> [u8; 20]
-        ensures { (taken : List ℕ) → HasTaken self taken → result ≡ sha1 taken }
-    {
-        let Running { state } = self;
-        state.finish()
-    }
-
-    /// Whether the pieces joined have the digest that is wanted.
-    pub fn verdict(self, wanted: &Wanted) -> Verdict
-        ensures unchecked { (result ≡ Verdict.Unchecked) ↔ (wanted.now ≡ Wanted.Unchecked) }
-        ensures value { (taken : List ℕ) → HasTaken self taken → result ≡ verdict_of wanted.now taken }
-    {
-        let Running { state } = self;
-        match wanted {
-            Wanted::Sha1(digest) => {
-                if state.finish() == *digest {
-                    Verdict::Good
-                } else {
-                    Verdict::Bad
-                }
-            }
-            Wanted::Unchecked => Verdict::Unchecked,
-        }
-    }
 }

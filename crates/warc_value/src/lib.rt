@@ -8,6 +8,6 @@ mod moment;
 mod symbols;
 
 pub use date::read_date;
-pub use hash::{Running, Verdict, Wanted, digest};
+pub use hash::{Verdict, Wanted, digest};
 pub use moment::Moment;
 pub use symbols::{base32, unbase32};

@@ -29,7 +29,7 @@ use warc_field::{Fields, Name, Value};
 use warc_frame::{FieldName, Framed, names};
 use warc_record::laws::{bare_texts_of_values, good_heads_read};
 use warc_record::{Kind, bare, type_head, urn_uuid, wanted};
-use warc_value::{Running, digest};
+use warc_value::digest;
 
 /// Why a record isn't split: S1 to S7.
 #[derive(Clone, Copy, PartialEq, Eq, Debug, Error)]
@@ -423,9 +423,7 @@ fn segments<A: Allocator + Copy>(
 fn has_bad_digest<A: Allocator>(framed: &Framed<A>) -> bool
     ensures { result ≡ has_bad_digest framed.now }
 {
-    let mut running = Running::new();
-    running.update(framed.block());
-    running.verdict(&wanted(framed.fields())).is_bad()
+    wanted(framed.fields()).verdict(framed.block()).is_bad()
 }
 
 /// A copy of the fields.

@@ -10,8 +10,8 @@ ghost use Rattle.warc_replay.specs.Taking.{take_result};
 use crate::fault::TakeFault;
 use std::alloc::Allocator;
 use warc_frame::laws::head_of_spelled;
-use warc_frame::{Head, Source};
-use warc_reading::{RereadFault, Row, Rows, buffer_for, reread_head};
+use warc_frame::{EarlyFault, Head, Source};
+use warc_reading::{Row, Rows, buffer_for, reread_head};
 
 /// The head of the record of a row, read again.
 fn take_head<S: Source, A: Allocator + Copy>(
@@ -35,8 +35,8 @@ fn take_head<S: Source, A: Allocator + Copy>(
             len: (row.block_start - row.offset) as usize,
             block_len: row.block_len,
         }),
-        Err(RereadFault::Read) => Err(TakeFault::Read),
-        Err(RereadFault::Memory) => Err(TakeFault::Memory),
+        Err(EarlyFault::Read) => Err(TakeFault::Read),
+        Err(EarlyFault::Memory) => Err(TakeFault::Memory),
     }
 }
 

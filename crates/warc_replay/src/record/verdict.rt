@@ -10,10 +10,11 @@ ghost use Rattle.warc_replay.specs.Taking.{take_result};
 use crate::fault::TakeFault;
 use std::alloc::Allocator;
 use warc_checking::judge_again;
-use warc_frame::Source;
+use warc_digest::stated_range;
 use warc_frame::laws::head_of_spelled;
-use warc_judged::{digest_value, stated_range};
-use warc_reading::{RereadFault, Row, Rows, head_buffer, reread_good};
+use warc_frame::{EarlyFault, Source};
+use warc_judged::digest_value;
+use warc_reading::{Row, Rows, head_buffer, reread_good};
 use warc_value::Verdict;
 
 /// The verdict on the block of the record of a row. Its head is read again, and its block if a digest of it can be
@@ -34,8 +35,8 @@ fn take_verdict<S: Source, A: Allocator + Copy>(
     };
     match judge_again(alloc, source, row, &mut buf) {
         Ok(judged) => Ok(judged.verdict),
-        Err(RereadFault::Read) => Err(TakeFault::Read),
-        Err(RereadFault::Memory) => Err(TakeFault::Memory),
+        Err(EarlyFault::Read) => Err(TakeFault::Read),
+        Err(EarlyFault::Memory) => Err(TakeFault::Memory),
     }
 }
 
@@ -57,8 +58,8 @@ fn take_stated<S: Source, A: Allocator + Copy>(
     };
     let head = match reread_good(alloc, source, row, &mut buf) {
         Ok(head) => head,
-        Err(RereadFault::Read) => return Err(TakeFault::Read),
-        Err(RereadFault::Memory) => return Err(TakeFault::Memory),
+        Err(EarlyFault::Read) => return Err(TakeFault::Read),
+        Err(EarlyFault::Memory) => return Err(TakeFault::Memory),
     };
     let value = digest_value(head.fields());
     match stated_range(source, row.block_start, row.block_len, value, &mut buf) {

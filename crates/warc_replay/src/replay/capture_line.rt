@@ -32,14 +32,14 @@ fn front_len(date: &[u8]) -> usize
 }
 
 /// A date without the `Z` at its end.
-fn date_front(date: &[u8]) -> &[u8]
+pub fn date_front(date: &[u8]) -> &[u8]
     ensures { result.now ≡ date_front date.now }
 {
     &date[..front_len(date)]
 }
 
-/// What completes a date of which this many bytes are written.
-fn date_rest(written: usize) -> &'static [u8]
+/// What completes a date of which this many bytes are written, as its first instant to the nanosecond.
+pub fn date_rest(written: usize) -> &'static [u8]
     ensures { result.now ≡ drop written (codes "0000-01-01T00:00:00.000000000Z") }
 {
     &FIRST_INSTANT[written.min(FIRST_INSTANT.len())..]

@@ -21,8 +21,8 @@ adding-init g c = record {
   read = reads_none;
 }
 
-pub returns-in_err-hash_range-clause-fails : goal.returns-in_err-hash_range-clause-fails
-returns-in_err-hash_range-clause-fails g c =
+pub returns-in_err-take_range-clause-fails : goal.returns-in_err-take_range-clause-fails
+returns-in_err-take_range-clause-fails g c =
     let p = err_from_is_err_and c.from_residual.result c.from_residual.ensures.1 in
     rw p.1 (record {
       may = search rules;
@@ -35,19 +35,19 @@ returns-in_err-hash_range-clause-fails g c =
           let short : length bytes < 2 ^ 64 = lie.short in
           let at : c.saturating_add-at.result ≡ p.start + c.min-gone.result = omega (arith, c.saturating_add-at.ensures, c.min-gone.ensures) in
           let range : HasRange c.saturating_add-at.result (p.len - c.min-gone.result) bytes = (omega (arith, c.min-gone.ensures), short) in
-          let after = c.in_err-hash_range.ensures.fails.failed bytes (c.adding.invariant.read.kept ∙ held) range in
+          let after = c.in_err-take_range.ensures.fails.failed bytes (c.adding.invariant.read.kept ∙ held) range in
           search rules;
     })
 
-pub returns-in_err-hash_range-clause-reads : goal.returns-in_err-hash_range-clause-reads
-returns-in_err-hash_range-clause-reads g c =
+pub returns-in_err-take_range-clause-reads : goal.returns-in_err-take_range-clause-reads
+returns-in_err-take_range-clause-reads g c =
     let i = c.adding.place-index in
     let places = c.args.places.now in
     let p : Place = get_or places i none in
     let lt : i < length places = omega (arith, c.adding-test.true) in
     let read = read_more places i c.saturating_add-at.result (p.len - c.min-gone.result) none _ _ _ lt
     (omega (arith, c.saturating_add-at.ensures)) (omega (arith, c.saturating_add-at.ensures, c.min-gone.ensures))
-    c.adding.invariant.read c.in_err-hash_range.ensures.reads in
+    c.adding.invariant.read c.in_err-take_range.ensures.reads in
     read_no_more places (len_of (take (i + 1) places)) (len_of places) _ _ (len_front places (i + 1)) read
 
 pub adding-preserved : goal.adding-preserved
@@ -63,13 +63,13 @@ adding-preserved g c =
           let here : p.start + p.len ≤ length bytes = lies bytes places i none lie lt in
           let short : length bytes < 2 ^ 64 = lie.short in
           let at : c.saturating_add-at.result ≡ p.start + c.min-gone.result = omega (arith, c.saturating_add-at.ensures, c.min-gone.ensures) in
-          let put = c.in_ok-hash_range.ensures.taken bytes (c.adding.invariant.read.kept ∙ held) by (before ++ drop s (text_at (take i places) bytes)) (c.adding.invariant.taken bytes held lie by before has) in
-          let P : List ℕ → Type 0 = λ l. HasherHasTaken c.hash_range.new.hasher by l in
+          let put = c.in_ok-take_range.ensures.taken bytes (c.adding.invariant.read.kept ∙ held) by (before ++ drop s (text_at (take i places) bytes)) (c.adding.invariant.taken bytes held lie by before has) in
+          let P : List ℕ → Type 0 = λ l. HasherHasTaken c.take_range.new.hashing by l in
           subst P (block_more bytes before places s c.adding.left c.min-gone.result c.saturating_add-at.result i none lie lt (c.adding.invariant.left bytes lie) c.min-gone.ensures at) put;
-      sound = c.in_ok-hash_range.ensures.fails.may ∙ c.adding.invariant.sound;
+      sound = c.in_ok-take_range.ensures.fails.may ∙ c.adding.invariant.sound;
       read = read_more places i c.saturating_add-at.result (p.len - c.min-gone.result) none _ _ _ lt
           (omega (arith, c.saturating_add-at.ensures)) (omega (arith, c.saturating_add-at.ensures, c.min-gone.ensures))
-          c.adding.invariant.read c.in_ok-hash_range.ensures.reads;
+          c.adding.invariant.read c.in_ok-take_range.ensures.reads;
     }
 
 pub returns-clause-taken : goal.returns-clause-taken

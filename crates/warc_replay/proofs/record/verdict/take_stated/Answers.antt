@@ -1,9 +1,10 @@
 use Rattle.std.proofs.Common.{Err, refl, ap, subst, ◌∙◌, arith}
 use Rattle.warc_frame.specs.Effects.{FailsBy}
 use Rattle.warc_frame.proofs.EffectLemmas.{fails_after, fails_more}
-use Rattle.warc_reading.specs.Rereading.{HasTextOf, ended_by}
+use Rattle.warc_frame.specs.Send.{ended_by}
+use Rattle.warc_reading.specs.Rereading.{HasTextOf}
 use Rattle.warc_reading.specs.Row.{Row}
-use Rattle.warc_reading.specs.declared.reread.RereadFault.{RereadFault}
+use Rattle.warc_frame.specs.declared.fault.EarlyFault.{EarlyFault}
 use Rattle.warc_checking.proofs.JudgeLemmas.{block_there, head_there}
 use Rattle.warc_judged.specs.Fixity.{digest_value}
 use Rattle.warc_replay.proofs.JudgedLemmas.{reads_one_row}
@@ -12,7 +13,7 @@ use Rattle.warc_replay.proofs.record.verdict.take_stated.Goals as goal
 
 pub returns-in-Err-Read-clause-fails : goal.returns-in-Err-Read-clause-fails
 returns-in-Err-Read-clause-fails g c =
-    subst (λ (f : RereadFault). FailsBy {X = Unit {0}} (HasTextOf c.args.row.now) (Err (ended_by f 0)) (g.S.Source.seen c.args.source.now) (g.S.Source.seen c.reread_good.new.source)) c.in-Err-Read.field-0-is
+    subst (λ (f : EarlyFault). FailsBy {X = Unit {0}} (HasTextOf c.args.row.now) (Err (ended_by f 0)) (g.S.Source.seen c.args.source.now) (g.S.Source.seen c.reread_good.new.source)) c.in-Err-Read.field-0-is
     (fails_more (λ bytes held is. head_there c.args.row.now bytes is) c.in-Err-Read.ensures.fails)
 
 pub returns-in-Ok-stated_range-clause-taken : goal.returns-in-Ok-stated_range-clause-taken

@@ -1,6 +1,7 @@
 use Rattle.std.proofs.Common.{sym, ap, subst, ◌∙◌}
 use Rattle.warc_answer.specs.Stored.{own_type}
-use Rattle.warc_reading.specs.Rereading.{IsHeadText, ended_by}
+use Rattle.warc_frame.specs.Send.{ended_by}
+use Rattle.warc_reading.specs.Rereading.{IsHeadText}
 use Rattle.warc_reading.specs.Row.{Row}
 use Rattle.warc_record.specs.Readings.{reading_of}
 use Rattle.warc_record.specs.Seen.{said}

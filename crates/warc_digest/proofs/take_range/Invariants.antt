@@ -1,14 +1,13 @@
 use Rattle.std.proofs.Common.{◌≡◌, ◌≤◌, ◌-◌, ℕ, ◌++◌, List, Some, take, drop}
-use Rattle.warc_value.specs.Running.{HasTaken}
 use Rattle.warc_frame.specs.Effects.{ReadsOnly}
 use Rattle.warc_frame.specs.Seen.{IsInRange}
-use Rattle.warc_digest.proofs.update_range.Given as goal
+use Rattle.warc_digest.proofs.take_range.Given as goal
 
 -- the range so far was taken, and no read has failed
 abbrev pub invariant-digesting : goal.invariant-digesting
 invariant-digesting g l = record {
   within : l.done ≤ l.len;
-  taken : (bytes : List ℕ) → (g.S.Source.seen l.fn.source).holds ≡ Some bytes → (before : List ℕ) → HasTaken l.fn.running before → HasTaken l.running (before ++ take l.done (drop l.at bytes));
+  taken : (bytes : List ℕ) → (g.S.Source.seen l.fn.source).holds ≡ Some bytes → (of : g.T.TakePieces.Begun) (before : List ℕ) → g.T.TakePieces.has_taken l.fn.hashing of before → g.T.TakePieces.has_taken l.hashing of (before ++ take l.done (drop l.at bytes));
   reads : ReadsOnly (IsInRange l.at l.done) l.done
       (g.S.Source.seen l.fn.source)
       (g.S.Source.seen l.source);
