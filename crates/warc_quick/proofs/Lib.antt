@@ -8,6 +8,5 @@ mod PlainLemmas
 mod TypedLemmas
 mod AloneLemmas
 pub mod AsciiLemmas
-mod RuledLemmas
 mod JudgedLemmas
 mod CanonicalLemmas

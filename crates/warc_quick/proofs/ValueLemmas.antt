@@ -1,15 +1,15 @@
 -- The value of the first field of each name, after one more field.
-use Rattle.std.proofs.Common.{◌≡◌, ◌≢◌, ℕ, ◌+◌, ◌<◌, ◌≤◌, Bool, true, false, List, [], ◌∷◌, ◌++◌, length, length-append, append_assoc, nat_lt, cond, find, get_or, set, Option, Some, None, is_some, option_map, refl, sym, ap, ◌∙◌, arith}
+use Rattle.std.proofs.Common.{◌≡◌, ◌≢◌, ℕ, ◌+◌, ◌<◌, ◌≤◌, Bool, true, false, not, ◌&&◌, List, [], ◌∷◌, ◌++◌, length, length-append, append_assoc, nat_lt, cond, find, get_or, set, Option, Some, None, is_some, option_map, refl, sym, ap, ◌∙◌, arith}
 use Rattle.std.specs.Borrow.{Bor}
 use Rattle.std.proofs.lemmas.List.{get_or-set_same, get_or-set_other}
 use Rattle.std.proofs.Math.ListN.{length-set}
 use Rattle.std.proofs.lemmas.List.Sums.{sum_by-append, sum_by-cons}
-use Rattle.std.proofs.lemmas.Bool.{lt-ltb, ltb-false}
+use Rattle.std.proofs.lemmas.Bool.{le-ltb, lt-ltb, ltb-false}
 use Rattle.warc_field.specs.Area.{Pair, first_value, count_of}
 use Rattle.warc_field.specs.Text.{same}
 use Rattle.warc_frame.specs.FieldNames.{AreFieldNames, name_place, name_text}
 use Rattle.warc_frame.specs.declared.field_name.FieldName.{FieldName}
-use Rattle.warc_quick.specs.Names.{may_repeat}
+use Rattle.warc_record.specs.Table.{may_repeat}
 use Rattle.warc_quick.specs.Fronts.{AreValues, BeginsWithFields, BeginsWithLine, IsValueOf}
 use Rattle.warc_quick.specs.declared.lines.Line.{Line}
 use Rattle.warc_quick.proofs.LineLemmas.{some_bytes, spells_more}
@@ -195,3 +195,13 @@ fields_more text rest values line so_far is now are = record {
 pub less_left : (rest : List ℕ) (line : Line) → BeginsWithLine rest line → length line.more.now < length rest
 less_left rest line is =
     omega (arith, some_bytes (line.name.now, line.value.now) is.bytes is.is, ap length is.text_is, length-append is.bytes line.more.now)
+
+-- no field of a plain head occurs again that may not
+pub never_again : (name : FieldName) (fields : List Pair) (values : List (Option (Bor (List ℕ)))) → AreValues fields values
+    → false ≡ (not (may_repeat name) && nat_lt 1 (count_of (name_text name) fields))
+never_again name fields values are = by (may_repeat name) (are.each name).alone
+  where
+    by : (may : Bool) → (may ≡ false → count_of (name_text name) fields ≤ 1)
+        → false ≡ (not may && nat_lt 1 (count_of (name_text name) fields))
+    by true few = refl
+    by false few = sym (le-ltb 1 (count_of (name_text name) fields) (few refl))

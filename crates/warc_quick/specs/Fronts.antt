@@ -8,7 +8,8 @@ use Rattle.warc_quick.specs.declared.head.QuickHead.{QuickHead}
 use Rattle.warc_quick.specs.declared.lines.Line.{Line}
 use Rattle.warc_frame.specs.FieldNames.{name_count, name_place, name_text}
 use Rattle.warc_frame.specs.declared.field_name.FieldName.{FieldName}
-use Rattle.warc_quick.specs.Names.{IsNaming, may_repeat}
+use Rattle.warc_record.specs.Table.{may_repeat}
+use Rattle.warc_quick.specs.Names.{IsNaming}
 
 -- a text begins with the line of a field, which has such a name, and this follows
 pub record BeginsWithLine (text : List ℕ) (line : Line) : Type 0 where

@@ -2,7 +2,6 @@ pub mod Quick
 pub mod Names
 pub mod Places
 pub mod Fronts
-pub mod Ruled
 pub mod Canonical
 pub mod PlainFindings
 pub mod Alone

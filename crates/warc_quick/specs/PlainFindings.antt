@@ -2,28 +2,33 @@
 use Rattle.std.specs.Prelude.{◌≡◌, ℕ, Bool, true, List, ◌++◌, length, map, take, None, Ok}
 use Rattle.warc_field.specs.Area.{Pair}
 use Rattle.warc_value.specs.declared.hash.Wanted.{Wanted}
-use Rattle.warc_frame.specs.FieldNames.{name_text}
 use Rattle.warc_frame.specs.Reading.{any_fields, head_of}
 use Rattle.warc_frame.specs.declared.version.Version.{Version}
-use Rattle.warc_record.specs.Findings.{SeenFinding, Absent, Forbidden, Digest, IdUsed, NoContentType, Profile, BareId, findings_of, once}
+use Rattle.warc_record.specs.Findings.{SeenFinding, Digest, IdUsed, NoContentType, Profile, BareId, NoOrigin, by_table, findings_of, has_bare_id, has_unknown_profile, lacks_content_type, lacks_origin, once, plain_seen}
 use Rattle.warc_record.specs.Heads.{head_fault}
 use Rattle.warc_record.specs.Kinds.{is_known}
-use Rattle.warc_record.specs.Readings.{digest_wanted, kind_of}
-use Rattle.warc_quick.specs.declared.plain_findings.PlainFinding.{PlainFinding}
-use Rattle.warc_quick.specs.declared.plain_findings.PlainFinding.TheVariants as plain
+use Rattle.warc_record.specs.Readings.{digest_wanted, kind_of, reading_of}
+use Rattle.warc_record.specs.declared.checks.TableCheck.TheVariants.{Lacks, HasForbidden, Repeats}
 use Rattle.warc_quick.specs.declared.plain_findings.PlainFindings.{PlainFindings}
-
--- a finding of the code
-abbrev pub plain_seen : PlainFinding → SeenFinding
-plain_seen (plain.Absent name) = Absent (name_text name)
-plain_seen (plain.Forbidden name) = Forbidden (name_text name)
-plain_seen plain.NoContentType = NoContentType
-plain_seen plain.Profile = Profile
-plain_seen plain.BareId = BareId
 
 -- the findings that are listed
 abbrev pub all_plain : PlainFindings → List SeenFinding
 all_plain found = map plain_seen (take found.count found.items)
+
+-- the findings of a record of these fields and a block of this length but N4, N5, N6 and N9: those before N4, and those
+-- after N6
+abbrev pub before_digest : List Pair → List SeenFinding
+before_digest fields =
+    by_table Lacks (kind_of fields) fields
+    ++ by_table HasForbidden (kind_of fields) fields
+    ++ by_table Repeats (kind_of fields) fields
+
+abbrev pub after_used : List Pair → ℕ → List SeenFinding
+after_used fields block_len =
+    once NoContentType (lacks_content_type (kind_of fields) fields block_len)
+    ++ once Profile (has_unknown_profile (reading_of fields) fields)
+    ++ once BareId (has_bare_id (reading_of fields))
+    ++ once NoOrigin (lacks_origin (reading_of fields) fields)
 
 -- a record of these fields and a block of this length is of one of the eight kinds, and has these findings, with N4 and
 -- N6 among them where they hold: N4 if its digest differs, N6 if its id is used

@@ -15,12 +15,11 @@ mod plain;
 mod plain_findings;
 mod record_findings;
 mod runs;
-mod table;
 mod values;
 
 pub use alone::{AloneHead, alone_head};
 pub use canonical::is_canonical_head;
 pub use head::{QuickHead, quick_head};
 pub use plain::{QuickRecord, quick_record, record_with_findings};
-pub use plain_findings::{PlainFinding, PlainFindings};
+pub use plain_findings::PlainFindings;
 pub use record_findings::text_findings;

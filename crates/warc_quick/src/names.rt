@@ -3,7 +3,7 @@ ghost use Rattle.std.specs.Prelude.{◌≡◌, ◌↔◌, ◌+◌, ◌*◌, ◌�
 ghost use Rattle.warc_field.specs.Text.{same};
 ghost use Rattle.warc_frame.specs.declared.field_name.FieldName.{FieldName};
 ghost use Rattle.warc_frame.specs.FieldNames.{name_text};
-ghost use Rattle.warc_quick.specs.Names.{may_repeat, IsNaming};
+ghost use Rattle.warc_quick.specs.Names.{IsNaming};
 
 use warc_field::is_name;
 use warc_frame::{FieldName, names};
@@ -76,13 +76,6 @@ fn is_spelled(name: FieldName, text: &[u8]) -> bool
         ),
         FieldName::ContentType => is_same(text, names::CONTENT_TYPE.as_bytes()),
     }
-}
-
-/// Whether the field table lets it occur more than once.
-pub(crate) fn may_repeat(name: FieldName) -> bool
-    ensures { result ≡ may_repeat name }
-{
-    name == FieldName::ConcurrentTo
 }
 
 /// A text that none of these names is in any case, if it is a name.

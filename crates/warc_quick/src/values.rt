@@ -1,5 +1,5 @@
 //! The values of the fields by which a head is read in place.
-ghost use Rattle.std.specs.Prelude.{◌≡◌, ◌∷◌, ◌++◌, [], ◌<◌, true, List, None, get_or};
+ghost use Rattle.std.specs.Prelude.{◌≡◌, ◌∷◌, ◌++◌, [], true, List, None};
 ghost use Rattle.warc_field.specs.Area.{Pair, first_value, value_or_empty};
 ghost use Rattle.warc_frame.specs.declared.field_name.FieldName.{FieldName};
 ghost use Rattle.warc_frame.specs.FieldNames.{name_text};
@@ -7,9 +7,10 @@ ghost use Rattle.warc_quick.specs.Names.{IsNaming};
 ghost use Rattle.warc_quick.specs.Fronts.{AreValues, IsValueOf};
 
 use crate::lines::Line;
-use crate::names::{Naming, may_repeat};
+use crate::names::Naming;
 use warc_frame::laws::are_field_names;
 use warc_frame::{FieldName, NAME_COUNT};
+use warc_record::{HeadFields, may_repeat};
 
 /// The value of the first field of each name. Of a name that may not repeat it is the only one.
 #[derive(Clone, Copy)]
@@ -46,14 +47,6 @@ impl<'a> Values<'a> {
         true
     }
 
-    /// The value of the first field of the name that has this place.
-    pub(crate) fn at(&self, place: usize) -> Option<&'a [u8]>
-        requires { place < NAME_COUNT }
-        ensures { result ≡ get_or self.now.values place None }
-    {
-        self.values[place]
-    }
-
     /// The value of the first field of a name.
     pub(crate) fn first(&self, name: FieldName) -> Option<&'a [u8]>
         ensures { (fields : List Pair) → AreValues fields self.now.values → IsValueOf name fields result }
@@ -78,5 +71,18 @@ impl<'a> Values<'a> {
             Some(value) => value,
             None => b"",
         }
+    }
+}
+
+impl<'a> HeadFields<'a> for Values<'a> {
+    ghost reads = { λ read pairs. AreValues pairs read.values };
+
+    fn first_text(&self, name: FieldName) -> Option<&'a [u8]> {
+        self.first(name)
+    }
+
+    #[tactic(auto, using(crate::proofs::ValueLemmas::never_again))]
+    fn occurs_again(&self, _name: FieldName) -> bool {
+        false
     }
 }

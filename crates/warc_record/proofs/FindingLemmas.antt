@@ -4,6 +4,9 @@ use Rattle.std.specs.Prelude.{IsUtf8}
 use Rattle.std.specs.Str.{is_utf8}
 use Rattle.std.proofs.lemmas.Str.{IsUtf8-from_is_utf8, is_utf8-from_IsUtf8}
 use Rattle.warc_field.specs.Area.{Pair}
+use Rattle.std.proofs.lemmas.List.{append-nil}
+use Rattle.warc_record.specs.declared.types.Kind.{Kind}
+use Rattle.warc_record.specs.declared.checks.TableCheck.{TableCheck}
 use Rattle.warc_record.specs.declared.checks.TableCheck.TheVariants.{Lacks, HasForbidden, Repeats}
 use Rattle.warc_record.specs.Kinds.{is_known}
 use Rattle.warc_record.specs.Readings.{Reading}
@@ -39,26 +42,34 @@ select_push test reported (y ∷ ys) x = more (test y) (select_push test reporte
     more true rest = ap (λ zs. reported y ∷ zs) rest
     more false rest = rest
 
--- the findings, added one number after the other
-pub assembled : (reading : Reading) (fields : List Pair) (size : ℕ) (bad used : Bool)
-    (z a b c four d six e f g h i : List SeenFinding) (bad-4 five seven eight ten eleven : Bool)
-    → z ≡ [] → a ≡ z ++ by_table Lacks reading.kind fields → b ≡ a ++ by_table HasForbidden reading.kind fields
-    → c ≡ b ++ by_table Repeats reading.kind fields → four ≡ c ++ once Digest bad-4
-    → d ≡ four ++ once SegmentNumber five → six ≡ d ++ once IdUsed used → e ≡ six ++ once NoContentType seven → f ≡ e ++ once Profile eight
-    → g ≡ f ++ not_utf8 fields → h ≡ g ++ once BareId ten → i ≡ h ++ once NoOrigin eleven
-    → bad-4 ≡ (is_known reading.kind && bad) → five ≡ has_bad_segment reading fields → seven ≡ lacks_content_type reading.kind fields size
-    → eight ≡ has_unknown_profile reading fields → ten ≡ has_bare_id reading → eleven ≡ lacks_origin reading fields
+-- one more item that doesn't pass
+pub still_none : {X Y : Type 0} (test : X → Bool) (reported : X → Y) (xs : List X) (x : X) → test x ≡ false
+    → map reported (filter test xs) ≡ [] → map reported (filter test (xs ++ x ∷ [])) ≡ []
+still_none test reported xs x miss none =
+    select_push test reported xs x ∙ ap₂ (λ ys b. ys ++ (if b then reported x ∷ [] else [])) none miss
+
+-- a rule that no check finds broken
+pub none_broken : (broken : TableCheck → Bool) → broken Lacks ≡ false → broken HasForbidden ≡ false → broken Repeats ≡ false
+    → (check : TableCheck) → broken check ≡ false
+none_broken broken lacks forbidden repeats Lacks = lacks
+none_broken broken lacks forbidden repeats HasForbidden = forbidden
+none_broken broken lacks forbidden repeats Repeats = repeats
+
+-- a table that is kept gives no finding
+pub nothing_by_table : (kind : Kind) (fields : List Pair) → ((check : TableCheck) → by_table check kind fields ≡ [])
+    → (found : List SeenFinding)
+    → found ≡ found ++ by_table Lacks kind fields ++ by_table HasForbidden kind fields ++ by_table Repeats kind fields
+nothing_by_table kind fields none found = rw (none Lacks, none HasForbidden, none Repeats) (simp append-nil)
+
+-- the findings, added one group after the other
+pub assembled : (reading : Reading) (fields : List Pair) (size : ℕ) (bad used : Bool) (z c four d six f g i : List SeenFinding) (bad-4 five : Bool)
+    → z ≡ []
+    → c ≡ z ++ by_table Lacks reading.kind fields ++ by_table HasForbidden reading.kind fields ++ by_table Repeats reading.kind fields
+    → four ≡ c ++ once Digest bad-4 → d ≡ four ++ once SegmentNumber five → six ≡ d ++ once IdUsed used
+    → f ≡ six ++ once NoContentType (lacks_content_type reading.kind fields size) ++ once Profile (has_unknown_profile reading fields)
+    → g ≡ f ++ not_utf8 fields → i ≡ g ++ once BareId (has_bare_id reading) ++ once NoOrigin (lacks_origin reading fields)
+    → bad-4 ≡ (is_known reading.kind && bad) → five ≡ has_bad_segment reading fields
     → i ≡ findings_by reading fields size bad used
 unfolding findings_by
-assembled reading fields size bad used z a b c four d six e f g h i bad-4 five seven eight ten eleven z-is a-is b-is c-is four-is d-is six-is e-is f-is g-is h-is i-is is-4 is-5 is-7 is-8 is-10 is-11 =
-    let after-a : a ≡ by_table Lacks reading.kind fields = a-is ∙ ap (λ x. x ++ by_table Lacks reading.kind fields) z-is in
-    let after-b = b-is ∙ ap (λ x. x ++ by_table HasForbidden reading.kind fields) after-a in
-    let after-c = c-is ∙ ap (λ x. x ++ by_table Repeats reading.kind fields) after-b in
-    let after-four = four-is ∙ ap₂ (λ x y. x ++ once Digest y) after-c is-4 in
-    let after-d = d-is ∙ ap₂ (λ x y. x ++ once SegmentNumber y) after-four is-5 in
-    let after-six = six-is ∙ ap (λ x. x ++ once IdUsed used) after-d in
-    let after-e = e-is ∙ ap₂ (λ x y. x ++ once NoContentType y) after-six is-7 in
-    let after-f = f-is ∙ ap₂ (λ x y. x ++ once Profile y) after-e is-8 in
-    let after-g = g-is ∙ ap (λ x. x ++ not_utf8 fields) after-f in
-    let after-h = h-is ∙ ap₂ (λ x y. x ++ once BareId y) after-g is-10 in
-    i-is ∙ ap₂ (λ x y. x ++ once NoOrigin y) after-h is-11
+assembled reading fields size bad used z c four d six f g i bad-4 five z-is c-is four-is d-is six-is f-is g-is i-is is-4 is-5 =
+    rw (i-is, g-is, f-is, six-is, d-is, four-is, c-is, z-is, is-4, is-5) refl

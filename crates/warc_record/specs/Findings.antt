@@ -13,6 +13,9 @@ use Rattle.warc_record.specs.declared.checks.TableCheck.{TableCheck}
 use Rattle.warc_record.specs.declared.checks.TableCheck.TheVariants.{Lacks, HasForbidden, Repeats}
 use Rattle.warc_record.specs.declared.checks.Finding.{Finding}
 use Rattle.warc_record.specs.declared.checks.Finding.TheVariants as seen
+use Rattle.warc_record.specs.declared.finding_sink.PlainFinding.{PlainFinding}
+use Rattle.warc_record.specs.declared.finding_sink.PlainFinding.TheVariants as plain
+use Rattle.warc_frame.specs.FieldNames.{name_text}
 use Rattle.warc_record.specs.Kinds.{is_known, is_revisit, is_continuation}
 use Rattle.warc_record.specs.Readings.{present_value, present_bare, Reading, reading_of}
 use Rattle.warc_record.specs.Table.{Rule, rules, is_among}
@@ -157,3 +160,16 @@ finding_seen (seen.NotUtf8 name) = NotUtf8 name.now
 finding_seen seen.BareId = BareId
 finding_seen seen.NoOrigin = NoOrigin
 finding_seen seen.Empty = Empty
+
+-- a finding of the code that holds no text of the record
+abbrev pub plain_seen : PlainFinding → SeenFinding
+plain_seen (plain.Absent name) = Absent (name_text name)
+plain_seen (plain.Forbidden name) = Forbidden (name_text name)
+plain_seen (plain.Repeated name) = Repeated (name_text name)
+plain_seen plain.Digest = Digest
+plain_seen plain.SegmentNumber = SegmentNumber
+plain_seen plain.IdUsed = IdUsed
+plain_seen plain.NoContentType = NoContentType
+plain_seen plain.Profile = Profile
+plain_seen plain.BareId = BareId
+plain_seen plain.NoOrigin = NoOrigin

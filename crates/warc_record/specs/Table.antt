@@ -8,6 +8,8 @@ use Rattle.warc_record.specs.declared.types.Kind.TheVariants.{Warcinfo, Response
 use Rattle.warc_record.specs.declared.table.FieldRule.{FieldRule}
 use Rattle.warc_record.specs.Kinds.{is_kind}
 use Rattle.warc_frame.specs.FieldNames.{name_text}
+use Rattle.warc_frame.specs.declared.field_name.FieldName.{FieldName}
+use Rattle.warc_frame.specs.declared.field_name.FieldName.TheVariants.{ConcurrentTo}
 
 pub record Rule : Type 0 where
   pub name : List ℕ
@@ -58,11 +60,16 @@ rules =
     ∷ rule content_type [] []
     ∷ []
 
+-- the one name that the table lets occur more than once
+abbrev pub may_repeat : FieldName → Bool
+may_repeat ConcurrentTo = true
+may_repeat _ = false
+
 -- a row of the table in code
 abbrev pub rule_seen : FieldRule → Rule
 rule_seen row = record {
   name = name_text row.field;
   required = row.required.now;
   forbidden = row.forbidden.now;
-  repeats = row.repeats;
+  repeats = may_repeat row.field;
 }

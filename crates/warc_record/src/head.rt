@@ -16,6 +16,7 @@ use crate::ids::{IdKey, bare, id_key, is_bare_id};
 use crate::known::{ByName, Spots};
 use crate::readings::{
     SegmentNumber, bare_in, is_known_profile, key_in, number_in, present, segment_number, text_in,
+    unless_empty,
 };
 use crate::types::Kind;
 use std::alloc::{Allocator, Global};
@@ -88,13 +89,6 @@ pub struct Typed<'a> {
     pub payload_digest: &'a [u8],
 }
 
-/// The text, if it isn't empty.
-fn unless_empty(text: &[u8]) -> Option<&[u8]>
-    ensures { option_copied result ≡ unless_empty text.now }
-{
-    if text.is_empty() { None } else { Some(text) }
-}
-
 impl<'a> Typed<'a> {
     /// The digest that it asks for of its block.
     pub fn wanted(&self) -> Wanted
@@ -122,7 +116,7 @@ impl<'a> Typed<'a> {
 fn instant_in<A: Allocator>(fields: &ByName<'_, A>, name: FieldName) -> Option<Moment>
     ensures { result ≡ instant_in (name_text name) fields.now }
 {
-    read_date(present(fields, name)?.bytes())
+    read_date(present(fields, name)?)
 }
 
 /// The target and the instant that the head names.
@@ -141,7 +135,7 @@ fn read_reference<'a, A: Allocator>(fields: &ByName<'a, A>) -> Reference<'a>
     ensures { reference_said result ≡ reference_of fields.now }
 {
     let known_profile = match present(fields, FieldName::Profile) {
-        Some(value) => is_known_profile(value.bytes()),
+        Some(value) => is_known_profile(value),
         None => false,
     };
     Reference {
@@ -174,7 +168,7 @@ fn wanted_in<A: Allocator>(fields: &ByName<'_, A>) -> Wanted
     ensures { result ≡ digest_wanted fields.now }
 {
     match present(fields, FieldName::BlockDigest) {
-        Some(value) => Wanted::of(value.bytes()),
+        Some(value) => Wanted::of(value),
         None => Wanted::Unchecked,
     }
 }

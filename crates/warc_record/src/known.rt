@@ -6,6 +6,8 @@ ghost use Rattle.warc_field.specs.Text.{same};
 ghost use Rattle.warc_frame.specs.FieldNames.{name_count, name_text};
 ghost use Rattle.warc_record.specs.Known.{next_spot, spot_place, AreSpots};
 
+use crate::head_fields::HeadFields;
+use crate::table::may_repeat;
 use std::alloc::Allocator;
 use std::marker::Model;
 use warc_field::{Fields, Name, Value};
@@ -155,5 +157,20 @@ impl<'a, A: Allocator> ByName<'a, A> {
             Spot::Absent | Spot::Once(_) => false,
             Spot::Repeated(_) => true,
         }
+    }
+}
+
+impl<'a, A: Allocator> HeadFields<'a> for ByName<'a, A> {
+    ghost reads = { λ known pairs. known ≡ pairs };
+
+    fn first_text(&self, name: FieldName) -> Option<&'a [u8]> {
+        match self.first(name) {
+            Some(value) => Some(value.bytes()),
+            None => None,
+        }
+    }
+
+    fn occurs_again(&self, name: FieldName) -> bool {
+        !may_repeat(name) && self.repeats(name)
     }
 }

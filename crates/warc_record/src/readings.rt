@@ -1,15 +1,14 @@
 //! What single fields of a head say.
-ghost use Rattle.std.specs.Prelude.{◌≡◌};
+ghost use Rattle.std.specs.Prelude.{◌≡◌, List};
 ghost use Rattle.std.specs.Option.{option_copied};
-ghost use Rattle.warc_field.specs.Area.{value_or_empty};
+ghost use Rattle.warc_field.specs.Area.{Pair, value_or_empty};
 ghost use Rattle.warc_frame.specs.FieldNames.{name_text};
 ghost use Rattle.warc_record.specs.Readings.{present_value, present_bare, unless_empty, key_in, kind_of, number_in, is_known_profile, segment_number};
 
+use crate::head_fields::HeadFields;
 use crate::ids::{IdKey, bare, id_key};
-use crate::known::ByName;
 use crate::types::Kind;
-use std::alloc::Allocator;
-use warc_field::{Value, decimal};
+use warc_field::decimal;
 use warc_frame::FieldName;
 
 /// The segment number that a head states.
@@ -25,72 +24,74 @@ pub enum SegmentNumber {
     Bad,
 }
 
-/// The value of the first field of the name, if it isn't empty.
-pub(crate) fn present<'a, A: Allocator>(
-    fields: &ByName<'a, A>,
-    name: FieldName,
-) -> Option<&'a Value<A>>
-    ensures { option_copied result ≡ present_value (name_text name) fields.now }
+/// The text, if it isn't empty.
+pub(crate) fn unless_empty(text: &[u8]) -> Option<&[u8]>
+    ensures { option_copied result ≡ unless_empty text.now }
 {
-    let value = fields.first(name)?;
-    if value.bytes().is_empty() {
-        None
-    } else {
-        Some(value)
-    }
+    if text.is_empty() { None } else { Some(text) }
+}
+
+/// The value of the first field of the name, if it isn't empty.
+pub(crate) fn present<'a, H: HeadFields<'a>>(fields: &H, name: FieldName) -> Option<&'a [u8]>
+    ensures { (pairs : List Pair) → H.reads fields.now pairs
+        → option_copied result ≡ present_value (name_text name) pairs }
+{
+    unless_empty(fields.first_text(name)?)
 }
 
 /// The first field's value, empty if it is absent.
 #[tactic(auto, using(crate::proofs::TypedLemmas::present_or_empty))]
-pub(crate) fn text_in<'a, A: Allocator>(fields: &ByName<'a, A>, name: FieldName) -> &'a [u8]
-    ensures text { result.now ≡ value_or_empty (name_text name) fields.now }
-    ensures present { unless_empty result.now ≡ present_value (name_text name) fields.now }
+pub(crate) fn text_in<'a, H: HeadFields<'a>>(fields: &H, name: FieldName) -> &'a [u8]
+    ensures text { (pairs : List Pair) → H.reads fields.now pairs
+        → result.now ≡ value_or_empty (name_text name) pairs }
+    ensures present { (pairs : List Pair) → H.reads fields.now pairs
+        → unless_empty result.now ≡ present_value (name_text name) pairs }
 {
-    match fields.first(name) {
-        Some(value) => value.bytes(),
+    match fields.first_text(name) {
+        Some(value) => value,
         None => b"",
     }
 }
 
 /// The bare text of the first field's value, if it isn't empty.
-pub(crate) fn bare_in<'a, A: Allocator>(fields: &ByName<'a, A>, name: FieldName) -> Option<&'a [u8]>
-    ensures { option_copied result ≡ present_bare (name_text name) fields.now }
+pub(crate) fn bare_in<'a, H: HeadFields<'a>>(fields: &H, name: FieldName) -> Option<&'a [u8]>
+    ensures { (pairs : List Pair) → H.reads fields.now pairs
+        → option_copied result ≡ present_bare (name_text name) pairs }
 {
-    let text = bare(present(fields, name)?.bytes());
-    if text.is_empty() { None } else { Some(text) }
+    unless_empty(bare(present(fields, name)?))
 }
 
 /// The key of the id that the first field's value holds.
-pub(crate) fn key_in<'a, A: Allocator>(fields: &ByName<'a, A>, name: FieldName) -> Option<IdKey<'a>>
-    ensures { result ≡ key_in (name_text name) fields.now }
+pub(crate) fn key_in<'a, H: HeadFields<'a>>(fields: &H, name: FieldName) -> Option<IdKey<'a>>
+    ensures { (pairs : List Pair) → H.reads fields.now pairs → result ≡ key_in (name_text name) pairs }
 {
-    id_key(present(fields, name)?.bytes())
+    id_key(present(fields, name)?)
 }
 
 /// The kind of the record.
-pub(crate) fn kind_in<A: Allocator>(fields: &ByName<'_, A>) -> Kind
-    ensures { result ≡ kind_of fields.now }
+pub fn kind_in<'a, H: HeadFields<'a>>(fields: &H) -> Kind
+    ensures { (pairs : List Pair) → H.reads fields.now pairs → result ≡ kind_of pairs }
 {
-    match fields.first(FieldName::Type) {
-        Some(value) => Kind::named(value.bytes()),
+    match fields.first_text(FieldName::Type) {
+        Some(value) => Kind::named(value),
         None => Kind::Other,
     }
 }
 
 /// The number that the first field's value is.
-pub(crate) fn number_in<A: Allocator>(fields: &ByName<'_, A>, name: FieldName) -> Option<u64>
-    ensures { result ≡ number_in (name_text name) fields.now }
+pub(crate) fn number_in<'a, H: HeadFields<'a>>(fields: &H, name: FieldName) -> Option<u64>
+    ensures { (pairs : List Pair) → H.reads fields.now pairs → result ≡ number_in (name_text name) pairs }
 {
-    decimal(present(fields, name)?.bytes())
+    decimal(present(fields, name)?)
 }
 
 /// The segment number that the head states.
-pub(crate) fn segment_number<A: Allocator>(fields: &ByName<'_, A>) -> SegmentNumber
-    ensures { result ≡ segment_number fields.now }
+pub(crate) fn segment_number<'a, H: HeadFields<'a>>(fields: &H) -> SegmentNumber
+    ensures { (pairs : List Pair) → H.reads fields.now pairs → result ≡ segment_number pairs }
 {
     match present(fields, FieldName::SegmentNumber) {
         None => SegmentNumber::Absent,
-        Some(value) => match decimal(value.bytes()) {
+        Some(value) => match decimal(value) {
             Some(number) => SegmentNumber::Number(number),
             None => SegmentNumber::Bad,
         },
