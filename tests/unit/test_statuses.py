@@ -11,7 +11,7 @@ ENDS = "crates/warc_commands/specs/Ends.antt"
 EXIT = "crates/warc_arguments/specs/Exit.antt"
 CODE = re.compile(r"^code_of (\w+) = (\d)$", re.MULTILINE)
 SET = re.compile(r"^(May\w+) status = (.*)$", re.MULTILINE)
-COMMAND = re.compile(r"^IsStatusOf \(command\.(\w+)[^)]*\) status =\s+(.*)$", re.MULTILINE)
+COMMAND = re.compile(r"^IsStatusOf \(?command\.(\w+)[^)=]*\)? status =\s+(.*)$", re.MULTILINE)
 
 
 def proved(ends: str, codes: str) -> Dict[str, Set[int]]:
@@ -29,7 +29,7 @@ def test_help_names_the_statuses_that_are_proved() -> None:
 
 def test_another_status_is_seen() -> None:
     codes = "code_of Done = 0\ncode_of Failed = 3\n"
-    one = "IsStatusOf (command.Write draft file) status = status ≡ Done\n"
-    two = "IsStatusOf (command.Write draft file) status =\n    (status ≡ Done) ⊎ (status ≡ Failed)\n"
+    one = "IsStatusOf (command.Write draft) status = status ≡ Done\n"
+    two = "IsStatusOf (command.Write draft) status =\n    (status ≡ Done) ⊎ (status ≡ Failed)\n"
     assert proved(one, codes) == {"write": {0}}
     assert proved(two, codes) == {"write": {0, 3}}

@@ -8,10 +8,7 @@ use suites_script::Case;
 use warc_commands::Command;
 
 /// The command that salvages.
-const SALVAGE: Command<'static> = Command::Salvage {
-    archive: "a.warc",
-    all: false,
-};
+const SALVAGE: Command<'static> = Command::Salvage { all: false };
 
 /// How far the run comes of which the request for memory of a number is refused. It wrote the records before the one
 /// for which memory was wanted.

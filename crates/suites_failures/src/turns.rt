@@ -45,7 +45,7 @@ fn is_unopened(
     at: u64,
 ) -> Result<bool, AllocError> {
     let fault = format!(in alloc; "F13 Read at {at}")?;
-    if let Command::Salvage { all: false, .. } = asked.command {
+    if let Command::Salvage { all: false } = asked.command {
         let records = good_in(alloc, asked.archive, at as usize);
         return is_salvaged(alloc, ended, &fault, records);
     }

@@ -52,8 +52,9 @@ pub record Asked : Type 0 where
   pub quiet : Bool
   pub hints : Bool
 
-abbrev pub asked_by : Request → Asked
-asked_by r = record { command = view_of r.command; flags = flags_of r.command; quiet = r.quiet; hints = r.hints }
+-- the path of its file, if it reads one
+abbrev pub path_word : Request → Option Text
+path_word r = option_map (λ p. p.now) r.path
 
 -- the path of the file that it reads; empty if it reads none
 abbrev pub path_word : Command → Text
@@ -79,7 +80,7 @@ path_word (command.Explain number) = []
 
 -- the path of the file that it reads before its archive, if it reads two
 abbrev pub list_word : Command → Option Text
-list_word (command.Select archive positions except closed) = Some positions.now
+list_word (command.Select positions except closed) = Some positions.now
 list_word _ = None
 
 -- whether it can ask for each offset once, in order
@@ -92,13 +93,8 @@ reads_once _ = false
 
 -- whether its output is bytes as they were captured
 abbrev pub gives_bytes : Command → Bool
-gives_bytes (command.Extract archive id) = true
-gives_bytes (command.Replay archive uri date hex stored) = true
-gives_bytes (command.Body archive position stored) = true
-gives_bytes (command.Block archive position) = true
+gives_bytes (command.Extract id) = true
+gives_bytes (command.Replay uri date hex stored) = true
+gives_bytes (command.Body position stored) = true
+gives_bytes (command.Block position) = true
 gives_bytes _ = false
-
--- whether it opens no file and reads nothing
-abbrev pub opens_nothing : Command → Bool
-opens_nothing (command.Explain number) = true
-opens_nothing _ = false

@@ -1,5 +1,5 @@
 -- The command line, in the terms of `clap`: what it defines, and what words name by it.
-use Rattle.std.specs.Prelude.{◌≡◌, ℕ, Bool, true, false, List, [], ◌∷◌, ◌++◌, fold, map, find, filter_map, Option, Some, option_map, unwrap_or, codes, string_bytes}
+use Rattle.std.specs.Prelude.{◌≡◌, ℕ, Bool, true, false, List, [], ◌∷◌, ◌++◌, fold, map, find, filter_map, Option, Some, None, option_map, unwrap_or, codes, string_bytes, if◌then◌else◌, ◌||◌}
 use Rattle.std.specs.Str.{bytes_eq}
 use Rattle.clap.specs.Kinds.{Kinds, IsAmong}
 use Rattle.clap.specs.Simple.{App, new_app, new_rule, on_top, with_rule, with_subcommand, subcommand_of}

@@ -1,27 +1,22 @@
 //! What a command line asks for.
 ghost use Rattle.std.specs.Prelude.{◌≡◌, true, false, Some, option_map};
-ghost use Rattle.warc_arguments.specs.Command.{gives_bytes, list_word, opens_nothing, path_word, reads_once};
+ghost use Rattle.warc_arguments.specs.Command.{gives_bytes, list_word, reads_once};
 
 /// What the program is asked to do. The texts are borrowed from the words.
 #[derive(Clone, Copy, Debug, PartialEq, Eq)]
 pub enum Command<'a> {
     /// A line for each record, of columns or of JSON.
     List {
-        archive: &'a str,
         json: bool,
     },
     /// A line for each finding.
-    Check {
-        archive: &'a str,
-    },
+    Check,
     /// The block of the first record with an id.
     Extract {
-        archive: &'a str,
         id: &'a str,
     },
     /// The body for a URI as of the first instant of a date; as it is stored, also a coded one, if that is asked for.
     Replay {
-        archive: &'a str,
         uri: &'a str,
         date: &'a str,
         in_hex: bool,
@@ -29,32 +24,24 @@ pub enum Command<'a> {
     },
     /// The body that the capture at a position gives; as it is stored, also a coded one, if that is asked for.
     Body {
-        archive: &'a str,
         position: &'a str,
         stored: bool,
     },
     /// A line for each capture, of all or of a URI.
     Captures {
-        archive: &'a str,
         uri: Option<&'a str>,
         in_hex: bool,
     },
     /// The records in canonical form.
-    Rewrite {
-        archive: &'a str,
-    },
+    Rewrite,
     /// The records as records of WARC 1.1.
-    Convert {
-        archive: &'a str,
-    },
+    Convert,
     /// The records split into segments of a number of bytes.
     Split {
-        archive: &'a str,
         size: &'a str,
     },
     /// The records whose positions the lines of a file name, or all others.
     Select {
-        archive: &'a str,
         positions: &'a str,
         except: bool,
         closed: bool,
@@ -62,40 +49,31 @@ pub enum Command<'a> {
     /// One record, whose block is the bytes of a file.
     Write {
         draft: Draft<'a>,
-        file: &'a str,
     },
     /// The head of the record at a position.
     Head {
-        archive: &'a str,
         position: &'a str,
     },
     /// The block of the record at a position.
     Block {
-        archive: &'a str,
         position: &'a str,
     },
     /// A line for each block that isn't good by its digest; for each payload, if that is asked for.
     Fixity {
-        archive: &'a str,
         payload: bool,
     },
     /// A line for each run of good records and for each damage.
-    Pieces {
-        archive: &'a str,
-    },
+    Pieces,
     /// The records before the first fault, or all good ones.
     Salvage {
-        archive: &'a str,
         all: bool,
     },
-    /// What the archive holds, in numbers and dates.
+    /// What the archive holds, in numbers and dates: in lines of columns or in one of JSON.
     Summary {
         archive: &'a str,
     },
     /// What `list`, `fixity`, `check`, `summary` and `captures` give, in this order.
-    Survey {
-        archive: &'a str,
-    },
+    Survey,
     /// What a number that the program prints means, and what to do.
     Explain {
         number: &'a str,
@@ -178,12 +156,7 @@ impl<'a> Command<'a> {
         ensures { option_map (λ t. t.now) result ≡ list_word self.now }
     {
         match self {
-            Command::Select {
-                archive: _,
-                positions,
-                except: _,
-                closed: _,
-            } => Some(positions),
+            Command::Select { positions, .. } => Some(positions),
             _ => None,
         }
     }
@@ -212,42 +185,21 @@ impl<'a> Command<'a> {
         ensures { result ≡ gives_bytes self.now }
     {
         match self {
-            Command::Block {
-                archive: _,
-                position: _,
-            }
-            | Command::Body {
-                archive: _,
-                position: _,
-                stored: _,
-            }
-            | Command::Extract { archive: _, id: _ }
-            | Command::Replay {
-                archive: _,
-                uri: _,
-                date: _,
-                in_hex: _,
-                stored: _,
-            } => true,
-            _ => false,
-        }
-    }
-
-    /// Whether the command opens no file and reads nothing.
-    pub fn opens_nothing(&self) -> bool
-        ensures { result ≡ opens_nothing self.now }
-    {
-        match self {
-            Command::Explain { number: _ } => true,
+            Command::Block { .. }
+            | Command::Body { .. }
+            | Command::Extract { .. }
+            | Command::Replay { .. } => true,
             _ => false,
         }
     }
 }
 
-/// What words ask for: a command, whether no progress is to be shown, and whether the lines for people are to be
-/// written also if standard error is no terminal.
+/// What words ask for: a command over the file at a path, whether no progress is to be shown, and whether the lines for
+/// people are to be written also if standard error is no terminal.
 #[derive(Clone, Copy, Debug, PartialEq, Eq)]
 pub struct Request<'a> {
+    /// The path of the archive, or of the file that `write` makes a record of. A command that reads nothing has none.
+    pub path: Option<&'a str>,
     pub command: Command<'a>,
     pub quiet: bool,
     pub hints: bool,

@@ -327,6 +327,11 @@ pub(crate) const DATE: Word = Word {
     help: "The date as of which the URI is asked for; 9999 is the latest",
 };
 
+pub(crate) const ANY_DATE: Word = Word {
+    name: "date",
+    help: "The date, in any form of a date of a record",
+};
+
 pub(crate) const URI_HEX: Word = Word {
     name: "uri-hex",
     help: "The URI is written as hexadecimal digits, two for each byte",
@@ -374,7 +379,7 @@ pub(crate) const PAYLOAD: Word = Word {
 
 pub(crate) const JSON: Word = Word {
     name: "json",
-    help: "Prints a line of JSON for each",
+    help: "Prints JSON, an object a line",
 };
 
 pub(crate) const ALL: Word = Word {
@@ -474,7 +479,7 @@ pub(crate) const FIRST_COMMANDS: [CommandEntry; 6] = [
 ];
 
 /// The other commands, in that order. Two tables are cheaper to prove than one.
-pub(crate) const OTHER_COMMANDS: [CommandEntry; 13] = [
+pub(crate) const OTHER_COMMANDS: [CommandEntry; 14] = [
     CommandEntry {
         name: "rewrite",
         about: "Writes the archive in canonical form",
@@ -561,7 +566,7 @@ pub(crate) const OTHER_COMMANDS: [CommandEntry; 13] = [
         notes: SUMMARY_NOTES,
         words: &[ARCHIVE],
         optional: &[],
-        flags: &[],
+        flags: &[JSON],
     },
     CommandEntry {
         name: "survey",

@@ -1,15 +1,15 @@
 //! The words of a command line, read.
-ghost use Rattle.std.specs.Prelude.{◌≡◌, ◌∷◌, [], true, false, fold, map, Some, IfOk, IfErr, option_map};
+ghost use Rattle.std.specs.Prelude.{◌≡◌, ◌∷◌, [], true, false, fold, map, Option, Some, IfOk, IfErr, option_map};
 ghost use Rattle.clap.specs.Faults.{fault_of};
 ghost use Rattle.clap.specs.Matches.{found_of};
 ghost use Rattle.clap.specs.Simple.{App, app_of, subcommand_rows_of, with_rule};
 ghost use Rattle.clap.specs.Takes.{takes};
 ghost use Rattle.clap.specs.Values.{kind_of};
-ghost use Rattle.clap.specs.Walk.{first_of, rows_of, rule_of};
+ghost use Rattle.clap.specs.Walk.{Text, first_of, rows_of, rule_of};
 ghost use Rattle.clap.specs.declared.builder.command.Command.TheViews.{out-Command};
 ghost use Rattle.warc_arguments.specs.Command.{asked_by, draft_texts, flags_of, view_of};
 ghost use Rattle.warc_arguments.specs.CommandLine.{IsReportedBy, asked_in, bare_app, first_app, asked_of, command_fault_text, draft_words, flags_in, is_flagged};
-ghost use Rattle.warc_arguments.specs.CommandLine.{layout_seen, named, rule_as, text_of, warc_app, with_layout, with_rules};
+ghost use Rattle.warc_arguments.specs.CommandLine.{layout_seen, named, path_in, rule_as, text_of, warc_app, with_layout, with_rules};
 
 use crate::command::{Command, Draft, Request};
 use crate::help::{
@@ -198,64 +198,53 @@ fn read_draft<'a>(texts: &ArgMatches<'a>) -> Draft<'a>
 /// What the command of a name is asked to do. `clap` meets no command but the program's own, so one of them,
 /// `list`, needs no test.
 fn read_command<'a>(name: &str, texts: &ArgMatches<'a>) -> Command<'a>
-    ensures view { view_of result ≡ named name.now (rows_of (found_of texts.now)) }
+    ensures view { (path : Option Text) → path ≡ path_in name.now (rows_of (found_of texts.now))
+        → view_of path result ≡ named name.now (rows_of (found_of texts.now)) }
     ensures flags { flags_of result ≡ flags_in name.now (rows_of (found_of texts.now)) }
 {
-    let archive = text_at(texts, "archive");
     match name {
-        "check" => Command::Check { archive },
+        "check" => Command::Check,
         "extract" => Command::Extract {
-            archive,
             id: text_at(texts, "id"),
         },
         "replay" => Command::Replay {
-            archive,
             uri: text_at(texts, "uri"),
             date: text_at(texts, "date"),
             in_hex: is_given(texts, "uri-hex"),
             stored: is_given(texts, "stored"),
         },
         "body" => Command::Body {
-            archive,
             position: text_at(texts, "position"),
             stored: is_given(texts, "stored"),
         },
         "captures" => Command::Captures {
-            archive,
             uri: optional_text(texts, "uri"),
             in_hex: is_given(texts, "uri-hex"),
         },
-        "rewrite" => Command::Rewrite { archive },
-        "convert" => Command::Convert { archive },
+        "rewrite" => Command::Rewrite,
+        "convert" => Command::Convert,
         "split" => Command::Split {
-            archive,
             size: text_at(texts, "size"),
         },
         "select" => Command::Select {
-            archive,
             positions: text_at(texts, "positions"),
             except: is_given(texts, "except"),
             closed: is_given(texts, "closed"),
         },
         "write" => Command::Write {
             draft: read_draft(texts),
-            file: text_at(texts, "file"),
         },
         "head" => Command::Head {
-            archive,
             position: text_at(texts, "position"),
         },
         "block" => Command::Block {
-            archive,
             position: text_at(texts, "position"),
         },
         "fixity" => Command::Fixity {
-            archive,
             payload: is_given(texts, "payload"),
         },
-        "pieces" => Command::Pieces { archive },
+        "pieces" => Command::Pieces,
         "salvage" => Command::Salvage {
-            archive,
             all: is_given(texts, "all"),
         },
         "summary" => Command::Summary { archive },
@@ -264,7 +253,6 @@ fn read_command<'a>(name: &str, texts: &ArgMatches<'a>) -> Command<'a>
             number: text_at(texts, "number"),
         },
         _ => Command::List {
-            archive,
             json: is_given(texts, "json"),
         },
     }
@@ -277,6 +265,7 @@ fn read<'a>(matches: &ArgMatches<'a>) -> Option<Request<'a>>
 {
     let (name, texts) = matches.subcommand()?;
     Some(Request {
+        path: read_path(name, texts),
         command: read_command(name, texts),
         quiet: is_given(texts, QUIET.name),
         hints: is_given(texts, HINTS.name),

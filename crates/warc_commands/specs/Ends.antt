@@ -32,13 +32,13 @@ Ends (command.Check archive) list = CheckEnds
 Ends (command.Extract archive id) list = ExtractEnds id.now
 Ends (command.Replay archive uri date hex stored) list =
     UriEnds (ReplayedAs stored date.now) hex (uri_named hex uri.now)
-Ends (command.Body archive position stored) list = GivenAs stored (position_of position.now)
-Ends (command.Captures archive uri hex) list =
+Ends (command.Body position stored) list = GivenAs stored (position_of position.now)
+Ends (command.Captures uri hex) list =
     UriEnds CapturesEnds hex (uri_listed hex (option_map (λ u. u.now) uri))
-Ends (command.Rewrite archive) list = WriteEnds (texts_as Canonical)
-Ends (command.Convert archive) list = WriteEnds (texts_as Converted)
-Ends (command.Split archive size) list = SplitEnds (size_of size.now)
-Ends (command.Select archive positions except closed) list =
+Ends command.Rewrite list = WriteEnds (texts_as Canonical)
+Ends command.Convert list = WriteEnds (texts_as Converted)
+Ends (command.Split size) list = SplitEnds (size_of size.now)
+Ends (command.Select positions except closed) list =
     SelectedAs closed except (bad_line list) (positions_in list)
 Ends (command.Write draft file) list = MakeEnds draft
 Ends (command.Head archive position) list = PartEnds Head (position_of position.now)
@@ -85,6 +85,6 @@ IsStatusOf (command.Explain number) status = (status ≡ Done) ⊎ (status ≡ F
 
 -- whether a command writes of an archive that it refuses: `pieces` and `salvage` alone do
 abbrev pub writes_front : Command → Bool
-writes_front (command.Pieces archive) = true
-writes_front (command.Salvage archive all) = true
+writes_front command.Pieces = true
+writes_front (command.Salvage all) = true
 writes_front _ = false

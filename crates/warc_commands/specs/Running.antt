@@ -8,7 +8,7 @@ use Rattle.std.specs.declared.io.ErrorKind.TheVariants.{OutOfMemory}
 use Rattle.warc_frame.specs.FaultText.{out_fault_text}
 use Rattle.warc_frame.specs.Seen.{IfHeld, SeenSource}
 use Rattle.warc_frame.specs.declared.fault.OutFault.TheVariants.{Memory}
-use Rattle.warc_arguments.specs.Command.{list_word, opens_nothing, path_word, reads_once}
+use Rattle.warc_arguments.specs.Command.{list_word, path_word, reads_once}
 use Rattle.warc_arguments.specs.Parsed.{IsParsed, ReadLine}
 use Rattle.warc_arguments.specs.declared.status.Status.{Status}
 use Rattle.warc_arguments.specs.declared.status.Status.TheVariants.{Refused, Failed}
@@ -17,7 +17,7 @@ use Rattle.warc_commands.specs.Ends.{Ends, IsStatusOf, writes_front}
 use Rattle.warc_commands.specs.Program.{FaultEnds, IsNotRead, Reports, reported_line}
 use Rattle.warc_commands.specs.Reads.{CommandReads}
 use Rattle.warc_commands.specs.declared.runs.Location.{Location}
-use Rattle.warc_commands.specs.declared.runs.Location.TheVariants.{File, Memory as InMemory, Input, Nowhere}
+use Rattle.warc_commands.specs.declared.runs.Location.TheVariants.{File, Memory as InMemory, Input}
 use Rattle.warc_commands.specs.declared.runs.RunSource.{RunSource}
 use Rattle.warc_commands.specs.declared.runs.RunSource.TheVariants as sources
 use Rattle.warc_arguments.specs.declared.command.Command.{Command}
@@ -35,10 +35,6 @@ pub data Offer : Type 0 where
 abbrev pub place_at : List ℕ → Location
 place_at path =
     if bytes_eq path (codes "-") then Input else (if bytes_eq path (codes "/dev/stdin") then InMemory else File)
-
--- where the bytes of a command are: nowhere, if it reads nothing
-abbrev pub command_place : Command → Location
-command_place command = if opens_nothing command then Nowhere else place_at (path_word command)
 
 -- why a run can't begin, by the kind of an error
 abbrev pub stop_text : List ℕ → ErrorKind → List ℕ
@@ -148,10 +144,10 @@ RunsOver gives left command source old new status =
     IsRunWithList gives left command source old new status ⊎ LacksList gives left (list_word command) old new status
 
 -- a command reads the file at its path
-pub record ReadsFile (gives : Offer → Type 0) (left : Option SeenSource) (command : Command) (old new : Outputs)
-    (status : Status) : Type 0 where
+pub record ReadsFile (gives : Offer → Type 0) (left : Option SeenSource) (path : List ℕ) (command : Command)
+    (old new : Outputs) (status : Status) : Type 0 where
   pub file : Result SeenSource Error
-  pub given : gives (opened (path_word command) file)
+  pub given : gives (opened path file)
   pub ends : MatchResult file (λ source. RunsOver gives left command source old new status)
       (λ error. IsStopped (stop_text (codes "open failed") (error_kind error)) old new status)
 
@@ -234,23 +230,31 @@ pub record ReadsInput (gives : Offer → Type 0) (left : Option SeenSource) (com
   pub ends : MatchOption file (PipeEnds (reads_once command) gives left command old new status)
       (λ source. RunsOver gives left command source old new status)
 
--- how a command ends, by where its bytes are
-abbrev pub PlaceEnds : Location → (Offer → Type 0) → Option SeenSource → Command → Outputs → Outputs → Status → Type 0
-PlaceEnds File gives left command old new status = ReadsFile gives left command old new status
-PlaceEnds InMemory gives left command old new status =
+-- how a command over the bytes at a path ends, by where they are
+abbrev pub PlaceEnds : Location → (Offer → Type 0) → Option SeenSource → List ℕ → Command → Outputs → Outputs → Status
+    → Type 0
+PlaceEnds File gives left path command old new status = ReadsFile gives left path command old new status
+PlaceEnds InMemory gives left path command old new status =
     ReadsMemory gives left (codes "read failed after 0") command old new status
-PlaceEnds Input gives left command old new status = ReadsInput gives left command old new status
-PlaceEnds Nowhere gives left command old new status = IsRunInMemory command [] [] old new status
+PlaceEnds Input gives left path command old new status = ReadsInput gives left command old new status
 
--- a command names standard input twice
-abbrev pub names_input_twice : Command → Bool
-names_input_twice command = is_input (path_word command) && is_input (unwrap_or (list_word command) [])
+-- a command names standard input for its archive and for its list
+abbrev pub names_input_twice : List ℕ → Command → Bool
+names_input_twice path command = is_input path && is_input (unwrap_or (list_word command) [])
 
--- how a command ends: without a read, if it names standard input twice
-abbrev pub CommandEnds : Bool → (Offer → Type 0) → Option SeenSource → Command → Outputs → Outputs → Status → Type 0
-CommandEnds true gives left command old new status = IsStopped two_inputs old new status
-CommandEnds false gives left command old new status =
-    PlaceEnds (command_place command) gives left command old new status
+-- how a command over the bytes at a path ends: without a read, if it names standard input twice
+abbrev pub PathEnds : Bool → (Offer → Type 0) → Option SeenSource → List ℕ → Command → Outputs → Outputs → Status
+    → Type 0
+PathEnds true gives left path command old new status = IsStopped two_inputs old new status
+PathEnds false gives left path command old new status =
+    PlaceEnds (place_at path) gives left path command old new status
+
+-- how a command ends, by the path of its file; without one it reads nothing
+abbrev pub CommandEnds : Option (List ℕ) → (Offer → Type 0) → Option SeenSource → Command → Outputs → Outputs → Status
+    → Type 0
+CommandEnds None gives left command old new status = IsRunInMemory command [] [] old new status
+CommandEnds (Some path) gives left command old new status =
+    PathEnds (names_input_twice path command) gives left path command old new status
 
 -- how a run ends, by its words
 pub record WordsEnd (gives : Offer → Type 0) (left : Option SeenSource) (words : List (List ℕ)) (old new : Outputs)
@@ -258,7 +262,7 @@ pub record WordsEnd (gives : Offer → Type 0) (left : Option SeenSource) (words
   pub parsed : Result Request CommandFault
   pub is : IsParsed words parsed
   pub ends : MatchResult parsed
-      (λ request. CommandEnds (names_input_twice request.command) gives left request.command old new status)
+      (λ request. CommandEnds (path_word request) gives left request.command old new status)
       (λ fault. FaultEnds fault old.out new.out old.err new.err status)
 
 -- How a run ends, by what the system gives and by what is seen of the source that it gives back: a failed read is

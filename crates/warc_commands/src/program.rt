@@ -77,7 +77,6 @@ impl<W: Sink, E: Sink> Console<W, E> {
             Command::Check { archive: _ } => self.check(alloc, source),
             Command::Extract { archive: _, id } => self.extract(alloc, id, source),
             Command::Replay {
-                archive: _,
                 uri,
                 date,
                 in_hex,
@@ -94,21 +93,12 @@ impl<W: Sink, E: Sink> Console<W, E> {
                 };
                 self.replay(alloc, page, source)
             }
-            Command::Body {
-                archive: _,
-                position,
-                stored,
-            } => self.body(alloc, position, *stored, source),
-            Command::Captures {
-                archive: _,
-                uri,
-                in_hex,
-            } => self.captures(alloc, *in_hex, *uri, source),
-            Command::Rewrite { archive: _ } => self.write_anew(alloc, Form::Canonical, source),
-            Command::Convert { archive: _ } => self.write_anew(alloc, Form::Converted, source),
-            Command::Split { archive: _, size } => self.split(alloc, size, source),
+            Command::Body { position, stored } => self.body(alloc, position, *stored, source),
+            Command::Captures { uri, in_hex } => self.captures(alloc, *in_hex, *uri, source),
+            Command::Rewrite => self.write_anew(alloc, Form::Canonical, source),
+            Command::Convert => self.write_anew(alloc, Form::Converted, source),
+            Command::Split { size } => self.split(alloc, size, source),
             Command::Select {
-                archive: _,
                 positions: _,
                 except,
                 closed,

@@ -5,8 +5,8 @@ ghost use Rattle.std.specs.Result.{result_map_both};
 ghost use Rattle.std.specs.IoError.{error_kind};
 ghost use Rattle.warc_commands.specs.Devices.{outputs_of, outputs};
 ghost use Rattle.warc_commands.specs.Program.{Reports, reported_line};
-ghost use Rattle.warc_commands.specs.Running.{Offer, CommandEnds, IsListAt, IsListCut, IsListOf, IsRunInMemory, LacksList, MemoryEnds, RunsOver, PipeEnds, ReadsFile, ReadsInput, ReadsInto, ReadsMemory, RunEnds, command_place, is_input, max_input, names_input_twice, opened, place_at, redirected, run_left, stop_text, streamed};
-ghost use Rattle.warc_arguments.specs.Command.{list_word, reads_once};
+ghost use Rattle.warc_commands.specs.Running.{Offer, CommandEnds, IsListAt, IsListCut, IsListOf, IsRunInMemory, LacksList, MemoryEnds, RunsOver, PipeEnds, ReadsFile, ReadsInput, ReadsInto, ReadsMemory, RunEnds, PathEnds, is_input, max_input, names_input_twice, opened, place_at, redirected, run_left, stop_text, streamed};
+ghost use Rattle.warc_arguments.specs.Command.{list_word, path_word, reads_once};
 ghost use Rattle.warc_frame.specs.Seen.{IfHeld, Seen};
 
 use crate::console::{Console, Ended, Reporter, line_of};
@@ -14,7 +14,7 @@ use crate::program::{perform, refuse};
 use crate::write::read_front;
 use std::alloc::Global;
 use std::io::{self, ErrorKind};
-use warc_arguments::{Command, CommandLine, Status};
+use warc_arguments::{Command, CommandLine, Request, Status};
 use warc_frame::{MemSource, OutFault, Sink, Source};
 
 /// The most bytes of standard input that are kept in memory.
@@ -62,14 +62,13 @@ pub enum RunSource<F, S> {
     Nothing,
 }
 
-/// Where the bytes of a command are: in the file at its path; in memory, into which standard input is read first; in
-/// standard input; or nowhere, if it reads nothing.
+/// Where the bytes of a command are: in the file at its path; in memory, into which standard input is read first; or in
+/// standard input.
 #[derive(Clone, Copy, Debug, PartialEq, Eq)]
 enum Location {
     File,
     Memory,
     Input,
-    Nowhere,
 }
 
 /// Does what a command line says: all of `main` but opening. The answer is how it ended, and what was read: a failed
@@ -90,7 +89,7 @@ pub fn run<Y: System, W: Sink, E: Sink>(
 {
     match line {
         Ok(line) => match line.parsed() {
-            Ok(request) => console.run_command(alloc, system, &request.command),
+            Ok(request) => console.run_request(alloc, system, request),
             Err(fault) => (refuse(fault, console), RunSource::Nothing),
         },
         Err(error) => (
@@ -101,38 +100,55 @@ pub fn run<Y: System, W: Sink, E: Sink>(
 }
 
 impl<W: Sink, E: Sink> Console<W, E> {
-    /// Does what a command says, over the bytes at its path.
-    fn run_command<Y: System>(
+    /// Does what a command says, over the bytes at its path, if it has one.
+    fn run_request<Y: System>(
         &mut self,
         alloc: Global,
         system: &Y,
-        command: &Command<'_>,
+        request: &Request<'_>,
     ) -> Ended<RunSource<Y::File, Y::Stream>>
-        ensures { CommandEnds (names_input_twice command.now) (Y.gives system.now)
-            (run_left Y.File.seen Y.Stream.seen result.1) command.now
+        ensures { CommandEnds (path_word request.now) (Y.gives system.now)
+            (run_left Y.File.seen Y.Stream.seen result.1) request.now.command
             (outputs W.seen E.seen self.old) (outputs W.seen E.seen self.new) result.0 }
     {
-        if names_input_twice(command) {
-            return (self.err.stop(TWO_INPUTS), RunSource::Nothing);
-        }
-        match place_of(command) {
-            Location::File => self.run_file(alloc, system, command),
-            Location::Memory => self.run_memory(alloc, system, command, READ_FAILED),
-            Location::Input => self.run_input(alloc, system, command),
-            Location::Nowhere => (
-                self.run_in_memory(alloc, command, &[], Vec::new(alloc)),
+        match request.path {
+            Some(path) => self.run_at(alloc, system, path, &request.command),
+            None => (
+                self.run_in_memory(alloc, &request.command, &[], Vec::new(alloc)),
                 RunSource::Nothing,
             ),
         }
     }
+
+    /// Does what a command says, over the bytes at a path.
+    fn run_at<Y: System>(
+        &mut self,
+        alloc: Global,
+        system: &Y,
+        path: &str,
+        command: &Command<'_>,
+    ) -> Ended<RunSource<Y::File, Y::Stream>>
+        ensures { PathEnds (names_input_twice path.now command.now) (Y.gives system.now)
+            (run_left Y.File.seen Y.Stream.seen result.1) path.now command.now
+            (outputs W.seen E.seen self.old) (outputs W.seen E.seen self.new) result.0 }
+    {
+        if names_input_twice(path, command) {
+            return (self.err.stop(TWO_INPUTS), RunSource::Nothing);
+        }
+        match place_at(path) {
+            Location::File => self.run_file(alloc, system, path, command),
+            Location::Memory => self.run_memory(alloc, system, command, READ_FAILED),
+            Location::Input => self.run_input(alloc, system, command),
+        }
+    }
 }
 
-/// Whether a command names standard input for its archive and for its list.
-fn names_input_twice(command: &Command<'_>) -> bool
-    ensures { result ≡ names_input_twice command.now }
+/// Whether a command over the bytes at a path names standard input for its archive and for its list.
+fn names_input_twice(path: &str, command: &Command<'_>) -> bool
+    ensures { result ≡ names_input_twice path.now command.now }
 {
     match command.list_path() {
-        Some(list) => is_input(command.path()) && is_input(list),
+        Some(list) => is_input(path) && is_input(list),
         None => false,
     }
 }
@@ -142,17 +158,6 @@ fn is_input(path: &str) -> bool
     ensures { result ≡ is_input path.now }
 {
     path == "-" || path == "/dev/stdin"
-}
-
-/// Where the bytes of a command are.
-fn place_of(command: &Command<'_>) -> Location
-    ensures { result ≡ command_place command.now }
-{
-    if command.opens_nothing() {
-        Location::Nowhere
-    } else {
-        place_at(command.path())
-    }
 }
 
 /// Where the bytes at a path are.
@@ -167,17 +172,18 @@ fn place_at(path: &str) -> Location
 }
 
 impl<W: Sink, E: Sink> Console<W, E> {
-    /// Does what a command says, over the file at its path.
+    /// Does what a command says, over the file at a path.
     fn run_file<Y: System>(
         &mut self,
         alloc: Global,
         system: &Y,
+        path: &str,
         command: &Command<'_>,
     ) -> Ended<RunSource<Y::File, Y::Stream>>
-        ensures { ReadsFile (Y.gives system.now) (run_left Y.File.seen Y.Stream.seen result.1) command.now
+        ensures { ReadsFile (Y.gives system.now) (run_left Y.File.seen Y.Stream.seen result.1) path.now command.now
             (outputs W.seen E.seen self.old) (outputs W.seen E.seen self.new) result.0 }
     {
-        match system.open(command.path()) {
+        match system.open(path) {
             Ok(file) => self.run_on_file(alloc, system, command, file),
             Err(error) => (self.err.stop_by(&error, "open failed"), RunSource::Nothing),
         }

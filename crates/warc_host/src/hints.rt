@@ -29,7 +29,7 @@ pub fn hint(
     if ended.status == Status::Refused {
         return match ended.packing {
             Some(packing) => hint_packing(rt, words, packing),
-            None => hint_pieces(rt, &request.command),
+            None => hint_pieces(rt, request),
         };
     }
     if ended.status == Status::Failed
@@ -43,13 +43,13 @@ pub fn hint(
 }
 
 /// Writes how to see what of a refused file is whole, unless that is what was asked for, or it has no path.
-fn hint_pieces(rt: &HostRuntime, command: &Command<'_>) -> io::Result<()> {
-    if let Command::Pieces { archive: _ } = command {
+fn hint_pieces(rt: &HostRuntime, request: &Request<'_>) -> io::Result<()> {
+    if let Command::Pieces = request.command {
         return Ok(());
     }
-    match command.path() {
-        "-" | "/dev/stdin" => Ok(()),
-        path => {
+    match request.path {
+        None | Some("-" | "/dev/stdin") => Ok(()),
+        Some(path) => {
             let path = Quoted(path);
             eprintln!(rt; "to see what is whole: warc pieces {path}")
         }
@@ -60,7 +60,7 @@ fn hint_pieces(rt: &HostRuntime, command: &Command<'_>) -> io::Result<()> {
 fn path_of<'a>(request: &Request<'a>, failure: Failure) -> &'a str {
     match request.command.list_path() {
         Some(list) if failure.of_list => list,
-        _ => request.command.path(),
+        _ => request.path.unwrap_or(""),
     }
 }
 

@@ -12,7 +12,9 @@ const PAYLOAD_DIGEST: &[u8] = b"WARC-Payload-Digest";
 /// Writes a line if there is more to say of what a run reported on standard error: the date of the earliest capture
 /// after `P2`, and that the digests differ after a body was given of another record than the chosen one.
 pub fn hint_answer(host: &Host<'_>, request: &Request<'_>, report: &[u8]) -> io::Result<()> {
-    let path = request.command.path();
+    let Some(path) = request.path else {
+        return Ok(());
+    };
     if report.starts_with(b"warc: P2 ") {
         return match (uri_of(host.rt, &request.command), reopened(host, path)) {
             (Some(uri), Some(file)) => hint_earliest(host, file, uri.as_slice()),
@@ -40,18 +42,14 @@ fn reopened<'a>(host: &Host<'a>, path: &str) -> Option<HostFile<'a>> {
 fn uri_of(rt: &HostRuntime, command: &Command<'_>) -> Option<Vec<u8>> {
     match command {
         Command::Replay {
-            archive: _,
             uri,
-            date: _,
             in_hex: true,
-            stored: _,
+            ..
         } => bytes_of(rt.alloc(), uri).ok(),
         Command::Replay {
-            archive: _,
             uri,
-            date: _,
             in_hex: false,
-            stored: _,
+            ..
         } => {
             let mut bytes = Vec::new(rt.alloc());
             bytes.extend_from_slice(uri.as_bytes()).ok()?;

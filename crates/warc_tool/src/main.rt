@@ -10,7 +10,7 @@ use files::Files;
 use std::cell::Cell;
 use std::io::{self, IsTerminal};
 use std::process::ExitCode;
-use warc_arguments::{Command, CommandFault, CommandLine, Request, Status};
+use warc_arguments::{CommandFault, CommandLine, Request, Status};
 use warc_commands::{Console, run};
 use warc_frame::Sink;
 use warc_host::{CountedSink, Ended, ErasingSink, Host, Progress, ShownSink, hint, words};
@@ -42,15 +42,16 @@ fn request_of<'a>(line: &io::Result<CommandLine<'a>>) -> Option<Request<'a>> {
 }
 
 /// Whether standard output is a file that the command reads.
-fn writes_over(host: &Host<'_>, command: &Command<'_>) -> bool {
-    if command.opens_nothing() {
-        return false;
-    }
-    let is_list = match command.list_path() {
-        Some(list) => host.is_output(list),
+fn writes_over(host: &Host<'_>, request: &Request<'_>) -> bool {
+    is_output(host, request.command.list_path()) || is_output(host, request.path)
+}
+
+/// Whether standard output is the file at a path, if there is one.
+fn is_output(host: &Host<'_>, path: Option<&str>) -> bool {
+    match path {
+        Some(path) => host.is_output(path),
         None => false,
-    };
-    is_list || host.is_output(command.path())
+    }
 }
 
 /// Does what a command line says, and returns how it ended. Nothing is read or written where the output is a file
@@ -62,7 +63,7 @@ fn status_of<'a, W: Sink, E: Sink>(
     console: &mut Console<W, E>,
 ) -> Status {
     if let Some(request) = request
-        && writes_over(&files.host, &request.command)
+        && writes_over(&files.host, request)
     {
         console.err.report(SAME_FILE);
         return Status::Failed;

@@ -12,8 +12,9 @@ pub fn hint_word(rt: &HostRuntime, request: &Request<'_>, report: &[u8]) -> io::
         return hint_date(rt, date_of(&request.command));
     }
     match request.command {
-        Command::Extract { archive: _, id } if report.starts_with(b"warc: E1 ") && are_digits(id) =>
-            { eprintln!(rt; "extract wants an id; block and head take a position") }
+        Command::Extract { id } if report.starts_with(b"warc: E1 ") && are_digits(id) => {
+            eprintln!(rt; "extract wants an id; block and head take a position")
+        }
         _ => Ok(()),
     }
 }

@@ -16,7 +16,7 @@ returns-in-Head-clause-runs g c = rw c.in-Head.is c.give.ensures
 pub returns-in-Block-clause-runs : goal.returns-in-Block-clause-runs
 returns-in-Block-clause-runs g c = rw c.in-Block.is c.give-in-Block.ensures
 
-pub returns-in-Salvage-default-false-clause-runs : goal.returns-in-Salvage-default-false-clause-runs
-returns-in-Salvage-default-false-clause-runs g c =
-    let no : c.in-Salvage-default-false.all ≡ false = search rules in
-    rw (c.in-Salvage-default-false.is, no) (record { ends = c.salvage.ensures.ends; kept = c.salvage.ensures.kept; reads = c.salvage.ensures.reads })
+pub returns-in-Salvage-false-clause-runs : goal.returns-in-Salvage-false-clause-runs
+returns-in-Salvage-false-clause-runs g c =
+    let no : c.in-Salvage-false.all ≡ false = search rules in
+    rw (c.in-Salvage-false.is, no) (record { ends = c.salvage.ensures.ends; kept = c.salvage.ensures.kept; reads = c.salvage.ensures.reads })
