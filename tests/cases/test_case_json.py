@@ -18,9 +18,14 @@ ID = "<urn:uuid:00000000-0000-4000-8000-%012d>"
 Text = Union[str, Dict[str, str]]
 
 
+def run(place: Place, command: str, data: bytes, *flags: str) -> "subprocess.CompletedProcess[bytes]":
+    """A run of a command over bytes."""
+    return subprocess.run([place.program, command, *flags, "-"], input=data, capture_output=True, check=False)
+
+
 def listed(place: Place, data: bytes, *flags: str) -> "subprocess.CompletedProcess[bytes]":
     """A run of `list` over bytes."""
-    return subprocess.run([place.program, "list", *flags, "-"], input=data, capture_output=True, check=False)
+    return run(place, "list", data, *flags)
 
 
 def text_of(value: Text) -> bytes:
@@ -52,6 +57,24 @@ def test_archive(number: int, place: Place) -> None:
     plain, lines = listed(place, SHORT[number]), listed(place, SHORT[number], "--json")
     assert (lines.returncode, lines.stderr) == (plain.returncode, plain.stderr)
     assert in_columns(lines.stdout) == plain.stdout
+
+
+def summary_lines(line: bytes) -> bytes:
+    """What `summary` writes without the flag, by its line of JSON."""
+    lines = []
+    for name, value in json.loads(line).items():
+        assert isinstance(value, int) != name.endswith("_date")
+        text = b"%d" % value if isinstance(value, int) else b"-" if value is None else text_of(value)
+        lines.append(name.replace("_", " ").encode() + b"\t" + text + b"\n")
+    return b"".join(lines)
+
+
+@pytest.mark.parametrize("number", range(len(SHORT)))
+def test_summary(number: int, place: Place) -> None:
+    plain, line = run(place, "summary", SHORT[number]), run(place, "summary", SHORT[number], "--json")
+    assert (line.returncode, line.stderr) == (plain.returncode, plain.stderr)
+    assert line.stdout.count(b"\n") == (plain.returncode == 0)
+    assert (summary_lines(line.stdout) if line.stdout else b"") == plain.stdout
 
 
 def record(number: int, target: bytes) -> bytes:

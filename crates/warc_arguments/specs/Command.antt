@@ -36,13 +36,14 @@ view_of (command.Explain number) = (codes "explain", number.now ∷ [])
 
 -- whether each of its flags is given, in order; `--quiet` and `--hints`, which every command has, aren't among them
 abbrev pub flags_of : Command → List Bool
-flags_of (command.List archive json) = json ∷ []
-flags_of (command.Replay archive uri date hex stored) = hex ∷ stored ∷ []
-flags_of (command.Body archive position stored) = stored ∷ []
-flags_of (command.Captures archive uri hex) = hex ∷ []
-flags_of (command.Select archive positions except closed) = except ∷ closed ∷ []
-flags_of (command.Fixity archive payload) = payload ∷ []
-flags_of (command.Salvage archive all) = all ∷ []
+flags_of (command.List json) = json ∷ []
+flags_of (command.Replay uri date hex stored) = hex ∷ stored ∷ []
+flags_of (command.Body position stored) = stored ∷ []
+flags_of (command.Captures uri hex) = hex ∷ []
+flags_of (command.Select positions except closed) = except ∷ closed ∷ []
+flags_of (command.Fixity payload) = payload ∷ []
+flags_of (command.Salvage all) = all ∷ []
+flags_of (command.Summary json) = json ∷ []
 flags_of _ = []
 
 -- what words ask for
@@ -56,27 +57,13 @@ pub record Asked : Type 0 where
 abbrev pub path_word : Request → Option Text
 path_word r = option_map (λ p. p.now) r.path
 
--- the path of the file that it reads; empty if it reads none
-abbrev pub path_word : Command → Text
-path_word (command.List archive json) = archive.now
-path_word (command.Check archive) = archive.now
-path_word (command.Extract archive id) = archive.now
-path_word (command.Replay archive uri date hex stored) = archive.now
-path_word (command.Body archive position stored) = archive.now
-path_word (command.Captures archive uri hex) = archive.now
-path_word (command.Rewrite archive) = archive.now
-path_word (command.Convert archive) = archive.now
-path_word (command.Split archive size) = archive.now
-path_word (command.Select archive positions except closed) = archive.now
-path_word (command.Write draft file) = file.now
-path_word (command.Head archive position) = archive.now
-path_word (command.Block archive position) = archive.now
-path_word (command.Fixity archive payload) = archive.now
-path_word (command.Pieces archive) = archive.now
-path_word (command.Salvage archive all) = archive.now
-path_word (command.Summary archive) = archive.now
-path_word (command.Survey archive) = archive.now
-path_word (command.Explain number) = []
+abbrev pub asked_by : Request → Asked
+asked_by r = record {
+  command = view_of (path_word r) r.command;
+  flags = flags_of r.command;
+  quiet = r.quiet;
+  hints = r.hints;
+}
 
 -- the path of the file that it reads before its archive, if it reads two
 abbrev pub list_word : Command → Option Text
@@ -85,10 +72,10 @@ list_word _ = None
 
 -- whether it can ask for each offset once, in order
 abbrev pub reads_once : Command → Bool
-reads_once (command.List archive json) = true
-reads_once (command.Check archive) = true
-reads_once (command.Fixity archive false) = true
-reads_once (command.Summary archive) = true
+reads_once (command.List json) = true
+reads_once command.Check = true
+reads_once (command.Fixity false) = true
+reads_once (command.Summary json) = true
 reads_once _ = false
 
 -- whether its output is bytes as they were captured

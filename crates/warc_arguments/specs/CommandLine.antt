@@ -83,6 +83,14 @@ salvage_layout = record {
   flags = codes "all" ∷ [];
 }
 
+abbrev pub summary_layout : Layout
+summary_layout = record {
+  name = codes "summary";
+  words = codes "archive" ∷ [];
+  optional = [];
+  flags = codes "json" ∷ [];
+}
+
 -- the words of `write` before the path of its file
 abbrev pub draft_words : List Text
 draft_words = codes "kind" ∷ codes "uri" ∷ codes "date" ∷ codes "uuid" ∷ codes "type" ∷ []
@@ -110,7 +118,7 @@ other_layouts =
     ∷ fixity_layout
     ∷ layout (codes "pieces") (codes "archive" ∷ [])
     ∷ salvage_layout
-    ∷ layout (codes "summary") (codes "archive" ∷ [])
+    ∷ summary_layout
     ∷ layout (codes "survey") (codes "archive" ∷ [])
     ∷ layout (codes "explain") (codes "number" ∷ [])
     ∷ []

@@ -70,7 +70,7 @@ pub enum Command<'a> {
     },
     /// What the archive holds, in numbers and dates: in lines of columns or in one of JSON.
     Summary {
-        archive: &'a str,
+        json: bool,
     },
     /// What `list`, `fixity`, `check`, `summary` and `captures` give, in this order.
     Survey,
@@ -96,61 +96,6 @@ pub struct Draft<'a> {
 }
 
 impl<'a> Command<'a> {
-    /// The path of the file that the command reads; empty if it reads none.
-    pub fn path(&self) -> &'a str
-        ensures { result.now ≡ path_word self.now }
-    {
-        match self {
-            Command::List { archive, json: _ } => archive,
-            Command::Check { archive } => archive,
-            Command::Extract { archive, id: _ } => archive,
-            Command::Replay {
-                archive,
-                uri: _,
-                date: _,
-                in_hex: _,
-                stored: _,
-            } => archive,
-            Command::Body {
-                archive,
-                position: _,
-                stored: _,
-            } => archive,
-            Command::Captures {
-                archive,
-                uri: _,
-                in_hex: _,
-            } => archive,
-            Command::Rewrite { archive } => archive,
-            Command::Convert { archive } => archive,
-            Command::Split { archive, size: _ } => archive,
-            Command::Select {
-                archive,
-                positions: _,
-                except: _,
-                closed: _,
-            } => archive,
-            Command::Write { draft: _, file } => file,
-            Command::Head {
-                archive,
-                position: _,
-            } => archive,
-            Command::Block {
-                archive,
-                position: _,
-            } => archive,
-            Command::Fixity {
-                archive,
-                payload: _,
-            } => archive,
-            Command::Pieces { archive } => archive,
-            Command::Salvage { archive, all: _ } => archive,
-            Command::Summary { archive } => archive,
-            Command::Survey { archive } => archive,
-            Command::Explain { number: _ } => "",
-        }
-    }
-
     /// The path of the file that the command reads before its archive, if it reads two.
     pub fn list_path(&self) -> Option<&'a str>
         ensures { option_map (λ t. t.now) result ≡ list_word self.now }
@@ -166,16 +111,10 @@ impl<'a> Command<'a> {
         ensures { result ≡ reads_once self.now }
     {
         match self {
-            Command::List {
-                archive: _,
-                json: _,
-            }
-            | Command::Check { archive: _ }
-            | Command::Fixity {
-                archive: _,
-                payload: false,
-            }
-            | Command::Summary { archive: _ } => true,
+            Command::List { .. }
+            | Command::Check
+            | Command::Fixity { payload: false }
+            | Command::Summary { .. } => true,
             _ => false,
         }
     }

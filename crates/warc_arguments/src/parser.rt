@@ -247,8 +247,10 @@ fn read_command<'a>(name: &str, texts: &ArgMatches<'a>) -> Command<'a>
         "salvage" => Command::Salvage {
             all: is_given(texts, "all"),
         },
-        "summary" => Command::Summary { archive },
-        "survey" => Command::Survey { archive },
+        "summary" => Command::Summary {
+            json: is_given(texts, "json"),
+        },
+        "survey" => Command::Survey,
         "explain" => Command::Explain {
             number: text_at(texts, "number"),
         },

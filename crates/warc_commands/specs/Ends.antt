@@ -27,10 +27,10 @@ use Rattle.warc_arguments.specs.declared.command.Command.TheVariants as command
 
 -- how a run of the command ends, by the list that it reads beside its source, if it reads one
 abbrev pub Ends : Command → List ℕ → Devices → Devices → Status → Type 0
-Ends (command.List archive json) list = ListEnds json
-Ends (command.Check archive) list = CheckEnds
-Ends (command.Extract archive id) list = ExtractEnds id.now
-Ends (command.Replay archive uri date hex stored) list =
+Ends (command.List json) list = ListEnds json
+Ends command.Check list = CheckEnds
+Ends (command.Extract id) list = ExtractEnds id.now
+Ends (command.Replay uri date hex stored) list =
     UriEnds (ReplayedAs stored date.now) hex (uri_named hex uri.now)
 Ends (command.Body position stored) list = GivenAs stored (position_of position.now)
 Ends (command.Captures uri hex) list =
@@ -40,16 +40,16 @@ Ends command.Convert list = WriteEnds (texts_as Converted)
 Ends (command.Split size) list = SplitEnds (size_of size.now)
 Ends (command.Select positions except closed) list =
     SelectedAs closed except (bad_line list) (positions_in list)
-Ends (command.Write draft file) list = MakeEnds draft
-Ends (command.Head archive position) list = PartEnds Head (position_of position.now)
-Ends (command.Block archive position) list = PartEnds Block (position_of position.now)
-Ends (command.Fixity archive false) list = FixityEnds
-Ends (command.Fixity archive true) list = PayloadsEnd
-Ends (command.Pieces archive) list = PiecesEnd
-Ends (command.Salvage archive false) list = SalvageEnds
-Ends (command.Salvage archive true) list = SalvageAllEnds
-Ends (command.Summary archive) list = SummaryEnds
-Ends (command.Survey archive) list = SurveyEnds
+Ends (command.Write draft) list = MakeEnds draft
+Ends (command.Head position) list = PartEnds Head (position_of position.now)
+Ends (command.Block position) list = PartEnds Block (position_of position.now)
+Ends (command.Fixity false) list = FixityEnds
+Ends (command.Fixity true) list = PayloadsEnd
+Ends command.Pieces list = PiecesEnd
+Ends (command.Salvage false) list = SalvageEnds
+Ends (command.Salvage true) list = SalvageAllEnds
+Ends (command.Summary json) list = SummaryEnds json
+Ends command.Survey list = SurveyEnds
 Ends (command.Explain number) list = ExplainEnds (explained number.now)
 
 -- the exit statuses of a command that finds nothing by itself
@@ -62,25 +62,25 @@ MayFind status = (status ≡ Done) ⊎ ((status ≡ Found) ⊎ ((status ≡ Refu
 
 -- the exit statuses of a command
 abbrev pub IsStatusOf : Command → Status → Type 0
-IsStatusOf (command.List archive json) status = MayRefuse status
-IsStatusOf (command.Check archive) status = MayFind status
-IsStatusOf (command.Extract archive id) status = MayFind status
-IsStatusOf (command.Replay archive uri date hex stored) status = MayFind status
-IsStatusOf (command.Body archive position stored) status = MayFind status
-IsStatusOf (command.Captures archive uri hex) status = MayFind status
-IsStatusOf (command.Rewrite archive) status = MayRefuse status
-IsStatusOf (command.Convert archive) status = MayRefuse status
-IsStatusOf (command.Split archive size) status = MayRefuse status
-IsStatusOf (command.Select archive positions except closed) status = MayFind status
-IsStatusOf (command.Write draft file) status = (status ≡ Done) ⊎ (status ≡ Failed)
-IsStatusOf (command.Head archive position) status = MayFind status
-IsStatusOf (command.Block archive position) status = MayFind status
-IsStatusOf (command.Fixity archive payload) status =
+IsStatusOf (command.List json) status = MayRefuse status
+IsStatusOf command.Check status = MayFind status
+IsStatusOf (command.Extract id) status = MayFind status
+IsStatusOf (command.Replay uri date hex stored) status = MayFind status
+IsStatusOf (command.Body position stored) status = MayFind status
+IsStatusOf (command.Captures uri hex) status = MayFind status
+IsStatusOf command.Rewrite status = MayRefuse status
+IsStatusOf command.Convert status = MayRefuse status
+IsStatusOf (command.Split size) status = MayRefuse status
+IsStatusOf (command.Select positions except closed) status = MayFind status
+IsStatusOf (command.Write draft) status = (status ≡ Done) ⊎ (status ≡ Failed)
+IsStatusOf (command.Head position) status = MayFind status
+IsStatusOf (command.Block position) status = MayFind status
+IsStatusOf (command.Fixity payload) status =
     (status ≡ Done) ⊎ ((status ≡ Found) ⊎ ((status ≡ Refused) ⊎ ((status ≡ Failed) ⊎ (status ≡ Unchecked))))
-IsStatusOf (command.Pieces archive) status = MayRefuse status
-IsStatusOf (command.Salvage archive all) status = MayRefuse status
-IsStatusOf (command.Summary archive) status = MayRefuse status
-IsStatusOf (command.Survey archive) status = MayRefuse status
+IsStatusOf command.Pieces status = MayRefuse status
+IsStatusOf (command.Salvage all) status = MayRefuse status
+IsStatusOf (command.Summary json) status = MayRefuse status
+IsStatusOf command.Survey status = MayRefuse status
 IsStatusOf (command.Explain number) status = (status ≡ Done) ⊎ (status ≡ Failed)
 
 -- whether a command writes of an archive that it refuses: `pieces` and `salvage` alone do

@@ -73,9 +73,9 @@ impl<W: Sink, E: Sink> Console<W, E> {
         ensures can_refuse { IfErr result (λ it. IsStatusOf command.now (status_of_kind it.0.kind)) }
     {
         match command {
-            Command::List { archive: _, json } => self.list(alloc, *json, source),
-            Command::Check { archive: _ } => self.check(alloc, source),
-            Command::Extract { archive: _, id } => self.extract(alloc, id, source),
+            Command::List { json } => self.list(alloc, *json, source),
+            Command::Check => self.check(alloc, source),
+            Command::Extract { id } => self.extract(alloc, id, source),
             Command::Replay {
                 uri,
                 date,
@@ -110,34 +110,16 @@ impl<W: Sink, E: Sink> Console<W, E> {
                 };
                 self.select(alloc, of, source)
             }
-            Command::Write { draft, file: _ } => Ok(self.write(alloc, draft, source)),
-            Command::Head {
-                archive: _,
-                position,
-            } => self.give(alloc, Part::Head, position, source),
-            Command::Block {
-                archive: _,
-                position,
-            } => self.give(alloc, Part::Block, position, source),
-            Command::Fixity {
-                archive: _,
-                payload: false,
-            } => self.fixity(alloc, source),
-            Command::Fixity {
-                archive: _,
-                payload: true,
-            } => self.payloads(alloc, source),
-            Command::Pieces { archive: _ } => self.pieces(alloc, source),
-            Command::Salvage {
-                archive: _,
-                all: false,
-            } => Ok(self.salvage(alloc, source)),
-            Command::Salvage {
-                archive: _,
-                all: true,
-            } => self.salvage_all(alloc, source),
-            Command::Summary { archive: _ } => self.summary(alloc, source),
-            Command::Survey { archive: _ } => self.survey(alloc, source),
+            Command::Write { draft } => Ok(self.write(alloc, draft, source)),
+            Command::Head { position } => self.give(alloc, Part::Head, position, source),
+            Command::Block { position } => self.give(alloc, Part::Block, position, source),
+            Command::Fixity { payload: false } => self.fixity(alloc, source),
+            Command::Fixity { payload: true } => self.payloads(alloc, source),
+            Command::Pieces => self.pieces(alloc, source),
+            Command::Salvage { all: false } => Ok(self.salvage(alloc, source)),
+            Command::Salvage { all: true } => self.salvage_all(alloc, source),
+            Command::Summary { json } => self.summary(alloc, *json, source),
+            Command::Survey => self.survey(alloc, source),
             Command::Explain { number } => Ok(self.explain(number, source)),
         }
     }

@@ -3,8 +3,9 @@ use Rattle.std.proofs.Common.{◌≡◌, ℕ, List, ◌++◌, append_assoc, Resu
 use Rattle.std.proofs.lemmas.Result.{IfErr-weaker, on_ok_weaker}
 use Rattle.warc_frame.specs.Count.{raised}
 use Rattle.warc_frame.specs.Device.{Staged}
-use Rattle.warc_frame.specs.Effects.{Puts}
+use Rattle.warc_frame.specs.Effects.{Puts, SendsText}
 use Rattle.warc_frame.specs.Seen.{Seen}
+use Rattle.warc_frame.specs.declared.fault.OutFault.{OutFault}
 use Rattle.warc_frame.specs.declared.send.SendFault.{SendFault}
 use Rattle.warc_frame.proofs.LawLemmas.{longer, same_out, same_staged}
 
@@ -32,3 +33,6 @@ puts_next {X} {Y} {old} {mid} {new} {waits} {between} {waiting} {x} {answer} a b
 pub puts_same : {X : Type 0} {old new : Seen} {waits waiting : Staged} {answer : Result X SendFault} {a b : List ℕ} → a ≡ b → Puts old new waits waiting answer a
     → Puts old new waits waiting answer b
 puts_same {X} {old} {new} {waits} {waiting} {answer} same puts = let P : List ℕ → Type 0 = λ l. Puts old new waits waiting answer l in subst P same puts
+
+pub sends_same : {X : Type 0} {old new : Seen} {answer : Result X OutFault} {a b : List ℕ} → a ≡ b → SendsText old new answer a → SendsText old new answer b
+sends_same {X} {old} {new} {answer} same sends = let P : List ℕ → Type 0 = λ l. SendsText old new answer l in subst P same sends

@@ -1,3 +1,4 @@
 pub mod Objects
 pub mod Parts
 pub mod Rows
+pub mod Summaries

@@ -5,6 +5,8 @@ pub mod laws;
 mod objects;
 mod rows;
 mod strings;
+mod summary;
 
-pub use objects::{Value, put_object};
+pub use objects::{Value, put_object, send_object};
 pub use rows::list_rows;
+pub use summary::write_summary;

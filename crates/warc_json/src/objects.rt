@@ -1,12 +1,12 @@
 //! Objects, a line each.
 ghost use Rattle.std.specs.Prelude.{◌≡◌, map};
-ghost use Rattle.warc_frame.specs.Effects.{Puts};
+ghost use Rattle.warc_frame.specs.Effects.{Puts, SendsText};
 ghost use Rattle.warc_json.specs.Objects.{member_seen, object_line, value_seen};
 ghost use Rattle.warc_json.specs.Parts.{comma_if, member_text, members_text, value_text};
 
 use crate::strings::{put_quoted, put_text};
 use itoa::Buffer;
-use warc_frame::{OutBuffer, SendFault, Sink};
+use warc_frame::{OutBuffer, OutFault, SendFault, Sink};
 
 /// The value of a member.
 #[derive(Clone, Copy, Debug)]
@@ -88,4 +88,14 @@ pub fn put_object<W: Sink>(
     buffer.put(out, b"{")?;
     put_members(members, buffer, out)?;
     buffer.put(out, b"}\n")
+}
+
+/// Writes the line of one object. It takes no memory.
+pub fn send_object<W: Sink>(members: &[(&str, Value<'_>)], out: &mut W) -> Result<(), OutFault>
+    ensures { SendsText (W.seen out.old) (W.seen out.new) result (object_line (map member_seen members.now)) }
+{
+    let mut buffer = OutBuffer::new();
+    put_object(members, &mut buffer, out)?;
+    buffer.flush(out)?;
+    Ok(())
 }

@@ -51,10 +51,7 @@ pub fn hint_empty(
     is_unread: bool,
 ) -> io::Result<()> {
     match command {
-        Command::List {
-            archive: _,
-            json: _,
-        } if status == Status::Done && is_unread => {
+        Command::List { .. } if status == Status::Done && is_unread => {
             eprintln!(rt; "the file is empty: an archive of no records")
         }
         _ => Ok(()),
