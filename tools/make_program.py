@@ -20,6 +20,7 @@ from dataclasses import dataclass
 from shared import TOP, matched, read
 
 sys.path.insert(0, f"{TOP}/tests/cases")
+from cases_commands import ALONE
 from cases_script import CASES, Case
 
 WORDS = "crates/warc_arguments/src/help.rt"
@@ -190,7 +191,7 @@ def line_of(case: Case) -> str:
     elif name == "write":
         front = f"printf {case.archive.decode()} | "
         words = [*words, "/dev/stdin"]
-    elif name != "explain":
+    elif name.encode() not in ALONE:
         front = f"cat {' '.join(case.files)} | " if len(case.files) > 1 else ""
         words = [*(case.files if len(case.files) == 1 else ["-"]), *words]
     return front + shlex.join(["warc", name, *words])

@@ -13,10 +13,12 @@ ARCHIVE, POSITIONS, STDIN = b"a.warc", b"positions.txt", b"-"
 ODD_NAMES = (b"-a", b"--all", b"--payload")
 COMMANDS = frozenset(
     b"list check extract replay body captures rewrite convert split head block fixity pieces salvage summary survey "
-    b"explain select write".split()
+    b"explain instant select write".split()
 )
 # What may come before the words of a command.
 BEFORE = frozenset((b"length", b"whole"))
+# The commands that take no archive.
+ALONE = frozenset((b"explain", b"instant"))
 LINES = frozenset((b"run", b"refused", b"help"))
 # The command that a case asks about each front of its archive, beside the second reading.
 FRONTS: Dict[bytes, str] = {b"each-front-opens": "list", b"each-front-salvages": "salvage"}
@@ -75,7 +77,7 @@ def line_of(case: Case, archive: bytes) -> List[bytes]:
         rest.append(archive)
     elif case.verb == b"select":
         rest = [archive, POSITIONS, *rest]
-    elif case.verb != b"explain":
+    elif case.verb not in ALONE:
         rest = [archive, *rest]
     return [case.verb, *options, b"--", *rest]
 
@@ -92,7 +94,7 @@ def command_answers(place: Place, case: Case, length: bool) -> Iterator[bytes]:
     if case.given is not None and case.verb not in (b"select", b"write"):
         raise ScriptError(f"{case.id}: nothing reads the given text")
     yield said(run(place, line_of(case, ARCHIVE)), case.archive, length)
-    if case.verb != b"explain":
+    if case.verb not in ALONE:
         yield said(run(place, line_of(case, STDIN), case.archive), case.archive, length)
 
 

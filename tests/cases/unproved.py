@@ -17,10 +17,10 @@ import tempfile
 from concurrent.futures import ThreadPoolExecutor
 from typing import Dict, List, NamedTuple
 
-from cases_commands import COMMANDS
+from cases_commands import ALONE, COMMANDS
 from cases_script import CASES, TOP, Case
 
-LEFT_OUT = (b"select", b"write", b"explain")
+LEFT_OUT = (b"select", b"write", *ALONE)
 ENDED = re.compile(r"^case=(\d+) run=(\w[\w-]*)(?: status=(\d+))?(.*)$", re.MULTILINE)
 # What a case wants is the output, then the message, if there is one, and the status.
 WANTED = re.compile(rb"(.*?)(?:! .*)?= (\d+)\n", re.DOTALL)

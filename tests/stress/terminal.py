@@ -489,7 +489,7 @@ def many_archives(stress: Stress) -> None:
 def help_texts(stress: Stress) -> None:
     """Each line of help fits into 78 columns."""
     stress.begin("help")
-    for command in [(), *sorted({command[:1] for command in COMMANDS}), ("explain",)]:
+    for command in [(), *sorted({command[:1] for command in COMMANDS}), ("explain",), ("instant",)]:
         seen = stress.run([*command, "--help"])
         widest = max(map(len, seen.out.decode().splitlines()))
         stress.judge(seen.status == 0 and widest <= 78, (*command, "--help", "%d columns" % widest), seen)

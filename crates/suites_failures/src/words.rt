@@ -56,6 +56,7 @@ pub(crate) fn is_command(word: &str) -> bool {
             | "head"
             | "block"
             | "explain"
+            | "instant"
             | "body"
             | "select"
             | "captures"
@@ -89,7 +90,7 @@ fn add_words(
 /// Adds the paths that come before the other words of a command.
 fn add_paths(alloc: Global, line: &mut Vec<String>, command: &str) -> Result<(), AllocError> {
     match command {
-        "write" | "explain" => Ok(()),
+        "write" | "explain" | "instant" => Ok(()),
         "select" => {
             add(alloc, line, PATH)?;
             add(alloc, line, LIST)

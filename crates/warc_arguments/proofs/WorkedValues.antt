@@ -111,3 +111,13 @@ json_names = refl
 list_names : asked_of (codes "warc" ∷ codes "list" ∷ codes "a.warc" ∷ []) ≡ Some (record { command = (codes "list", codes "a.warc" ∷ []); flags = false ∷ []; quiet = false; hints = false })
 unfolding clap_on_literals
 list_names = refl
+
+-- warc summary a.warc --json
+summary_names : asked_of (codes "warc" ∷ codes "summary" ∷ codes "a.warc" ∷ codes "--json" ∷ []) ≡ Some (record { command = (codes "summary", codes "a.warc" ∷ []); flags = true ∷ []; quiet = false; hints = false })
+unfolding clap_on_literals
+summary_names = refl
+
+-- warc instant 2021
+instant_names : asked_of (codes "warc" ∷ codes "instant" ∷ codes "2021" ∷ []) ≡ plainly (codes "instant") (codes "2021" ∷ [])
+unfolding clap_on_literals
+instant_names = refl

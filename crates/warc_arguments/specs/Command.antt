@@ -11,28 +11,31 @@ use Rattle.warc_arguments.specs.declared.command.Request.{Request}
 abbrev pub draft_texts : Draft → List Text
 draft_texts d = d.kind.now ∷ d.uri.now ∷ d.date.now ∷ d.uuid.now ∷ d.content_type.now ∷ []
 
--- its name, and the texts in order of the words that are given
-abbrev pub view_of : Command → Text × List Text
-view_of (command.List archive json) = (codes "list", archive.now ∷ [])
-view_of (command.Check archive) = (codes "check", archive.now ∷ [])
-view_of (command.Extract archive id) = (codes "extract", archive.now ∷ id.now ∷ [])
-view_of (command.Replay archive uri date hex stored) = (codes "replay", archive.now ∷ uri.now ∷ date.now ∷ [])
-view_of (command.Body archive position stored) = (codes "body", archive.now ∷ position.now ∷ [])
-view_of (command.Captures archive uri hex) =
-    (codes "captures", archive.now ∷ option_to_list (option_map (λ u. u.now) uri))
-view_of (command.Rewrite archive) = (codes "rewrite", archive.now ∷ [])
-view_of (command.Convert archive) = (codes "convert", archive.now ∷ [])
-view_of (command.Split archive size) = (codes "split", archive.now ∷ size.now ∷ [])
-view_of (command.Select archive positions except closed) = (codes "select", archive.now ∷ positions.now ∷ [])
-view_of (command.Write draft file) = (codes "write", draft_texts draft ++ file.now ∷ [])
-view_of (command.Head archive position) = (codes "head", archive.now ∷ position.now ∷ [])
-view_of (command.Block archive position) = (codes "block", archive.now ∷ position.now ∷ [])
-view_of (command.Fixity archive payload) = (codes "fixity", archive.now ∷ [])
-view_of (command.Pieces archive) = (codes "pieces", archive.now ∷ [])
-view_of (command.Salvage archive all) = (codes "salvage", archive.now ∷ [])
-view_of (command.Summary archive) = (codes "summary", archive.now ∷ [])
-view_of (command.Survey archive) = (codes "survey", archive.now ∷ [])
-view_of (command.Explain number) = (codes "explain", number.now ∷ [])
+-- its name, and the texts in order of the words that are given, by the path of its file, if it reads one
+abbrev pub view_of : Option Text → Command → Text × List Text
+view_of path (command.List json) = (codes "list", option_to_list path)
+view_of path command.Check = (codes "check", option_to_list path)
+view_of path (command.Extract id) = (codes "extract", option_to_list path ++ id.now ∷ [])
+view_of path (command.Replay uri date hex stored) =
+    (codes "replay", option_to_list path ++ uri.now ∷ date.now ∷ [])
+view_of path (command.Body position stored) = (codes "body", option_to_list path ++ position.now ∷ [])
+view_of path (command.Captures uri hex) =
+    (codes "captures", option_to_list path ++ option_to_list (option_map (λ u. u.now) uri))
+view_of path command.Rewrite = (codes "rewrite", option_to_list path)
+view_of path command.Convert = (codes "convert", option_to_list path)
+view_of path (command.Split size) = (codes "split", option_to_list path ++ size.now ∷ [])
+view_of path (command.Select positions except closed) =
+    (codes "select", option_to_list path ++ positions.now ∷ [])
+view_of path (command.Write draft) = (codes "write", draft_texts draft ++ option_to_list path)
+view_of path (command.Head position) = (codes "head", option_to_list path ++ position.now ∷ [])
+view_of path (command.Block position) = (codes "block", option_to_list path ++ position.now ∷ [])
+view_of path (command.Fixity payload) = (codes "fixity", option_to_list path)
+view_of path command.Pieces = (codes "pieces", option_to_list path)
+view_of path (command.Salvage all) = (codes "salvage", option_to_list path)
+view_of path (command.Summary json) = (codes "summary", option_to_list path)
+view_of path command.Survey = (codes "survey", option_to_list path)
+view_of path (command.Explain number) = (codes "explain", option_to_list path ++ number.now ∷ [])
+view_of path (command.Instant date) = (codes "instant", option_to_list path ++ date.now ∷ [])
 
 -- whether each of its flags is given, in order; `--quiet` and `--hints`, which every command has, aren't among them
 abbrev pub flags_of : Command → List Bool

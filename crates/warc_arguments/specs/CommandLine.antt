@@ -121,6 +121,7 @@ other_layouts =
     ∷ summary_layout
     ∷ layout (codes "survey") (codes "archive" ∷ [])
     ∷ layout (codes "explain") (codes "number" ∷ [])
+    ∷ layout (codes "instant") (codes "date" ∷ [])
     ∷ []
 
 abbrev pub layouts : List Layout
@@ -186,6 +187,11 @@ abbrev pub named : Text → List Row → Text × List Text
 named name rows =
     let l = layout_of name in
     (l.name, map (text_of rows) l.words ++ filter_map (λ word. first_of word rows) l.optional)
+
+-- the path of the file that the command of a name reads, if it reads one
+abbrev pub path_in : Text → List Row → Option Text
+path_in name rows = if bytes_eq name (codes "explain") || bytes_eq name (codes "instant") then None
+    else Some (text_of rows (if bytes_eq name (codes "write") then codes "file" else codes "archive"))
 
 -- whether each of its flags is given
 abbrev pub flags_in : Text → List Row → List Bool

@@ -78,6 +78,10 @@ pub enum Command<'a> {
     Explain {
         number: &'a str,
     },
+    /// The instant of a date in full.
+    Instant {
+        date: &'a str,
+    },
 }
 
 /// What `write` makes a record of, beside its block.

@@ -276,7 +276,9 @@ many records there are of each type (warcinfo, response, resource, request,
 metadata, revisit, conversion, continuation, other), captures (responses,
 resources and revisits), how many blocks are good, bad and unchecked by their
 digests, how many records are marked as truncated and are segments, and the
-first and the last date as written, by instant; '-' if there is none.
+first and the last date as written, by instant; '-' if there is none. With
+--json they are members of one object, the dates as first_date and last_date,
+each of which is null if there is none.
 
 Exit status: 0 written; 2 the archive is refused, and nothing was written;
 3 see 'warc --help'. There is no status 1.
@@ -306,6 +308,16 @@ Exit status: 0 written; 3 the number isn't one of these, or see 'warc --help'.
 There is no status 1 or 2.
 
 Example: warc explain F10";
+
+const INSTANT_NOTES: &str =
+    "The instant is the first one of the date, to the nanosecond, as the third
+column of 'warc captures' has it. 'warc explain date' prints the forms of a
+date. Nothing is opened.
+
+Exit status: 0 written; 3 the date isn't one, or see 'warc --help'. There is
+no status 1 or 2.
+
+Example: warc instant 2021-06";
 
 pub(crate) const ARCHIVE: Word = Word {
     name: "archive",
@@ -581,6 +593,14 @@ pub(crate) const OTHER_COMMANDS: [CommandEntry; 14] = [
         about: "Prints what a number means, as F10 or P4, and what to do",
         notes: EXPLAIN_NOTES,
         words: &[NUMBER],
+        optional: &[],
+        flags: &[],
+    },
+    CommandEntry {
+        name: "instant",
+        about: "Prints the instant of a date, to the nanosecond",
+        notes: INSTANT_NOTES,
+        words: &[ANY_DATE],
         optional: &[],
         flags: &[],
     },

@@ -195,6 +195,17 @@ fn read_draft<'a>(texts: &ArgMatches<'a>) -> Draft<'a>
     }
 }
 
+/// The path of the file that the command of a name reads, if it reads one.
+fn read_path<'a>(name: &str, texts: &ArgMatches<'a>) -> Option<&'a str>
+    ensures { option_map (λ t. t.now) result ≡ path_in name.now (rows_of (found_of texts.now)) }
+{
+    match name {
+        "explain" | "instant" => None,
+        "write" => Some(text_at(texts, "file")),
+        _ => Some(text_at(texts, "archive")),
+    }
+}
+
 /// What the command of a name is asked to do. `clap` meets no command but the program's own, so one of them,
 /// `list`, needs no test.
 fn read_command<'a>(name: &str, texts: &ArgMatches<'a>) -> Command<'a>
@@ -253,6 +264,9 @@ fn read_command<'a>(name: &str, texts: &ArgMatches<'a>) -> Command<'a>
         "survey" => Command::Survey,
         "explain" => Command::Explain {
             number: text_at(texts, "number"),
+        },
+        "instant" => Command::Instant {
+            date: text_at(texts, "date"),
         },
         _ => Command::List {
             json: is_given(texts, "json"),

@@ -1,3 +1,4 @@
+mod InstantLemmas
 pub mod ListLemmas
 pub mod MakingLemmas
 pub mod ProgramLemmas

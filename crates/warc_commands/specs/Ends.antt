@@ -1,5 +1,6 @@
 -- How each command ends, and its exit statuses.
 use Rattle.std.specs.Prelude.{◌≡◌, ℕ, ◌⊎◌, Bool, true, false, List, option_map}
+use Rattle.warc_value.specs.Dates.{instant_of}
 use Rattle.warc_rewrite.specs.Forms.{texts_as}
 use Rattle.warc_rewrite.specs.declared.forms.Form.TheVariants.{Canonical, Converted}
 use Rattle.warc_replay.specs.declared.record.part.Part.TheVariants.{Head, Block}
@@ -11,6 +12,7 @@ use Rattle.warc_commands.specs.Devices.{Devices}
 use Rattle.warc_commands.specs.Closed.{SelectedAs}
 use Rattle.warc_commands.specs.Explaining.{ExplainEnds}
 use Rattle.warc_commands.specs.Fixity.{FixityEnds}
+use Rattle.warc_commands.specs.Instants.{InstantEnds}
 use Rattle.warc_commands.specs.Parts.{PartEnds, position_of}
 use Rattle.warc_commands.specs.Payloads.{PayloadsEnd}
 use Rattle.warc_commands.specs.Program.{CheckEnds, ExtractEnds, ListEnds, MakeEnds, SplitEnds, WriteEnds, size_of}
@@ -51,6 +53,7 @@ Ends (command.Salvage true) list = SalvageAllEnds
 Ends (command.Summary json) list = SummaryEnds json
 Ends command.Survey list = SurveyEnds
 Ends (command.Explain number) list = ExplainEnds (explained number.now)
+Ends (command.Instant date) list = InstantEnds date.now (instant_of date.now)
 
 -- the exit statuses of a command that finds nothing by itself
 abbrev pub MayRefuse : Status → Type 0
@@ -82,6 +85,7 @@ IsStatusOf (command.Salvage all) status = MayRefuse status
 IsStatusOf (command.Summary json) status = MayRefuse status
 IsStatusOf command.Survey status = MayRefuse status
 IsStatusOf (command.Explain number) status = (status ≡ Done) ⊎ (status ≡ Failed)
+IsStatusOf (command.Instant date) status = (status ≡ Done) ⊎ (status ≡ Failed)
 
 -- whether a command writes of an archive that it refuses: `pieces` and `salvage` alone do
 abbrev pub writes_front : Command → Bool

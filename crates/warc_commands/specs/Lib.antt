@@ -5,6 +5,7 @@ pub mod Closed
 pub mod Devices
 pub mod Ends
 pub mod Explaining
+pub mod Instants
 pub mod Fixity
 pub mod Named
 pub mod Parts

@@ -61,3 +61,4 @@ CommandReads command.Pieces = AsksNear
 CommandReads (command.Salvage false) = ReadsTimes 2
 CommandReads (command.Salvage true) = AsksNear
 CommandReads (command.Explain number) = λ old new. new ≡ old
+CommandReads (command.Instant date) = λ old new. new ≡ old

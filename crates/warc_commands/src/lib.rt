@@ -8,6 +8,7 @@ mod console;
 mod explain;
 mod extract;
 mod fixity;
+mod instant;
 mod lists;
 mod parts;
 mod payloads;

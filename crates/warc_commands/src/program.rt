@@ -18,7 +18,7 @@ use warc_arguments::{Command, CommandFault, Status};
 use warc_frame::{OutFault, Sink, Source};
 
 /// Does what a command says, and returns how the run ended, and the source. A date, a size, a position and a list are
-/// judged before the source is read, and a number is explained without it.
+/// judged before the source is read; a number is explained, and an instant printed, without it.
 ///
 /// `listed` holds the bytes of the list that a command reads beside its source (`Command::list_path`).
 ///
@@ -121,6 +121,7 @@ impl<W: Sink, E: Sink> Console<W, E> {
             Command::Summary { json } => self.summary(alloc, *json, source),
             Command::Survey => self.survey(alloc, source),
             Command::Explain { number } => Ok(self.explain(number, source)),
+            Command::Instant { date } => Ok(self.instant(date, source)),
         }
     }
 

@@ -61,14 +61,9 @@ pub fn hint_empty(
 /// The date that a command names; empty if it names none.
 fn date_of<'a>(command: &Command<'a>) -> &'a str {
     match command {
-        Command::Replay {
-            archive: _,
-            uri: _,
-            date,
-            in_hex: _,
-            stored: _,
-        } => date,
-        Command::Write { draft, file: _ } => draft.date,
+        Command::Replay { date, .. } => date,
+        Command::Write { draft } => draft.date,
+        Command::Instant { date } => date,
         _ => "",
     }
 }
