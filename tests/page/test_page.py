@@ -109,7 +109,8 @@ class Tests:
         browser.give_file("#file", *archive)
         is_empty = "(room.end === 0 && (room.fault || room.damage))"
         browser.until(f"room.listed && (!room.holds || room.findings !== null || {is_empty})", 600)
-        browser.until("room.counts.judged === room.rows.count", 600)
+        # What is still to be drawn makes the list anew.
+        browser.until("room.counts.judged === room.rows.count && !drawing", 600)
         return browser
 
 
