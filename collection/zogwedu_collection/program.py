@@ -12,7 +12,6 @@ from typing import List, Optional
 from .limits import Limits
 from .texts import Trouble, counted, shown
 
-ANY_UUID = "00000000-0000-4000-8000-000000000000"
 MOST_SECONDS = 60
 
 
@@ -84,18 +83,20 @@ def check_program(settings: Settings) -> None:
 
 
 def instant_of(warc: str, date: str) -> str:
-    """The instant of a date in one of the program's forms, by the program: it writes a record and reads it."""
-    if date.startswith("-") or "\0" in date:
-        raise BadDate("bad date")
-    words = [warc, "write", "resource", "urn:x:x", "--", date, ANY_UUID, "text/plain", "-"]
+    """The instant of a date in one of the program's forms, by the program."""
+    words = [warc, "instant", "--", date]
     try:
-        made = subprocess.run(words, stdin=subprocess.DEVNULL, capture_output=True, check=False)
-        read = subprocess.run([warc, "captures", "-"], input=made.stdout, capture_output=True, check=False)
+        done = subprocess.run(words, stdin=subprocess.DEVNULL, capture_output=True, timeout=MOST_SECONDS, check=False)
+    except ValueError:  # no word can be this text
+        raise BadDate("bad date") from None
+    except subprocess.TimeoutExpired:
+        raise Trouble("%s instant takes too long" % shown(warc)) from None
     except OSError as error:
         raise Trouble("%s doesn't run: %s" % (shown(warc), error.strerror)) from None
-    if made.returncode != 0 or read.returncode != 0:
-        raise BadDate("bad date")
-    return read.stdout.split(b"\t")[2].decode("utf-8")
+    if done.returncode == 0:
+        return done.stdout.decode("ascii").strip()
+    message = said(done.stderr)
+    raise BadDate(message) if message == "bad date" else Trouble("%s instant: %s" % (shown(warc), message))
 
 
 def said(message: bytes) -> str:

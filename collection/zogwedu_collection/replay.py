@@ -36,7 +36,7 @@ from .disk import Stamp, open_regular, open_stamp, reason_of, stamp_of, temporar
 from .members import NoMember, Other, Row, record_at
 from .needed import Chooser, Names, Selection, ids_like
 from .package import package_for
-from .program import instant_of, said
+from .program import BadDate, instant_of, said
 from .texts import Stored, Trouble, decoded, escaped, real_path, say
 from .unpack import PIECE, Damaged, Unsupported, is_of_gzip, write_all
 from .wacz import good_of_parts, has_good_parts, is_package, pieces_of
@@ -490,7 +490,7 @@ class Replayer:
             )
         found = self.with_id(name, "captures.file <> ?", capture.file) if name else []
         if not found and uri and isinstance(date, str):
-            with contextlib.suppress(Trouble):
+            with contextlib.suppress(BadDate):
                 values = uri, instant_of(self.warc, date), capture.file
                 found = self.where("target = ? AND instant = ? AND captures.file <> ?", values)
         return found
@@ -560,7 +560,7 @@ class Replayer:
         answers = self.each(lambda group: [self.body(capture, group)], groups)
         settled = [it for it in answers if not is_unresolved(it.reason)]
         if not settled and len(groups) > 1:
-            with contextlib.suppress(Trouble):  # of a file that was passed over
+            with contextlib.suppress(BadDate):  # of a file that was passed over
                 settled = [self.body(capture, list(dict.fromkeys(file for group in groups for file in group)))]
         return settled or answers[:1] or [self.body(capture)]
 

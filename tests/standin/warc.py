@@ -4,7 +4,7 @@
     warc.py COMMAND [OPTION ..] [--] FILE|- [WORD ..]
 
 It has the commands that warc-collection and zwarc call, reads the whole file first, and prints no hints. What writes
-archives is left out, but for the one record that warc-collection makes to ask what a date means.
+archives is left out.
 """
 from __future__ import annotations
 
@@ -18,23 +18,21 @@ sys.dont_write_bytecode = True  # many run at once, and none leaves anything
 import shared  # noqa: E402
 import warc_reference  # noqa: E402
 
-HEAD = "WARC/1.1\r\nWARC-Type: %s\r\nWARC-Target-URI: %s\r\nWARC-Date: %s\r\nWARC-Record-ID: <urn:uuid:%s>\r\n"
-REST = "Content-Type: %s\r\nContent-Length: 0\r\n\r\n\r\n\r\n"
+INSTANT = b"%04d-%02d-%02dT%02d:%02d:%02d.%09dZ\n"
 
 
-def written(kind: str, target: str, date: str, uuid: str, media: str) -> warc_reference.Answer:
-    """A record without a block."""
-    if warc_reference.instant_of(os.fsencode(date)) is None:
-        return b"", b"warc: bad date\n", 3
-    return os.fsencode(HEAD % (kind, target, date, uuid) + REST % media), b"", 0
+def answer_of_date(date: str) -> warc_reference.Answer:
+    """The instant of a date."""
+    instant = warc_reference.instant_of(os.fsencode(date))
+    return (b"", b"warc: bad date\n", 3) if instant is None else (INSTANT % instant, b"", 0)
 
 
 def answer(words: List[str]) -> warc_reference.Answer:
     """What the program writes, its message and its status."""
     if words[:1] == ["--version"]:
         return b"warc %s\n" % shared.version().encode(), b"", 0
-    if words[:1] == ["write"]:
-        return written(*[word for word in words[1:] if word not in ("--", "-")])
+    if words[:2] == ["instant", "--"]:
+        return answer_of_date(words[2])
     command, rest = words[0], words[1:]
     marked = rest.index("--") if "--" in rest else len(rest)
     flags = [word for word in rest[:marked] if word.startswith("--")]

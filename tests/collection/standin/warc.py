@@ -6,6 +6,7 @@ of the format: what the program says is right, and the same tests run over the p
 """
 import base64
 import hashlib
+import re
 import sys
 from typing import Callable, Dict, Iterator, List, NamedTuple, Optional, Tuple, Union
 
@@ -98,11 +99,15 @@ def summary(records: List[Record]) -> None:
         put(verdict + b"\t%d\n" % verdicts.count(verdict))
 
 
+def instant_of(date: bytes) -> bytes:
+    """The instant of a date with seconds, in full."""
+    return date[:-1].ljust(20, b".").ljust(29, b"0") + b"Z"
+
+
 def captures(records: List[Record]) -> None:
     for place, it in enumerate(records):
         date = it.field(b"WARC-Date")
-        instant = date[:-1].ljust(20, b".").ljust(29, b"0") + b"Z"
-        words = date, instant, it.field(b"WARC-Type"), b"%d" % place, b"-", it.field(b"Content-Type")
+        words = date, instant_of(date), it.field(b"WARC-Type"), b"%d" % place, b"-", it.field(b"Content-Type")
         put(b"%d\t%s\t%d\t-\t%s\n" % (place, b"\t".join(words), len(it.block), it.field(b"WARC-Target-URI")))
 
 
@@ -133,9 +138,12 @@ def main(words: List[str]) -> int:
     if words == ["--version"]:
         put(b"warc 0.3.0\n")
         return 0
-    if words[0] == "write":
-        date = words[4].encode()[:19].ljust(19, b"#").replace(b"#" * 15, b"-12-31T23:59:59").rstrip(b"#Z")
-        put(FIRST + b"WARC-Date: " + date + b"Z\r\nContent-Length: 0\r\n\r\n\r\n\r\n")
+    if words[0] == "instant":
+        date = re.sub(rb"^(\d{4})$", rb"\1-01-01T00:00:00Z", words[2].encode())
+        if not re.fullmatch(rb"\d{4}-\d\d-\d\dT\d\d:\d\d:\d\d(\.\d+)?Z", date):
+            sys.stderr.write("warc: bad date\n")
+            return 3
+        put(instant_of(date) + b"\n")
         return 0
     data = sys.stdin.buffer.read()
     if words[0] in ("pieces", "salvage"):
