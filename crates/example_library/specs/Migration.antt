@@ -27,8 +27,8 @@ pub record IsMigrationOf (bytes : List ℕ) (moved : Archived Stored) : Type 0 w
       → IsAnswer (contents opened.listed.are.records) uri moment outcome
       ↔ IsAnswer (contents first.are.records) uri moment outcome
 
--- an archive of these bytes, whose records' texts of WARC 1.1 don't open: where they aren't too long, for want of
--- memory
+-- an archive of these bytes, whose records' texts of WARC 1.1 don't open: where they aren't too long, because an
+-- allocation failed
 pub record IsUnopened (bytes : List ℕ) (fault : Fault) : Type 0 where
   pub rows : List Row
   pub first : IsArchiveOf bytes rows

@@ -19,8 +19,8 @@ plan_of_draft plan = record {
   block = plan.block.now;
 }
 
--- why records that stand aren't read back: what is written of them doesn't open, where it isn't too long for want of
--- memory; or a growth of the memory was refused to the sink, or to what reads
+-- why records that stand aren't read back: what is written of them doesn't open, where it isn't too long because an
+-- allocation failed; or an allocation failed to the sink, or to what reads
 abbrev pub IsNotReadBack : List Record → RoundFault → Type 0
 IsNotReadBack records (Unmade fault) = ⊥
 IsNotReadBack records (Unwritten fault) = ⊤

@@ -18,7 +18,7 @@ pub enum MoveFault {
     /// It doesn't open.
     Refused(Fault),
 
-    /// It isn't written: a growth of the memory was refused, or the source failed.
+    /// It isn't written: an allocation failed, or the source failed.
     Unwritten(OutFault),
 
     /// What was written doesn't open.
@@ -48,8 +48,8 @@ fn conversion<S: Source + Drop>(alloc: Global, mut listing: Listing<S>) -> Resul
 }
 
 /// Opens an archive, writes it to memory as records of WARC 1.1, and opens that. Each replay of what it gives gives
-/// what one of the archive does. What was written doesn't open only for want of memory, or where it is longer than 2^48
-/// bytes.
+/// what one of the archive does. What was written doesn't open only if an allocation failed, or where it is longer than
+/// 2^48 bytes.
 pub fn migrate<S: Source + Drop>(alloc: Global, source: S) -> Result<Archive<MemSource>, MoveFault>
     ensures moved { IfHeld (S.seen source).holds (λ bytes. IfOk result (IsMigrationOf bytes)) }
     ensures refused { IfHeld (S.seen source).holds (λ bytes. IfErr result (IsNotMoved bytes)) }

@@ -7,7 +7,7 @@ use std::alloc::Global;
 use warc::Archive;
 use warc_frame::{Fault, MemSource};
 
-/// Opens an archive in memory. It is refused for its first fault, or for want of memory.
+/// Opens an archive in memory. It is refused for its first fault, or because an allocation failed.
 pub(crate) fn opened(alloc: Global, text: Vec<u8>) -> Result<Archive<MemSource>, Fault>
     ensures bytes { IfOk result (λ archive. archive.listing.source.bytes ≡ text.items) }
     ensures opened { IfOk result (IsIndexed text.items) }

@@ -19,7 +19,7 @@ use warc_frame::{Fault, MemSink, MemSource, OutFault, Source};
 /// Why records aren't given as an archive of their own.
 #[derive(Debug, Drop)]
 pub enum ShareFault {
-    /// What they need isn't found: a growth of the memory was refused, or the source failed.
+    /// What they need isn't found: an allocation failed, or the source failed.
     Unclosed(OutFault),
 
     /// They aren't written, for the same reasons.
@@ -49,7 +49,7 @@ fn selection<S: Source>(
 }
 
 /// Writes the records at positions to memory, with all that they need, and opens that. Each of its records gives what
-/// it gives in the whole archive, positions aside. What was written doesn't open only for want of memory.
+/// it gives in the whole archive, positions aside. What was written doesn't open only if an allocation failed.
 pub fn share<S: Source>(
     alloc: Global,
     archive: &mut Archive<S>,

@@ -8,14 +8,14 @@ use warc_segment::{Gap, JoinFault, Parts, Place};
 use warc_value::Wanted;
 use warc_vectors::{Heap, RefusingAllocator};
 
-/// The answer if memory is refused.
+/// The answer if an allocation fails.
 const NO_MEMORY: &[u8] = b"out of memory\n";
 
 /// More requests for memory than any case makes.
 const MOST: u64 = 5000;
 
-/// Adds what a head says, again where memory was refused. Whether it was refused; `None` where that left another number
-/// of bytes kept, or where memory was refused again.
+/// Adds what a head says, again where an allocation failed. Whether it was refused; `None` where that left another
+/// number of bytes kept, or where an allocation failed again.
 fn add_again(parts: &mut Parts<Heap<'_>>, typed: &Typed<'_>, start: u64, len: u64) -> Option<bool> {
     let kept = parts.kept();
     if parts.add(typed, start, len).is_ok() {
@@ -384,7 +384,7 @@ fn gap_of(case: &Case<'_>) -> Option<Gap> {
     }
 }
 
-/// Reports a gap's text, and that of the fault of joining that it is; without a gap that of want of memory.
+/// Reports a gap's text, and that of the fault of joining that it is; without a gap that of a failed allocation.
 fn say_gap(alloc: Global, case: &Case<'_>, reported: &mut Vec<u8>) -> Result<(), AllocError> {
     let text = match gap_of(case) {
         Some(gap) => format!(in alloc; "{gap}\n{}\n", JoinFault::Gap(gap))?,

@@ -45,7 +45,8 @@ abbrev pub RecordsAreTheSame : Type 0
 RecordsAreTheSame = (bytes : List ℕ) (rows others : List Row) (is : IsArchiveOf bytes rows)
     (other : IsArchiveOf bytes others) → contents is.are.records ≡ contents other.are.records
 
--- a source that holds its bytes and never fails is refused for want of memory, or for the first fault of its bytes
+-- a source that holds its bytes and never fails is refused because an allocation failed, or for the first fault of its
+-- bytes
 abbrev pub RefusedForFault : Type 0
 RefusedForFault = (bytes : List ℕ) (old new : SeenSource) (f : Fault) → old.holds ≡ Some bytes → old.faults ≡ 0
     → new.faults ≡ 0 → new.faults ≡ faults_after f.kind old.faults → IsRefusalOf bytes old new f

@@ -28,7 +28,7 @@ pub fn records_are_spelled()
     spelling_is_unambiguous();
 }
 
-/// A source in memory, which never fails, is refused for the first fault of its bytes, or for want of memory.
+/// A source in memory, which never fails, is refused for the first fault of its bytes, or because an allocation failed.
 pub fn memory_is_refused_for_faults()
     ensures { RefusedForFault }
 {}

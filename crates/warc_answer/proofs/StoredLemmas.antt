@@ -43,7 +43,7 @@ headless_seen A B bytes fields places (Reason (NotFound unfound)) is = absurd is
 headless_seen A B bytes fields places (Reason (Segments gap)) is = absurd is
 headless_seen A B bytes fields places (Out e) is = is
 
--- want of memory is no failure of the source
+-- a failed allocation is no failure of the source
 pub memory_failed : {A : Type 0} (r : Result (Stored A) ReplayFault) (n : ℕ) → IfErr r (λ fault. fault ≡ Out (Memory 0)) → HasFailedBy (out_result r) n n
 memory_failed (Ok s) n is = refl
 memory_failed (Err fault) n is = subst (λ (f : ReplayFault). HasFailedBy (out_result {X = Unit {0}} (Err f)) n n) (sym is) refl

@@ -80,7 +80,7 @@ abbrev pub LoopsAreAnswered : Type 0
 LoopsAreAnswered = (records : List Record) (uri : List ℕ) (moment : Instant)
     → IsAnswer records uri moment (Err (NotFound Loop)) ↔ ChosenLoops records uri moment
 
--- a replay that no device and no want of memory ends gives this reason exactly where that holds
+-- a replay that no device and no failed allocation ends gives this reason exactly where that holds
 abbrev pub IsOfLoop : Type 0 → Result Answer ReplayFault → Type 0
 IsOfLoop Loops (Ok answer) = Loops → ⊥
 IsOfLoop Loops (Err (IsReason why)) = (why ≡ NotFound Loop) ↔ Loops

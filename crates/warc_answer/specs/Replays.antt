@@ -41,7 +41,7 @@ abbrev pub IsReplay : List Record → List ℕ → Instant → Result Answer Rep
     → Type 0
 IsReplay records uri moment answer old new = IsReplayOn records (path_for records uri moment) answer old new
 
--- nothing goes out before a reason, or before memory is refused, whatever the source holds
+-- nothing goes out before a reason, or before an allocation fails, whatever the source holds
 abbrev pub IsSilent : {X : Type 0} → Result X ReplayFault → Option (List ℕ) → Option (List ℕ) → Type 0
 IsSilent (Ok x) old new = ⊤
 IsSilent (Err (Reason why)) old new = new ≡ old
@@ -55,8 +55,8 @@ out_result (Ok x) = Ok tt
 out_result (Err (Reason why)) = Ok tt
 out_result (Err (Out e)) = Err e
 
--- whatever the source holds, nothing goes out before a reason or before memory is refused, and the sink has failed once
--- more exactly by a failed write
+-- whatever the source holds, nothing goes out before a reason or before an allocation fails, and the sink has failed
+-- once more exactly by a failed write
 pub record WritesLate {X : Type 0} (answer : Result X ReplayFault) (before after : Seen) : Type 0 where
   pub silent : IsSilent answer before.reports after.reports
   pub cause : after.faults ≡ failed_by (out_result answer) before.faults

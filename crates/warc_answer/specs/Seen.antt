@@ -19,13 +19,13 @@ stored_seen s = record {
   length = s.length;
 }
 
--- what is stored of an origin, or the reason why nothing is, unless a read or a growth of the memory failed
+-- what is stored of an origin, or the reason why nothing is, unless a read or an allocation failed
 abbrev pub IsJudged : {A : Type 0} → Record → List ReadRecord → Result (Stored A) ReplayFault → Type 0
 IsJudged content joined (Ok s) = IsStoredBy content (Ok joined) (Ok (stored_seen s))
 IsJudged content joined (Err (Reason why)) = IsStoredBy content (Ok joined) (Err why)
 IsJudged content joined (Err (Out e)) = ⊤
 
--- a reason, or a read or a growth of the memory failed before anything was written
+-- a reason, or a read or an allocation failed before anything was written
 abbrev pub IsEarly : ReplayFault → Type 0
 IsEarly (Reason why) = ⊤
 IsEarly (Out (outs.Read sent)) = sent ≡ 0

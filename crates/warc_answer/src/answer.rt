@@ -94,7 +94,7 @@ pub enum ReplayFault {
     /// There is no body, for this reason. Nothing was written.
     Reason(Reason),
 
-    /// A read, a write or a growth of the memory failed, after this number of bytes of the body.
+    /// A read, a write or an allocation failed, after this number of bytes of the body.
     Out(OutFault),
 }
 

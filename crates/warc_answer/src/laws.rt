@@ -37,8 +37,8 @@ pub fn places_are_as_long()
     ensures { PlacesAreAsLong }
 {}
 
-/// Where a read fails or memory is refused before anything is written, that is a replay too, whatever the answer is, on
-/// a path that ends at one of the records.
+/// Where a read or an allocation fails before anything is written, that is a replay too, whatever the answer is, on a
+/// path that ends at one of the records.
 pub fn fails_before_all()
     ensures { FailsBeforeAll }
 {

@@ -110,7 +110,7 @@ abbrev pub Reads : {X : Type 0} → (X → List Pair) → Result X AreaFault →
 Reads view (Ok x) read = read ≡ Ok (view x)
 Reads view (Err e) read = Fails e read
 
--- a fault other than lack of memory names the area's first bad line
+-- a fault other than a failed allocation names the area's first bad line
 abbrev pub ReportsBadLine : List ℕ → AreaFault → Type 0
 ReportsBadLine area Memory = Unit {0}
 ReportsBadLine area (Line at) = IsFirstBadLine area at

@@ -20,7 +20,7 @@ pub enum AreaFault {
     /// A line is no field, or isn't ended; the first such line begins at this offset, in bytes from the area's start.
     Line(usize),
 
-    /// A growth of the memory was refused.
+    /// An allocation failed.
     Memory,
 }
 
@@ -149,7 +149,7 @@ pub fn read_area<A: Allocator + Copy>(alloc: A, area: &[u8]) -> Result<Fields<A>
     // What is spelled is read, unless memory runs out.
     ensures only { (fields : List Pair) → SpellsFields fields area.now → Reads (λ f. f) result (Ok fields) }
 
-    // A fault other than lack of memory is the first line that is no field or isn't ended.
+    // A fault other than a failed allocation is the first line that is no field or isn't ended.
     ensures bad { IfErr result (ReportsBadLine area.now) }
 
     // The same by the computing definition.
@@ -159,8 +159,8 @@ pub fn read_area<A: Allocator + Copy>(alloc: A, area: &[u8]) -> Result<Fields<A>
     read_area_in(Fields::new(alloc), area)
 }
 
-/// The same, in the memory of fields that are no longer needed: a head that is read after a similar one takes no
-/// memory.
+/// The same, in the memory of fields that are no longer needed: a head that is read after a similar one doesn't
+/// allocate.
 pub fn read_area_in<A: Allocator + Copy>(
     spare: Fields<A>,
     area: &[u8],

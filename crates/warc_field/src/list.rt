@@ -69,7 +69,7 @@ impl<A: Allocator + Copy> Fields<A> {
 }
 
 impl<A: Allocator> Fields<A> {
-    /// No fields yet. It takes no memory.
+    /// No fields yet. It doesn't allocate.
     pub fn new(alloc: A) -> Fields<A>
         ensures { result ≡ [] }
     {
@@ -95,7 +95,7 @@ impl<A: Allocator> Fields<A> {
         self.pairs.truncate(count);
     }
 
-    /// Adds a field at the end. If memory is refused, the fields stay as they were, and the given one is dropped.
+    /// Adds a field at the end. If an allocation fails, the fields stay as they were, and the given one is dropped.
     pub fn push(&mut self, name: Name<A>, value: Value<A>) -> Result<(), AllocError>
         ensures ok { OnOk result (self.new ≡ self.old ++ (name, value) ∷ []) }
         ensures err { OnErr result (self.new ≡ self.old) }

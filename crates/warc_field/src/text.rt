@@ -12,7 +12,7 @@ use std::fmt;
 use std::marker::Model;
 use thiserror::Error;
 
-/// A field's name. Contracts see its bytes. A name of at most 48 bytes takes no memory.
+/// A field's name. Contracts see its bytes. A name of at most 48 bytes needs no allocation.
 #[derive(Debug, Drop)]
 pub struct Name<A: Allocator = Global> {
     token: Bytes<A>,
@@ -30,7 +30,7 @@ impl<A: Allocator> Model for Name<A> {
     ghost invariant = { λ n. is_name (held_bytes n.token) ≡ true };
 }
 
-/// A field's value. Contracts see its bytes. A value of at most 48 bytes takes no memory, unless it was read from
+/// A field's value. Contracts see its bytes. A value of at most 48 bytes needs no allocation, unless it was read from
 /// folded lines.
 #[derive(Debug, Drop)]
 pub struct Value<A: Allocator = Global> {
@@ -55,7 +55,7 @@ pub enum TextFault {
     /// The text isn't a valid one.
     BadText,
 
-    /// A growth of the memory was refused.
+    /// An allocation failed.
     Memory,
 }
 
@@ -155,7 +155,7 @@ pub(crate) fn trim_in_place<A: Allocator>(text: &mut Vec<u8, A>)
 }
 
 impl<A: Allocator> Name<A> {
-    /// The name that this text is, or `BadText` if it isn't a name. Up to 48 bytes it takes no memory.
+    /// The name that this text is, or `BadText` if it isn't a name. Up to 48 bytes it doesn't allocate.
     pub fn new(alloc: A, text: &[u8]) -> Result<Name<A>, TextFault>
         ensures ok { IfOk result (λ name. (name ≡ text.now) × (is_name text.now ≡ true)) }
         ensures bad { IsErrOf result TextFault.BadText ↔ (is_name text.now ≡ false) }
@@ -167,7 +167,7 @@ impl<A: Allocator> Name<A> {
         Ok(Name::from_checked(alloc, text)?)
     }
 
-    /// The name that this text is, known to be a name. It isn't judged again. Up to 48 bytes it takes no memory.
+    /// The name that this text is, known to be a name. It isn't judged again. Up to 48 bytes it doesn't allocate.
     pub fn from_checked(alloc: A, text: &[u8]) -> Result<Name<A>, AllocError>
         requires { is_name text.now ≡ true }
         ensures value { IfOk result (λ name. name ≡ text.now) }
@@ -214,7 +214,7 @@ impl<A: Allocator> Name<A> {
 }
 
 impl<A: Allocator> Value<A> {
-    /// The value that this text is, or `BadText` if it isn't a value. Up to 48 bytes it takes no memory. An empty text
+    /// The value that this text is, or `BadText` if it isn't a value. Up to 48 bytes it doesn't allocate. An empty text
     /// is a value.
     pub fn new(alloc: A, text: &[u8]) -> Result<Value<A>, TextFault>
         ensures ok { IfOk result (λ value. (value ≡ text.now) × (is_value text.now ≡ true)) }
@@ -227,8 +227,8 @@ impl<A: Allocator> Value<A> {
         Ok(Value::from_checked(alloc, text)?)
     }
 
-    /// The value that this text is, which is known to be a value. It isn't judged again. Up to 48 bytes it takes no
-    /// memory.
+    /// The value that this text is, which is known to be a value. It isn't judged again. Up to 48 bytes it doesn't
+    /// allocate.
     pub fn from_checked(alloc: A, text: &[u8]) -> Result<Value<A>, AllocError>
         requires { is_value text.now ≡ true }
         ensures value { IfOk result (λ value. value ≡ text.now) }

@@ -53,7 +53,7 @@ fn put_line<B: Allocator>(name: &[u8], value: &[u8], out: &mut Vec<u8, B>)
     put(b"\r\n", out);
 }
 
-/// Appends the canonical lines of fields, each `name: value` and CRLF. If memory is refused, the vector stays as it
+/// Appends the canonical lines of fields, each `name: value` and CRLF. If an allocation fails, the vector stays as it
 /// was.
 pub fn write_area<A: Allocator, B: Allocator>(
     fields: &Fields<A>,

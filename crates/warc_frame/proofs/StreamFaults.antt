@@ -80,6 +80,6 @@ refutes_as kinds.Truncated at text reported f r other = r
 refutes_as kinds.TooLong at text reported f r other = r
 refutes_as kinds.Read at text reported f r other = r
 
--- what a step says that fails for another reason than want of memory
+-- what a step says that fails for another reason than a failed allocation
 pub refusals_refute : (at : ℕ) (text : List ℕ) (reported : Reported) (f : Fault) → Refuses at text reported f → f.kind ≢ kinds.Memory → Refutes at text reported f
 refusals_refute at text reported f r other = refutes_as f.kind at text reported f r other

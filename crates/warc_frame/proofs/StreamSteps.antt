@@ -378,7 +378,7 @@ whole_head kept near v m n low size version found fits four =
     let room = head_room head line.0 (length head) line.1 len in
     (sym (version-more head (drop n near) (omega (arith, room))) ∙ ap version_of whole ∙ version, len)
 
--- memory was refused in a head
+-- an allocation failed in a head
 pub no_memory : (at : ℕ) (taken : List ℕ) (reported : Reported) (d : State) (text near : List ℕ) (f : Fault) → IsAt at taken reported d → d.phase ≡ phases.Head → within_limit at text ≡ taken ++ near → f.offset ≡ d.position - length d.kept → WantsMemory at text reported f
 no_memory at taken reported d text near f s ph front is = record {
   front = s.front;

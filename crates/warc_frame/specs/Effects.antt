@@ -46,7 +46,7 @@ IsTakenFrom text_in Expected bytes text = Expected bytes × (text ≡ text_in by
 abbrev pub IsRange : ℕ → ℕ → List ℕ → List ℕ → Type 0
 IsRange at len bytes text = IsTakenFrom (λ bytes. take len (drop at bytes)) (HasRange at len) bytes text
 
--- a read or a write failed: it isn't lack of memory
+-- a read or a write failed: it isn't a failed allocation
 abbrev pub IsOfDevice : OutFault → Type 0
 IsOfDevice (Read sent) = ⊤
 IsOfDevice (Write sent) = ⊤

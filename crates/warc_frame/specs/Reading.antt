@@ -116,7 +116,7 @@ record_of judge t = do
   block ← block_at head.len head.block_len t
   Ok (record { version = head.version; fields = head.fields; block = block }, head.len + head.block_len + 4)
 
--- lack of memory is reported at offset 0, and any other fault as a fact says
+-- a failed allocation is reported at offset 0, and any other fault as a fact says
 abbrev pub OrMemory : FaultKind → ℕ → Type 0 → Type 0
 OrMemory Memory offset P = offset ≡ 0
 OrMemory kind offset P = P

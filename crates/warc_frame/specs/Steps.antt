@@ -23,7 +23,7 @@ ReportsHead head n (events.Head version fields m) = (len : ℕ) × (m ≡ n)
 ReportsHead head n (events.Part from to) = ⊥
 ReportsHead head n events.End = ⊥
 
--- the fault of a head that begins at offset p, or lack of memory there
+-- the fault of a head that begins at offset p, or a failed allocation there
 abbrev pub HeadFails : FaultKind → ℕ → List ℕ → Fault → Type 0
 HeadFails Memory p head f = f.offset ≡ p
 HeadFails kind p head f = (g : Fault) × (head_of any_fields head ≡ Err g) × (f ≡ following p g)

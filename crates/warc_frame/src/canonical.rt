@@ -34,7 +34,7 @@ fn text_len<A: Allocator>(framed: &Framed<A>) -> usize
     area + framed.block().len() + 16
 }
 
-/// Appends a record's canonical text: its version line, each field as `name: value`, the block. If memory is refused,
+/// Appends a record's canonical text: its version line, each field as `name: value`, the block. If an allocation fails,
 /// the vector stays as it was.
 pub fn write_one<A: Allocator, B: Allocator>(
     framed: &Framed<A>,

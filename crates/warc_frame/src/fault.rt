@@ -83,7 +83,7 @@ pub enum FaultKind {
     /// A read failed.
     Read,
 
-    /// A growth of the memory was refused.
+    /// An allocation failed.
     Memory,
 }
 
@@ -153,7 +153,7 @@ pub enum OutFault {
     /// A write failed.
     Write(u64),
 
-    /// A growth of the memory was refused.
+    /// An allocation failed.
     Memory(u64),
 }
 
@@ -205,7 +205,7 @@ pub enum EarlyFault {
     /// A read failed, or the source doesn't give what it gave before.
     Read,
 
-    /// A growth of the memory was refused.
+    /// An allocation failed.
     Memory,
 }
 
@@ -260,7 +260,7 @@ impl From<AllocError> for Fault {
 
     ghost from_gives = { λ _ e. e ≡ record { kind = Memory; offset = 0 } };
 
-    /// Lack of memory for the record at the beginning, whose offset is 0.
+    /// A failed allocation for the record at the beginning, whose offset is 0.
     fn from(_: AllocError) -> Fault {
         Fault {
             kind: FaultKind::Memory,

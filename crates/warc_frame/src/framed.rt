@@ -69,7 +69,7 @@ impl<A: Allocator> Model for Framed<A> {
 }
 
 impl<A: Allocator> Framed<A> {
-    /// The record of these, or the first reason why they make none. It takes no memory, and drops what it refuses.
+    /// The record of these, or the first reason why they make none. It doesn't allocate, and drops what it refuses.
     #[tactic(auto, unfolding(crate::specs::Record::framed_of))]
     pub fn new(
         version: Version,

@@ -164,7 +164,7 @@ pub(crate) fn read_fields<A: Allocator + Copy>(
 
 /// The head at the beginning of a text, which anything may follow. A fault's offset counts from there: it is the first
 /// row of the table of refusals that fits, as far as framing goes, and the block isn't looked at. An empty text is
-/// Truncated at 0; lack of memory is reported at 0.
+/// Truncated at 0; a failed allocation is reported at 0.
 #[tactic(auto, using(crate::proofs::HeadLemmas::head_within), unfolding(crate::specs::Reading::head_of))]
 pub fn read_head<A: Allocator + Copy>(alloc: A, text: &[u8]) -> Result<Head<A>, Fault>
     ensures exact { AnswersAs
@@ -222,7 +222,7 @@ fn read_front<A: Allocator + Copy>(alloc: A, text: &[u8]) -> Result<(Framed<A>, 
 }
 
 /// The record at the beginning of a text, and its length. A fault's offset counts from there. An empty text is
-/// Truncated at 0; lack of memory is reported at 0.
+/// Truncated at 0; a failed allocation is reported at 0.
 pub fn read_one<A: Allocator + Copy>(alloc: A, text: &[u8]) -> Result<(Framed<A>, usize), Fault>
     // What is read is spelled so.
     ensures found { IfOk result (λ x. (x.1 ≤ length text.now) × Spells x.0 (take x.1 text.now)) }

@@ -117,9 +117,9 @@ fn feed<A: Allocator + Copy>(
     Ok(())
 }
 
-/// The records that the pieces, one after the other, spell, however the bytes are cut into them; the first byte
-/// is at offset `at`, at most 2^48. The fault is the frame fault of all bytes, or lack of memory at the first
-/// byte of the record for which it was needed.
+/// The records that the pieces, one after the other, spell, however the bytes are cut into them; the first byte is at
+/// offset `at`, at most 2^48. The fault is the frame fault of all bytes, or a failed allocation at the first byte of
+/// the record for which it was needed.
 pub fn decode<A: Allocator + Copy>(
     alloc: A,
     at: u64,

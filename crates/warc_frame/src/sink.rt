@@ -99,7 +99,7 @@ impl<A: Allocator> MemSink<A> {
 impl<A: Allocator> Sink for MemSink<A> {
     ghost seen = { λ s. record { reports = Some s.bytes; faults = s.faults } };
 
-    /// It fails only if a growth of the memory is refused, and otherwise takes the whole piece.
+    /// It fails only if an allocation fails, and otherwise takes the whole piece.
     fn write(&mut self, piece: &[u8]) -> Result<usize, WriteFault>
         ensures bound { IfOk result (λ n. n ≤ length piece.now) }
         ensures bytes { Some self.new.bytes ≡ append_known (Some self.old.bytes) (take (taken result) piece.now) }

@@ -77,7 +77,7 @@ impl<A: Allocator> Model for Decoder<A> {
 }
 
 impl<A: Allocator + Copy> Decoder<A> {
-    /// A decoder of a stream whose first byte is at this offset, at most 2^48. It takes no memory.
+    /// A decoder of a stream whose first byte is at this offset, at most 2^48. It doesn't allocate.
     pub fn new(alloc: A, at: u64) -> Decoder<A>
         requires { at ≤ max_archive }
         ensures { IsAt at [] nothing result }
@@ -133,8 +133,8 @@ impl<A: Allocator + Copy> Decoder<A> {
     /// Takes bytes from the beginning of the piece, and reports what they end or are.
     ///
     /// It takes at least one byte of a piece that isn't empty, or fails; `More` takes the whole piece. An event comes
-    /// with the last byte of what it reports. A fault is the frame fault of the bytes taken followed by the piece, or
-    /// lack of memory; it takes nothing, and each later call returns it again.
+    /// with the last byte of what it reports. A fault is the frame fault of the bytes taken followed by the piece, or a
+    /// failed allocation; it takes nothing, and each later call returns it again.
     pub fn step(&mut self, piece: &[u8]) -> Result<(usize, Event<A>), Fault>
         ensures history { (at : ℕ) (taken : List ℕ) (reported : Reported) → IsAt at taken reported self.old →
             MatchResult result (λ r. Takes at taken reported self.new piece.now r.0 r.1)

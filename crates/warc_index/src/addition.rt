@@ -70,7 +70,7 @@ fn add_entries<O: EntryList>(
     match add_present(by_target, position, kept.capture) {
         Ok(()) => Ok(()),
         Err(refused) => {
-            // What was added is taken back, which takes no memory.
+            // What was added is taken back, which doesn't allocate.
             by_id.truncate(position);
             Err(refused)
         }
@@ -107,7 +107,7 @@ pub(crate) fn add_record<O: EntryList, A: Allocator + Copy>(
     }
 }
 
-/// Keeps the first `count` records. It takes no memory.
+/// Keeps the first `count` records. It doesn't allocate.
 pub(crate) fn truncate_all<O: EntryList, A: Allocator + Copy>(
     by_id: &mut O,
     by_target: &mut O,

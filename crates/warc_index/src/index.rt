@@ -108,7 +108,7 @@ impl<O: EntryList, A: Allocator + Copy> RecordIndex<O, A> {
         self.put(&kept_of(typed))
     }
 
-    /// Keeps the first `count` records. It takes no memory.
+    /// Keeps the first `count` records. It doesn't allocate.
     pub fn truncate(&mut self, count: usize)
         ensures { (all : List Indexed) → IsIndexOf all self.old → IsIndexOf (take count all) self.new }
     {
@@ -134,7 +134,7 @@ impl<A: Allocator + Copy> RecordIndex<Unordered<A>, A> {
         }
     }
 
-    /// Puts all records in order. It takes no memory.
+    /// Puts all records in order. It doesn't allocate.
     pub fn into_index(self) -> Index<A>
         ensures { result ≡ self }
     {
@@ -299,7 +299,7 @@ impl<A: Allocator + Copy> RecordIndex<Order<A>, A> {
     }
 
     /// The position of the record that the one at a position refers to: one step of the way to its origin. `None` if
-    /// the record isn't a revisit, or if what it refers to isn't found. It takes no memory.
+    /// the record isn't a revisit, or if what it refers to isn't found. It doesn't allocate.
     pub fn referent(&self, position: usize) -> Option<usize>
         ensures next { (all : List Indexed) → IsIndexOf all self.now → result ≡ next_of all position }
         ensures within { (all : List Indexed) → IsIndexOf all self.now → IfSome result (λ next. next < length all) }
@@ -381,9 +381,9 @@ impl<A: Allocator + Copy> RecordIndex<Order<A>, A> {
         }
     }
 
-    /// The origin of the capture at a position: the capture itself, or what a revisit leads to in the end. `Err`: P3
-    /// if the profile of a revisit isn't known; P4 if one names nothing and no payload of its target by its own
-    /// instant has its digest; P5 if what one names isn't there; P6 if they lead back. It takes no memory. After
+    /// The origin of the capture at a position: the capture itself, or what a revisit leads to in the end. `Err`: P3 if
+    /// the profile of a revisit isn't known; P4 if one names nothing and no payload of its target by its own instant
+    /// has its digest; P5 if what one names isn't there; P6 if they lead back. It doesn't allocate. After
     /// `follow_chains` it takes one look-up, and else one for each revisit on the way, never more than there are
     /// records.
     pub fn origin(&self, position: usize) -> Result<usize, Unfound>

@@ -163,7 +163,7 @@ impl<A: Allocator + Copy> Links<A> {
         Ok(())
     }
 
-    /// Keeps the first `count` records. It takes no memory.
+    /// Keeps the first `count` records. It doesn't allocate.
     pub(crate) fn truncate(&mut self, count: usize)
         ensures { self.new ≡ take count self.old }
     {

@@ -90,7 +90,7 @@ pub fn put_object<W: Sink>(
     buffer.put(out, b"}\n")
 }
 
-/// Writes the line of one object. It takes no memory.
+/// Writes the line of one object. It doesn't allocate.
 pub fn send_object<W: Sink>(members: &[(&str, Value<'_>)], out: &mut W) -> Result<(), OutFault>
     ensures { SendsText (W.seen out.old) (W.seen out.new) result (object_line (map member_seen members.now)) }
 {

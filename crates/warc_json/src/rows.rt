@@ -60,7 +60,7 @@ fn put_rows<S: Source, A: Allocator + Copy, W: Sink>(
 }
 
 /// Writes a line for each record: an object with the members position, offset, length, type, date, id and target, which
-/// is null if there is none. It takes no memory.
+/// is null if there is none. It doesn't allocate.
 pub fn list_rows<S: Source, A: Allocator + Copy, W: Sink>(
     listing: &Listing<S, A>,
     out: &mut W,

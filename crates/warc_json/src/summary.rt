@@ -19,7 +19,7 @@ fn date_value(date: Option<&[u8]>) -> Value<'_>
 }
 
 /// Writes one line: an object whose members are the numbers that `Summary::write` writes, and the two dates, each of
-/// which is null if there is none. It takes no memory.
+/// which is null if there is none. It doesn't allocate.
 pub fn write_summary<W: Sink>(summary: &Summary<'_>, out: &mut W) -> Result<(), OutFault>
     ensures { SendsText (W.seen out.old) (W.seen out.new) result (json_summary summary.now) }
 {

@@ -22,8 +22,8 @@ fn first_waiting<A: Allocator>(list: &Verdicts<A>, batch: &Batch<A>) -> usize
     list.len() - batch.len()
 }
 
-/// Hashes the blocks that wait, and writes the verdicts on them over the last ones. Then none waits. It takes no
-/// memory.
+/// Hashes the blocks that wait, and writes the verdicts on them over the last ones. Then none waits. It doesn't
+/// allocate.
 fn settle<A: Allocator>(list: &mut Verdicts<A>, batch: &mut Batch<A>)
     requires { length batch.old ≤ length list.old }
     ensures same { list.new ≡ with_last list.old batch.old }
@@ -47,7 +47,7 @@ fn settle_if_full<A: Allocator>(list: &mut Verdicts<A>, batch: &mut Batch<A>, le
 }
 
 /// Adds a block. While it waits, the list has no verdict in its place. If its verdict is known and no other one waits,
-/// it doesn't wait. If memory is refused, it isn't added.
+/// it doesn't wait. If an allocation fails, it isn't added.
 fn add<A: Allocator>(
     list: &mut Verdicts<A>,
     batch: &mut Batch<A>,
@@ -69,7 +69,7 @@ fn add<A: Allocator>(
     match batch.add(check, block) {
         Ok(()) => Ok(()),
         Err(refused) => {
-            // What was added is taken back, which takes no memory.
+            // What was added is taken back, which doesn't allocate.
             list.truncate(count);
             Err(refused)
         }
@@ -127,14 +127,14 @@ impl<A: Allocator> BlockVerdicts<A> {
         self.batch.is_full(len)
     }
 
-    /// Hashes the blocks that wait. Then none waits. It takes no memory.
+    /// Hashes the blocks that wait. Then none waits. It doesn't allocate.
     pub fn settle(&mut self)
         ensures { self.new ≡ self.old }
     {
         settle(&mut self.list, &mut self.batch);
     }
 
-    /// Adds the next block, which is in memory, or isn't looked at if its verdict is known. If memory is refused, it
+    /// Adds the next block, which is in memory, or isn't looked at if its verdict is known. If an allocation fails, it
     /// isn't added.
     pub fn add(&mut self, check: BlockCheck, block: &[u8]) -> Result<(), AllocError>
         ensures ok { OnOk result (self.new ≡ self.old ++ verdict_with check (sha1 block.now) ∷ []) }
@@ -144,7 +144,7 @@ impl<A: Allocator> BlockVerdicts<A> {
         add(&mut self.list, &mut self.batch, check, block)
     }
 
-    /// Keeps the first `count` verdicts. It takes no memory.
+    /// Keeps the first `count` verdicts. It doesn't allocate.
     pub fn truncate(&mut self, count: usize)
         ensures { self.new ≡ take count self.old }
     {
@@ -152,7 +152,7 @@ impl<A: Allocator> BlockVerdicts<A> {
         self.list.truncate(count);
     }
 
-    /// All verdicts. The blocks that wait are hashed first. It takes no memory.
+    /// All verdicts. The blocks that wait are hashed first. It doesn't allocate.
     pub fn into_verdicts(self) -> Verdicts<A>
         ensures { result ≡ self }
     {

@@ -90,7 +90,7 @@ impl<A: Allocator> Verdicts<A> {
         }
     }
 
-    /// Adds the next verdict. If memory is refused, none is added.
+    /// Adds the next verdict. If an allocation fails, none is added.
     pub fn push(&mut self, verdict: Verdict) -> Result<(), AllocError>
         ensures ok { OnOk result (self.new ≡ self.old ++ verdict ∷ []) }
         ensures err { OnErr result (self.new ≡ self.old) }
@@ -139,7 +139,7 @@ impl<A: Allocator> Verdicts<A> {
         self.list.as_slice()
     }
 
-    /// Settles each claim by the verdict that is stated. It takes no memory.
+    /// Settles each claim by the verdict that is stated. It doesn't allocate.
     pub fn settle_claims(&mut self, stated: &Verdicts<A>)
         ensures { self.new ≡ settled_claims self.old stated.now }
     {

@@ -130,7 +130,7 @@ fn forget_good<A: Allocator + Copy>(
     }
 }
 
-/// Hashes the blocks that wait, and lets go the values by which they are good. It takes no memory.
+/// Hashes the blocks that wait, and lets go the values by which they are good. It doesn't allocate.
 fn settle<A: Allocator + Copy>(alloc: A, verdicts: &mut BlockVerdicts<A>, values: &mut [Vec<u8, A>])
     ensures verdicts { verdicts.new ≡ verdicts.old }
     ensures values { kept_values verdicts.old (map (λ v. v.items) values.new)
@@ -142,7 +142,7 @@ fn settle<A: Allocator + Copy>(alloc: A, verdicts: &mut BlockVerdicts<A>, values
     forget_good(alloc, verdicts, values, first);
 }
 
-/// Adds a block, and the value of its digest unless the block is known to be good. If memory is refused, nothing is
+/// Adds a block, and the value of its digest unless the block is known to be good. If an allocation fails, nothing is
 /// added.
 fn add_digest<A: Allocator + Copy>(
     alloc: A,
@@ -199,8 +199,8 @@ impl<A: Allocator + Copy> WaitingDigests<A> {
         }
     }
 
-    /// Adds how the next block compares with its digest, and the value of that digest unless the block is good. If
-    /// memory is refused, nothing is added.
+    /// Adds how the next block compares with its digest, and the value of that digest unless the block is good. If an
+    /// allocation fails, nothing is added.
     fn add(
         &mut self,
         alloc: A,
@@ -226,7 +226,7 @@ impl<A: Allocator + Copy> WaitingDigests<A> {
         )
     }
 
-    /// What is found of all records. The blocks that wait are hashed first. It takes no memory.
+    /// What is found of all records. The blocks that wait are hashed first. It doesn't allocate.
     pub fn into_digests(self, alloc: A) -> Digests<A>
         ensures { result ≡ self }
     {

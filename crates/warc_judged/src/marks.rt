@@ -52,7 +52,7 @@ impl<A: Allocator + Copy> HeadMarks<A> {
 }
 
 impl<A: Allocator> HeadMarks<A> {
-    /// Adds those of the next record. If memory is refused, none is added.
+    /// Adds those of the next record. If an allocation fails, none is added.
     fn add(&mut self, segmented: bool, wanted: &Wanted) -> Result<(), AllocError>
         ensures ok { OnOk result ((self.new.segmented ≡ self.old.segmented ++ segmented ∷ [])
             × (self.new.claims ≡ self.old.claims ++ claimed wanted.now ∷ [])) }

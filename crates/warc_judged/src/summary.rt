@@ -119,7 +119,7 @@ impl<'a> Summary<'a> {
     }
 
     /// Writes a line for each number, and one for each date: its name, a tab and its value. An absent date is `-`. It
-    /// takes no memory.
+    /// doesn't allocate.
     pub fn write<W: Sink>(&self, out: &mut W) -> Result<(), OutFault>
         ensures { SendsText (W.seen out.old) (W.seen out.new) result (summary_text self.now) }
     {

@@ -47,7 +47,7 @@ pub fails_of_none : {X Y : Type 0} (E : List ℕ → Type 0) (x : X) (y : Y) (ol
     → FailsBy {X = X} E (Ok x) old new → FailsBy E (problem_result {X = Y} (Ok y)) old new
 fails_of_none E x y old new f = record { may = f.may; failed = f.failed }
 
--- an output to memory ends early by lack of memory, or since the source changed
+-- an output to memory ends early by a failed allocation, or since the source changed
 pub unread_of : (fault : OutFault) → IsUnreadable (problem_of_out fault)
 unread_of (outs.Read sent) = inl refl
 unread_of (outs.Write sent) = inr refl

@@ -23,13 +23,13 @@ pub record IsFixityOf (bytes text : List ℕ) : Type 0 where
   pub are : AreDigested bytes rows judged
   pub lines : text ≡ fixity_text rows judged
 
--- a growth of the memory was refused, or this is the first fault of the bytes
+-- an allocation failed, or this is the first fault of the bytes
 abbrev pub IsRefusedFor : List ℕ → Problem → Type 0
 IsRefusedFor bytes problem =
     (problem ≡ problems.Memory)
     ⊎ ((fault : Fault) × (problem ≡ problems.Fault fault) × ((fault.kind ≡ NoMemory) ⊎ IsFaultOf bytes fault))
 
--- the source's bytes aren't what they were, or a growth of the memory was refused
+-- the source's bytes aren't what they were, or an allocation failed
 abbrev pub IsUnreadable : Problem → Type 0
 IsUnreadable problem = (problem ≡ problems.Changed) ⊎ (problem ≡ problems.Memory)
 

@@ -30,7 +30,7 @@ pub enum Problem {
     /// The bytes are no longer what they were when the archive was opened.
     Changed,
 
-    /// A growth of the memory was refused.
+    /// An allocation failed.
     Memory,
 
     /// The text is no date.

@@ -32,14 +32,14 @@ fn add<O: EntryList, A: Allocator + Copy>(
     match parts.add(typed, start, len) {
         Ok(()) => Ok(()),
         Err(refused) => {
-            // What was added is taken back, which takes no memory.
+            // What was added is taken back, which doesn't allocate.
             index.truncate(position);
             Err(refused)
         }
     }
 }
 
-/// Keeps the first `count` records. It takes no memory.
+/// Keeps the first `count` records. It doesn't allocate.
 fn keep_first<O: EntryList, A: Allocator + Copy>(
     index: &mut RecordIndex<O, A>,
     parts: &mut Parts<A>,
@@ -88,7 +88,7 @@ impl<A: Allocator + Copy> RecordLookup<Unordered<A>, A> {
         }
     }
 
-    /// Puts the records in order. It takes no memory.
+    /// Puts the records in order. It doesn't allocate.
     pub fn into_lookup(self) -> Lookup<A>
         ensures index { result.index ≡ self.index }
         ensures parts { result.parts ≡ self.parts }

@@ -52,7 +52,7 @@ impl<A: Allocator> Block<A> {
         self.slots.len()
     }
 
-    /// The slots of a vector. It takes no memory.
+    /// The slots of a vector. It doesn't allocate.
     pub(crate) fn of(slots: Vec<Slot, A>) -> Block<A>
         ensures { result.list ≡ slots.items }
     {

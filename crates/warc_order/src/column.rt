@@ -84,7 +84,7 @@ impl<T: Copy, A: Allocator + Copy> Column<T, A> {
         }
     }
 
-    /// Keeps the first `count` values. It takes no memory.
+    /// Keeps the first `count` values. It doesn't allocate.
     pub fn truncate(&mut self, count: usize)
         ensures { IsCutTo self.old self.new count }
     {

@@ -173,7 +173,7 @@ impl<A: Allocator + Copy> Entries<A> {
         Ok(())
     }
 
-    /// Keeps the first `count` entries. It takes no memory.
+    /// Keeps the first `count` entries. It doesn't allocate.
     pub fn truncate(&mut self, count: usize)
         ensures { self.new ≡ take count self.old }
     {

@@ -24,7 +24,7 @@ pub trait EntryList: HasEntries {
             ≡ Self.entries self.old ++ entry_of text.now mark position ∷ []) }
         ensures err { OnErr result (Self.entries self.new ≡ Self.entries self.old) };
 
-    /// Keeps the entries of the first `count` positions. It takes no memory.
+    /// Keeps the entries of the first `count` positions. It doesn't allocate.
     fn truncate(&mut self, count: usize)
         ensures { Self.entries self.new ≡ filter (λ e. nat_lt e.position count) (Self.entries self.old) };
 }

@@ -11,12 +11,12 @@
 //! same as after adding them to an order one by one, in about half the time or less. Each addition reserves the memory
 //! that this takes.
 //!
-//! Each look-up halves, and takes no memory; a step from an entry to the next doesn't halve. An entry takes 8 bytes and
-//! its text, and 8 bytes of the order, also while it waits. A mark's two numbers take 4 and 8 bytes more, each from the
-//! first entry on whose number isn't 0, and a position 4 bytes more, from the first entry on whose position isn't its
-//! index. If entries are added one by one, an entry takes up to about 16 bytes of the order, which is kept in blocks
-//! between half full and full. The first addition to an order that was filled at once cuts it into such blocks, which
-//! takes memory once.
+//! Each look-up halves, and doesn't allocate; a step from an entry to the next doesn't halve. An entry takes 8 bytes
+//! and its text, and 8 bytes of the order, also while it waits. A mark's two numbers take 4 and 8 bytes more, each from
+//! the first entry on whose number isn't 0, and a position 4 bytes more, from the first entry on whose position isn't
+//! its index. If entries are added one by one, an entry takes up to about 16 bytes of the order, which is kept in
+//! blocks between half full and full. The first addition to an order that was filled at once cuts it into such blocks,
+//! which takes memory once.
 #![tactic(auto)]
 
 ghost use Rattle.std.specs.Prelude.{◌≡◌, ℕ, ◌+◌, ◌<◌, [], ◌∷◌, ◌++◌, length, filter, nat_lt, OnOk, OnErr, IfOk, IfSome};
@@ -101,7 +101,7 @@ impl<A: Allocator + Copy> Unordered<A> {
         Ok(())
     }
 
-    /// Keeps the entries of the first `count` positions: those whose positions are below it. It takes no memory.
+    /// Keeps the entries of the first `count` positions: those whose positions are below it. It doesn't allocate.
     pub fn truncate(&mut self, count: usize)
         ensures { self.new ≡ filter (λ e. nat_lt e.position count) self.old }
     {
@@ -110,7 +110,7 @@ impl<A: Allocator + Copy> Unordered<A> {
         self.waiting.keep_below(kept);
     }
 
-    /// Puts the entries in order. It takes no memory.
+    /// Puts the entries in order. It doesn't allocate.
     pub fn into_order(self) -> Order<A>
         ensures { result ≡ self }
     {
@@ -179,7 +179,7 @@ impl<A: Allocator + Copy> Order<A> {
         Ok(())
     }
 
-    /// Keeps the entries of the first `count` positions: those whose positions are below it. It takes no memory.
+    /// Keeps the entries of the first `count` positions: those whose positions are below it. It doesn't allocate.
     pub fn truncate(&mut self, count: usize)
         ensures { self.new ≡ filter (λ e. nat_lt e.position count) self.old }
     {
@@ -237,7 +237,7 @@ impl<A: Allocator + Copy> Order<A> {
         self.entries.text(found.index as usize)
     }
 
-    /// The text of the entry with a position, `None` if no entry has it. It halves, and takes no memory.
+    /// The text of the entry with a position, `None` if no entry has it. It halves, and doesn't allocate.
     pub fn text_at(&self, position: usize) -> Option<&[u8]>
         ensures some { IfSome result (λ text. IsTextAt self.now position text.now) }
         ensures none { IfNone result (IsNone self.now (HasPosition position)) }

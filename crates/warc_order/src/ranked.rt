@@ -476,7 +476,7 @@ impl<A: Allocator + Copy> Ranked<A> {
         }
     }
 
-    /// Slots that are in order already, as one block. It takes no memory.
+    /// Slots that are in order already, as one block. It doesn't allocate.
     pub(crate) fn whole(slots: Vec<Slot, A>, mut blocks: Vec<Block<A>, A>) -> Ranked<A>
         requires none { blocks.items ≡ [] }
         requires room { 0 < length slots.items → 0 < vec_capacity blocks }
@@ -568,7 +568,7 @@ impl<A: Allocator + Copy> Ranked<A> {
         previous_in(&self.blocks, order, slot, place)
     }
 
-    /// Drops the indices from a number on. It takes no memory.
+    /// Drops the indices from a number on. It doesn't allocate.
     pub fn keep_below(&mut self, count: usize)
         ensures { self.new.list ≡ filter (λ e. nat_lt e.index count) self.old.list }
     {

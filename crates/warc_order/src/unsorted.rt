@@ -9,7 +9,7 @@ use crate::slot::{Slot, SlotOrder};
 use std::alloc::{AllocError, Allocator};
 use std::marker::Model;
 
-/// Sorts slots. It takes no memory.
+/// Sorts slots. It doesn't allocate.
 fn sort<O: SlotOrder>(slots: &mut [Slot], order: &O)
     ensures ranked { IsRanked (O.compare order.now) slots.new }
     ensures members { IsPermutation slots.old slots.new }
@@ -18,7 +18,7 @@ fn sort<O: SlotOrder>(slots: &mut [Slot], order: &O)
 }
 
 /// Slots as they came, one after another. The vector becomes the one block of their order, for which there is a place:
-/// so putting them in order takes no memory.
+/// so putting them in order doesn't allocate.
 #[derive(Drop)]
 pub(crate) struct Waiting<A: Allocator> {
     slots: Vec<Slot, A>,
@@ -69,7 +69,7 @@ impl<A: Allocator + Copy> Waiting<A> {
         self.slots.push_reserved(slot);
     }
 
-    /// Drops the slots from an index on. It takes no memory.
+    /// Drops the slots from an index on. It doesn't allocate.
     pub(crate) fn keep_below(&mut self, count: usize)
         ensures { self.new.list ≡ filter (λ e. nat_lt e.index count) self.old.list }
     {

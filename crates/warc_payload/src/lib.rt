@@ -110,9 +110,9 @@ pub fn front(block: &[u8]) -> &[u8]
     &block[..MOST_HEAD_BYTES.min(block.len())]
 }
 
-/// The head of an HTTP/1.0 or HTTP/1.1 response at the beginning of `text`, which is the block's first
-/// 65,536 bytes, or the whole block if that is shorter (RFC 9112, sections 2 to 5). `BadHead`
-/// if there is no whole head of at most 256 field lines. It takes no memory.
+/// The head of an HTTP/1.0 or HTTP/1.1 response at the beginning of `text`, which is the block's first 65,536 bytes, or
+/// the whole block if that is shorter (RFC 9112, sections 2 to 5). `BadHead` if there is no whole head of at most 256
+/// field lines. It doesn't allocate.
 pub fn body_start(text: &[u8]) -> Result<HeadInfo, BadHead>
     requires { length text.now ≤ most_head_bytes }
     ensures found { IfOk result (λ info. (head : ResponseHead) × IsInfoOf text.now info head) }
@@ -145,7 +145,7 @@ pub struct StoredHead<A: Allocator = Global> {
 pub enum HeadFault {
     /// There is no whole head of at most 256 field lines at the beginning.
     Bad,
-    /// A growth of the memory was refused.
+    /// An allocation failed.
     Memory,
 }
 

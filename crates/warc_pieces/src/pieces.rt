@@ -245,9 +245,9 @@ impl<S: Source, A: Allocator + Copy> Pieces<S, A> {
 
     /// The next piece, or none at the end of the source.
     ///
-    /// A failed read or want of memory is reported after the good records before it, which are a piece; so is a byte at
-    /// offset 2^48, by F12 TooLong, after all pieces before it. Damage whose end isn't known isn't given. Whatever was
-    /// reported is reported again by each later call.
+    /// A failed read or a failed allocation is reported after the good records before it, which are a piece; so is a
+    /// byte at offset 2^48, by F12 TooLong, after all pieces before it. Damage whose end isn't known isn't given.
+    /// Whatever was reported is reported again by each later call.
     pub fn next(&mut self) -> Result<Option<Piece>, Fault>
         ensures gives { IfHeld (S.seen self.old.source).holds (λ bytes. (pieces : List Given)
             → AreGiven bytes self.old.at self.old.failure pieces

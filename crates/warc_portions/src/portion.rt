@@ -41,7 +41,7 @@ fn head_text<A: Allocator + Copy>(
     Ok(text)
 }
 
-/// The record of these fields whose block is at this place. It fails only if memory is refused.
+/// The record of these fields whose block is at this place. It fails only if an allocation fails.
 pub(crate) fn portion_of<A: Allocator + Copy>(
     alloc: A,
     version: Version,

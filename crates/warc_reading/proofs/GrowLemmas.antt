@@ -453,7 +453,7 @@ module _ (start : ℕ) (old mid : SeenSource) (taken : List ℕ) (has : HasGiven
 
 -- ---- the whole answer
 
--- memory was refused before the first read
+-- an allocation failed before the first read
 pub grows_untried : {X : Type 0} {Is : List ℕ → X → Type 0} (start : ℕ) (was : X) (old : SeenSource) → ((bytes : List ℕ) → Is bytes was → start ≡ length bytes) → Grows Is was old old (Err (fault Memory start))
 grows_untried start was old at = record {
   whole = λ bytes more is held. record {
@@ -563,7 +563,7 @@ front_rows {L} {K} old new l none rows (Err f) empty_rows begins opens stops byt
     let P : List Row → Type 0 = λ xs. IsKeptOf K [] (xs, l) in
     stops [] bytes (subst P (sym empty_rows) (none_kept K l begins)) held
 
--- memory was refused before the first read
+-- an allocation failed before the first read
 pub front_untried : (bytes : List ℕ) (rows : List Row) → rows ≡ [] → AreFrontRows bytes (Err (fault Memory 0)) rows
 front_untried bytes rows none = let P : List Row → Type 0 = λ xs. IsLongestFront (take 0 bytes) xs in subst P (sym none) none_read
 

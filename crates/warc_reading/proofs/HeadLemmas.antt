@@ -46,7 +46,7 @@ pub read_or_memory : {X : Type 0} (r : Result X EarlyFault) (P : X → Type 0) �
 read_or_memory (Ok x) P is = is
 read_or_memory (Err e) P is = tt
 
--- want of memory isn't a failure of the source
+-- a failed allocation isn't a failure of the source
 pub only_memory : {X : Type 0} (r : Result X EarlyFault) (P : X → Type 0) (old new : ℕ)
     → MatchResult r P (λ fault. fault ≡ Memory) → new ≡ old → HasFailedBy (early_result r) old new
 only_memory (Ok x) P old new is same = same

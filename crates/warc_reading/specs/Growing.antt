@@ -12,7 +12,7 @@ IsDeviceFault f = (f.kind ≡ Read) ⊎ (f.kind ≡ Memory)
 -- growing by a source: over one that begins with the bytes of which something was right, it gives what opening it
 -- gives, and at most one read is made for each byte after them, and one; before a read fault at most one for each of
 -- those before it, and one. A source that isn't longer than those bytes adds nothing. What any source gives is right
--- for those bytes with more after them, lack of memory is reported at their end or after it, the first read is at
+-- for those bytes with more after them, a failed allocation is reported at their end or after it, the first read is at
 -- their end, and reading is as in opening
 pub record Grows {X : Type 0} (Is : List ℕ → X → Type 0) (was : X) (old new : SeenSource) (answer : Result X Fault)
     : Type 0 where

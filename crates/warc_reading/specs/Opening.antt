@@ -30,7 +30,7 @@ pub record IsUntried (start : ℕ) (old new : SeenSource) (offset : ℕ) : Type 
   pub front : offset ≡ start
   pub same : new ≡ old
 
--- why bytes aren't read from an offset on: a read or a growth of the memory failed, or else this is their first fault
+-- why bytes aren't read from an offset on: a read or an allocation failed, or else this is their first fault
 abbrev pub RefusesFrom : ℕ → FaultKind → List ℕ → SeenSource → SeenSource → Fault → Type 0
 RefusesFrom start Read bytes old new f = IsUnread bytes f.offset
 RefusesFrom start Memory bytes old new f = IsUntried start old new f.offset ⊎ IsUnkept bytes new.asked f.offset

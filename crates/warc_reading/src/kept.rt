@@ -28,7 +28,7 @@ pub trait Keep<A: Allocator> {
         ensures { result ≡ takes head.now };
 
     /// Keeps what is needed of the next record, by its position, its head, where its block begins, how long it is, and
-    /// what took its bytes. If memory is refused, it keeps what it kept of the records before.
+    /// what took its bytes. If an allocation fails, it keeps what it kept of the records before.
     fn keep(
         &mut self,
         alloc: A,
@@ -45,7 +45,7 @@ pub trait Keep<A: Allocator> {
             OnErr result (keeps self.new records) };
 
     /// Keeps what is needed of the next record, by its position, the record as it was read in place, whose head is one
-    /// that it takes, and where its block begins. If memory is refused, it keeps what it kept of the records before.
+    /// that it takes, and where its block begins. If an allocation fails, it keeps what it kept of the records before.
     fn keep_plain(
         &mut self,
         alloc: A,
@@ -61,7 +61,7 @@ pub trait Keep<A: Allocator> {
         ensures err { (records : List Placed) → keeps self.old records → position ≡ length records →
             OnErr result (keeps self.new records) };
 
-    /// Forgets all but the first `count` records. It takes no memory.
+    /// Forgets all but the first `count` records. It doesn't allocate.
     fn truncate(&mut self, count: usize)
         ensures { (records : List Placed) → keeps self.old records → keeps self.new (take count records) };
 

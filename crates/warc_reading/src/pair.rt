@@ -44,7 +44,7 @@ impl<K: Keep<A>, L: Keep<A, Block = NoBlock>, A: Allocator + Copy> Keep<A> for K
         {
             Ok(()) => Ok(()),
             Err(refused) => {
-                // What was kept is taken back, which takes no memory.
+                // What was kept is taken back, which doesn't allocate.
                 self.second.truncate(position);
                 Err(refused)
             }
@@ -62,7 +62,7 @@ impl<K: Keep<A>, L: Keep<A, Block = NoBlock>, A: Allocator + Copy> Keep<A> for K
         match self.first.keep_plain(alloc, position, found, block_start) {
             Ok(()) => Ok(()),
             Err(refused) => {
-                // What was kept is taken back, which takes no memory.
+                // What was kept is taken back, which doesn't allocate.
                 self.second.truncate(position);
                 Err(refused)
             }

@@ -246,7 +246,7 @@ impl<A: Allocator + Copy> Rows<A> {
         }
     }
 
-    /// Adds a row after the others. If memory is refused, no row is added, and no part of its text. A row that
+    /// Adds a row after the others. If an allocation fails, no row is added, and no part of its text. A row that
     /// doesn't fit an entry is refused in the same way; each row of an archive fits (law `rows_fit`).
     #[inline(always)]
     pub fn push(&mut self, row: &Row<'_>) -> Result<(), AllocError>
@@ -271,7 +271,7 @@ impl<A: Allocator + Copy> Rows<A> {
 }
 
 impl<A: Allocator> Rows<A> {
-    /// Keeps the first `count` rows. It takes no memory.
+    /// Keeps the first `count` rows. It doesn't allocate.
     pub fn truncate(&mut self, count: usize)
         ensures { self.new ≡ take count self.old }
     {
@@ -340,7 +340,7 @@ impl<A: Allocator> Rows<A> {
     }
 }
 
-/// Each row of an archive fits an entry after the texts of those before it: for none of them lack of memory is
+/// Each row of an archive fits an entry after the texts of those before it: for none of them a failed allocation is
 /// reported because of a limit.
 pub fn rows_fit()
     ensures { RowsFit }

@@ -158,7 +158,7 @@ impl<A: Allocator + Copy, B: TakeBlock, L: Keep<A, Block = B> + Drop> StreamStat
             {
                 Ok(()) => {}
                 Err(refused) => {
-                    // The row is taken back, which takes no memory.
+                    // The row is taken back, which doesn't allocate.
                     self.rows.truncate(position);
                     return Err(refused);
                 }
@@ -204,7 +204,7 @@ impl<A: Allocator + Copy, B: TakeBlock, L: Keep<A, Block = B> + Drop> StreamStat
         match self.beside.keep_plain(alloc, position, found, block_start) {
             Ok(()) => Ok(()),
             Err(refused) => {
-                // The row is taken back, which takes no memory.
+                // The row is taken back, which doesn't allocate.
                 self.rows.truncate(position);
                 Err(refused)
             }

@@ -61,7 +61,7 @@ chosen_more (o ∷ os) x = ap (λ l. o.chosen ∷ l) (chosen_more os x)
 pub take_next : (xs : List ℕ) (i x : ℕ) → i < length xs → x ≡ get_or xs i 0 → take i xs ++ x ∷ [] ≡ take (i + 1) xs
 take_next xs i x within is = ap (λ y. take i xs ++ y ∷ []) is ∙ sym (take_more xs i 0 within)
 
--- a refusal for want of memory
+-- a refusal because an allocation failed
 pub memory_early : {X : Type 0} (r : Result X OutFault) → IfErr r (λ fault. fault ≡ outs.Memory 0) → IfErr r (λ e. IsEarly (Out e))
 memory_early (Ok x) is = tt
 memory_early (Err e) is = subst (λ (f : OutFault). IsEarly (Out f)) (sym is) refl

@@ -135,7 +135,7 @@ pub judged_next : (answer : Result (Unit {0}) OutFault) (records : List Record) 
 judged_next (Ok u) records n old new fields verdict value knows known are at value_is added = (known, judged_more records n old new fields verdict value are at value_is added)
 judged_next (Err e) records n old new fields verdict value knows known are at value_is added = tt
 
--- memory is refused, and no read failed
+-- an allocation fails, and no read failed
 pub next_memory : {Expected : List ℕ → Type 0} {old new : SeenSource} (answer : Result (Unit {0}) OutFault) → IfErr answer (λ fault. fault ≡ outs.Memory 0) → new.faults ≡ old.faults
     → FailsBy Expected answer old new
 next_memory {Expected} {old} {new} (Ok u) is same = record { may = same; failed = λ bytes held expected. same }

@@ -32,7 +32,7 @@ spells_there bytes text p row len has same end text_is =
     let is : text ≡ take has.len (drop p.offset bytes) = text_is ∙ ap (λ q. take len (drop q bytes)) at ∙ ap (λ k. take k (drop p.offset bytes)) n in
     subst (λ t. Spells p.content t) (sym is) has.spells
 
--- where a record is read, only lack of memory is a fault
+-- where a record is read, only a failed allocation is a fault
 pub memory_reported : (kind : FaultKind) (offset : ℕ) (P : Type 0) → (P → ⊥) → OrMemory kind offset P → kind ≡ NoMemory
 memory_reported NoMemory offset P never is = refl
 memory_reported kind offset P never is = absurd (never is)
@@ -55,7 +55,7 @@ taken_by (Err NoRecord) p is end = absurd end
 taken_by (Err Read) p is end = refl
 taken_by (Err Memory) p is end = refl
 
--- want of memory isn't a failure of the source
+-- a failed allocation isn't a failure of the source
 pub read_is : (r : Result Record TakeFault) (wanted : Record) → MatchResult r (λ x. x ≡ wanted) (λ e. e ≡ Memory) → IfOk r (λ x. x ≡ wanted)
 read_is (Ok x) wanted is = is
 read_is (Err e) wanted is = tt

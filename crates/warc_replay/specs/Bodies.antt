@@ -56,7 +56,7 @@ body_result (Err NoRecord) = Ok tt
 body_result (Err NoCapture) = Ok tt
 body_result (Err (Replay fault)) = out_result {X = Answer} (Err fault)
 
--- nothing goes out where there is no record or no capture, before a reason, or before memory is refused, whatever the
+-- nothing goes out where there is no record or no capture, before a reason, or before an allocation fails, whatever the
 -- source holds
 abbrev pub IsSilentAt : {X : Type 0} → Result X BodyFault → Option (List ℕ) → Option (List ℕ) → Type 0
 IsSilentAt (Ok x) old new = ⊤

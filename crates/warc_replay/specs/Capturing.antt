@@ -148,7 +148,7 @@ pub record IsOriginIn (bytes : List ℕ) (records : List Placed) (position : ℕ
   pub at : IsOriginAt records position http content_type places
   pub series : IsSharedAt records position (Some shared) places
 
--- what is stored of the origin at a position, or a reason; nothing where a read or a growth of the memory failed
+-- what is stored of the origin at a position, or a reason; nothing where a read or an allocation failed
 abbrev pub IsStoredFound : {A : Type 0} → List Record → ℕ → Result (Stored A) ReplayFault → Type 0
 IsStoredFound records position (Ok s) = IsStoredAt records position (Ok (stored_seen s))
 IsStoredFound records position (Err (Reason why)) = IsStoredAt records position (Err why)

@@ -60,7 +60,7 @@ abbrev pub IsSharedBy : List PlacedRecord → PlacedRecord → Option Shared →
 IsSharedBy all r None places = ⊤
 IsSharedBy all r (Some shared) places = IsSharedFrom all r shared places
 
--- the places of what is joined to a record, and their series; or the gap, or lack of memory
+-- the places of what is joined to a record, and their series; or the gap, or a failed allocation
 abbrev pub IsJoinedOnce : {A : Type 0} → List PlacedRecord → PlacedRecord → Result (Joined A) JoinFault → Type 0
 IsJoinedOnce all r (Ok joined) =
     (joined_places all r ≡ Ok joined.places.items) × IsSharedBy all r joined.shared joined.places.items

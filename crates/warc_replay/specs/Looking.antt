@@ -26,8 +26,8 @@ use Rattle.warc_replay.specs.Outcomes.{IsFrontAt, judged_seen, stored_text}
 use Rattle.warc_replay.specs.Replaying.{IsOfOrigin, origin_joined, reads_of}
 use Rattle.warc_replay.specs.declared.replay.stored.Look.{Look}
 
--- what is stored of the origin at a position, and the places of what is joined; a reason, or nothing where a read or a
--- growth of the memory failed
+-- what is stored of the origin at a position, and the places of what is joined; a reason, or nothing where a read or an
+-- allocation failed
 abbrev pub IsLook : {A : Type 0} → List ℕ → List Record → ℕ → Result (Look A) ReplayFault → Type 0
 IsLook bytes records position (Ok l) =
     IsStoredAt records position (Ok (stored_seen l.stored))

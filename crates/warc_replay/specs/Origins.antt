@@ -40,7 +40,7 @@ abbrev pub placed_by : Row → Reading → PlacedRecord
 placed_by row head = record { head = head; place = place_in row head.wanted }
 
 -- what is kept of an origin whose head says this, and has this `Content-Type`: whether it is an HTTP response, and what
--- is joined to it among these records; or the gap as a reason, or nothing where a read or a growth of the memory failed
+-- is joined to it among these records; or the gap as a reason, or nothing where a read or an allocation failed
 abbrev pub IsOriginBy : {A : Type 0} → List PlacedRecord → Row → Reading → List ℕ → Result (Origin A) ReplayFault
     → Type 0
 IsOriginBy all row head content_type (Ok o) =
@@ -98,7 +98,7 @@ pub record IsGapAt (records : List Placed) (position : ℕ) (gap : Gap) : Type 0
   pub there : slice_get records position ≡ Some placed
   pub gap_is : joined_places (map placed_record records) (placed_record placed) ≡ Err gap
 
--- the origin at a position; or its gap, or nothing where a read or a growth of the memory failed
+-- the origin at a position; or its gap, or nothing where a read or an allocation failed
 abbrev pub IsOriginFound : {A : Type 0} → List Placed → ℕ → Result (Origin A) ReplayFault → Type 0
 IsOriginFound records position (Ok o) = IsOriginAt records position o.http o.content_type.items o.places.items
 IsOriginFound records position (Err (Reason why)) = (gap : Gap) × (why ≡ Segments gap) × IsGapAt records position gap

@@ -12,8 +12,7 @@ use Rattle.warc_replay.specs.declared.fault.TakeFault.{TakeFault}
 use Rattle.warc_replay.specs.declared.fault.TakeFault.TheVariants.{NoRecord, Read, Memory}
 use Rattle.warc_lookup.specs.RecordBytes.{IsInRecord, record_len}
 
--- the record that is there, and none where there is none; where there is one, a read or a growth of the memory may
--- fail
+-- the record that is there, and none where there is none; where there is one, a read or an allocation may fail
 abbrev pub IsTaken : Option Placed → Result Record TakeFault → Type 0
 IsTaken found (Ok r) = (p : Placed) × (found ≡ Some p) × (r ≡ p.content)
 IsTaken found (Err NoRecord) = found ≡ None

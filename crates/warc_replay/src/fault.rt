@@ -17,7 +17,7 @@ pub enum TakeFault {
     /// A read failed, or the source no longer gives what it gave at opening.
     Read,
 
-    /// A growth of the memory was refused.
+    /// An allocation failed.
     Memory,
 }
 

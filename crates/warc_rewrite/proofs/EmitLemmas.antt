@@ -108,7 +108,7 @@ nothing {X} {x} = record {
   fails = fails_never refl;
 }
 
--- an end before the text, for want of memory
+-- an end before the text, because an allocation failed
 pub unkept : {X : Type 0} {All : Giving} {from : SeenSource} {to : Seen} {waits : Staged} (sent : ℕ) → sent ≡ waits.sent
     → Emits {X = X} All from from to to waits waits (Err (Memory sent))
 unkept {X} {All} {from} {to} {waits} sent is_sent = record {

@@ -13,7 +13,7 @@ pub enum JoinFault {
     /// The segments don't join.
     Gap(Gap),
 
-    /// A growth of the memory was refused.
+    /// An allocation failed.
     Memory,
 }
 

@@ -119,7 +119,7 @@ impl<A: Allocator + Copy> Parts<A> {
         Ok(())
     }
 
-    /// Keeps the first `count` records. It takes no memory.
+    /// Keeps the first `count` records. It doesn't allocate.
     pub fn truncate(&mut self, count: usize)
         ensures { (all : List PlacedRecord) → self.old ≡ kept_in all → self.new ≡ kept_in (take count all) }
     {
@@ -167,7 +167,7 @@ impl<A: Allocator + Copy> Parts<A> {
         !self.facts.is_empty()
     }
 
-    /// The position of one member of the series of a head's id, `None` if the series has none. It takes no memory.
+    /// The position of one member of the series of a head's id, `None` if the series has none. It doesn't allocate.
     pub fn segment_of(&self, typed: &Typed<'_>) -> Option<usize>
         ensures { (all : List PlacedRecord) → self.now ≡ kept_in all → MatchOption result
             (series_of (said typed.now).id (map piece_placed all) ≡ [])

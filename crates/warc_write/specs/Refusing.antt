@@ -5,7 +5,7 @@ use Rattle.warc_write.specs.declared.segments.SplitFault.TheVariants.{NotUuid, A
 use Rattle.warc_write.specs.declared.segments.SplitFault.TheVariants.{Kind as BadKind, Size}
 use Rattle.warc_write.specs.declared.segments.SplitFault.TheVariants.{Memory, TooLong, BadDigest}
 
--- a segment is refused since its head has no room, or for lack of memory
+-- a segment is refused since its head has no room, or because an allocation failed
 abbrev pub RefusesSegment : Bool → SplitFault → Type 0
 RefusesSegment room TooLong = room ≡ false
 RefusesSegment room Memory = ⊤

@@ -159,7 +159,7 @@ split_of r n = do
   _ ← checks (not (has_bad_digest r)) BadDigest
   cut_of r uuid n
 
--- a fact of each refusal but want of memory
+-- a fact of each refusal but a failed allocation
 abbrev pub UnlessMemory : SplitFault → Type 0 → Type 0
 UnlessMemory Memory P = ⊤
 UnlessMemory fault P = P

@@ -42,7 +42,7 @@ fn converted_all<A: Allocator + Copy>(
 }
 
 /// The fields of a head as WARC 1.1 writes them, without a block in memory: each value of a `WARC-Target-URI` field is
-/// its bare text, and all else is as it was. It fails only if memory is refused.
+/// its bare text, and all else is as it was. It fails only if an allocation fails.
 pub fn convert_fields<A: Allocator + Copy>(
     alloc: A,
     fields: &Fields<A>,
@@ -52,9 +52,8 @@ pub fn convert_fields<A: Allocator + Copy>(
     converted_all(alloc, fields.as_slice())
 }
 
-/// The record as one of WARC 1.1 (ISO 28500:2017, 5.14, whose targets have no brackets): its version is
-/// 1.1, each value of a `WARC-Target-URI` field is its bare text, and all else is as it was. It fails only
-/// if memory is refused.
+/// The record as one of WARC 1.1 (ISO 28500:2017, 5.14, whose targets have no brackets): its version is 1.1, each value
+/// of a `WARC-Target-URI` field is its bare text, and all else is as it was. It fails only if an allocation fails.
 pub fn convert<A: Allocator + Copy>(alloc: A, framed: &Framed<A>) -> Result<Framed<A>, AllocError>
     ensures { IfOk result (λ new. new ≡ converted framed.now) }
 {

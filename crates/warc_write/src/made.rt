@@ -34,7 +34,7 @@ pub enum MakeFault {
     /// The head would be longer than 65,536 bytes, or the block than 2^40.
     TooLong,
 
-    /// A growth of the memory was refused.
+    /// An allocation failed.
     Memory,
 
     /// The kind isn't resource, metadata or conversion.
@@ -196,10 +196,9 @@ pub fn refusal_of_long(
     }
 }
 
-/// The record of WARC 1.1 with this kind, target, date, id and content type, and this block: the kind is
-/// resource, metadata or conversion; the id a UUID in any form that `uuid` reads, written between `<` and `>`
-/// in lower case with hyphens. It has the block's digest. The refusals come in the order M5, M1, M2, M3, and M4
-/// if memory is refused.
+/// The record of WARC 1.1 with this kind, target, date, id and content type, and this block: the kind is resource,
+/// metadata or conversion; the id a UUID in any form that `uuid` reads, written between `<` and `>` in lower case with
+/// hyphens. It has the block's digest. The refusals come in the order M5, M1, M2, M3, and M4 if an allocation fails.
 pub fn make<A: Allocator + Copy>(
     alloc: A,
     kind: Kind,

@@ -46,7 +46,7 @@ pub enum SplitFault {
     /// The size is 0.
     Size,
 
-    /// A growth of the memory was refused.
+    /// An allocation failed.
     Memory,
 
     /// A segment's head would be longer than 65,536 bytes.
@@ -149,8 +149,8 @@ fn read_kind<A: Allocator>(fields: &Fields<A>) -> Option<(Kind, bool)>
     }
 }
 
-/// The sixteen bytes of the UUID of a head that may be split into segments of `size` bytes. The refusals come
-/// in the order S4, S3, S2, S1. It takes no memory.
+/// The sixteen bytes of the UUID of a head that may be split into segments of `size` bytes. The refusals come in the
+/// order S4, S3, S2, S1. It doesn't allocate.
 pub fn splittable<A: Allocator>(fields: &Fields<A>, size: u64) -> Result<[u8; 16], SplitFault>
     ensures { splittable fields.now size ≡ result }
 {
@@ -312,8 +312,8 @@ fn next_fields<A: Allocator + Copy>(
     Ok(fields)
 }
 
-/// The fields of a segment, without a block in memory: from the fields of the record that is split, the bytes
-/// of its UUID, and what is to be said of the segment. It fails only if memory is refused.
+/// The fields of a segment, without a block in memory: from the fields of the record that is split, the bytes of its
+/// UUID, and what is to be said of the segment. It fails only if an allocation fails.
 pub fn segment_head<A: Allocator + Copy>(
     alloc: A,
     given: &Fields<A>,
@@ -452,9 +452,8 @@ fn whole<A: Allocator + Copy>(alloc: A, framed: &Framed<A>) -> Result<Vec<Framed
     Ok(all)
 }
 
-/// The record cut into segments of `size` bytes, each of the record's version; the record itself if its
-/// block has no more bytes. The refusals come in the order S4, S3, S2, S1, S7, S6, and S5 if memory is
-/// refused.
+/// The record cut into segments of `size` bytes, each of the record's version; the record itself if its block has no
+/// more bytes. The refusals come in the order S4, S3, S2, S1, S7, S6, and S5 if an allocation fails.
 pub fn split<A: Allocator + Copy>(
     alloc: A,
     framed: &Framed<A>,

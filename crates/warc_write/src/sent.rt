@@ -83,9 +83,9 @@ fn put_records<A: Allocator, W: Sink>(
     Ok(())
 }
 
-/// Writes the canonical texts of records, in their order: names in their case, each version as it is. It takes
-/// no memory, so it fails only if a write failed, and returns `Write` with the number of bytes that
-/// went out, up to 2^64 - 1.
+/// Writes the canonical texts of records, in their order: names in their case, each version as it is. It doesn't
+/// allocate, so it fails only if a write failed, and returns `Write` with the number of bytes that went out, up to 2^64
+/// - 1.
 pub fn render<A: Allocator, W: Sink>(records: &[Framed<A>], out: &mut W) -> Result<(), OutFault>
     ensures { SendsText (W.seen out.old) (W.seen out.new) result (canonical_texts records.now) }
 {

@@ -106,7 +106,7 @@ impl<S: Source, A: Allocator> Archive<S, A> {
 
 impl<S: Source, A: Allocator + Copy> Archive<S, A> {
     /// Reads the source as a listing is read, and keeps with the rows what finds the records and joins their segments.
-    /// Once all is read it is put in order, which takes no memory.
+    /// Once all is read it is put in order, which doesn't allocate.
     pub fn open(alloc: A, source: S) -> Result<Archive<S, A>, (Fault, S)>
         ensures { Opens IsIndexed (S.seen source) (S.seen (source_left (λ a. a.listing.source) result))
             (without_source (λ a. a) result) }
@@ -188,7 +188,7 @@ impl<S: Source, A: Allocator + Copy> Archive<S, A> {
     /// kept: it goes through a buffer of 8,192 bytes.
     ///
     /// A read that fails, or a source that no longer gives what it gave at opening, is `Read`; a write that fails is
-    /// `Write`. Each says how many bytes went out, which are the first of the block. It takes no memory.
+    /// `Write`. Each says how many bytes went out, which are the first of the block. It doesn't allocate.
     pub fn extract<W: Sink>(&mut self, id: &[u8], out: &mut W) -> Result<u64, ExtractFault>
         ensures extracts { Extracts self.old id.now (S.seen self.old.listing.source)
             (S.seen self.new.listing.source) (W.seen out.old) (W.seen out.new) result }
@@ -330,7 +330,7 @@ impl<S: Source, A: Allocator + Copy> Archive<S, A> {
 
     /// Writes a line for each outcome, with ten columns: the capture's position, its date as written, its instant and
     /// its type, the position of its origin, the status, the media type and the length of the body, the reason why
-    /// there is none, and the target. It takes no memory.
+    /// there is none, and the target. It doesn't allocate.
     pub fn list_outcomes<W: Sink>(
         &self,
         outcomes: &[Outcome<A>],
@@ -392,7 +392,7 @@ impl<S: Source, A: Allocator + Copy> Archive<S, A> {
 
     /// Writes a line for each payload that has a digest and isn't good: the position of its record, `bad` or
     /// `unchecked`, the bare id, the reason why it is unchecked, `-` for none, and the digest's value, with a tab
-    /// between two; and a last line with the counts. It takes no memory.
+    /// between two; and a last line with the counts. It doesn't allocate.
     pub fn list_payloads<W: Sink>(
         &self,
         payloads: &Payloads<A>,

@@ -69,8 +69,8 @@ impl<S: Source, A: Allocator + Copy> Checked<S, A> {
     }
 
     /// Writes a line for each finding, as a listing does, and returns how many there are. The source is asked for
-    /// nothing: what ends it early is a write that fails, `Write`, or a refused growth of the memory, `Memory`. Each
-    /// has the number of bytes that went out, which are the first of the output.
+    /// nothing: what ends it early is a write that fails, `Write`, or a failed allocation, `Memory`. Each has the
+    /// number of bytes that went out, which are the first of the output.
     pub fn check<W: Sink>(&self, out: &mut W) -> Result<usize, OutFault>
         ensures reports { (bytes : List ℕ) (is : IsJudgedOf bytes self.now) →
             WritesFindings (contents is.listed.are.records) (W.seen out.old) (W.seen out.new) result }

@@ -44,7 +44,7 @@ impl<S: Source, A: Allocator> Fixity<S, A> {
     }
 
     /// Writes a line for each block that isn't good: the position of its record, `bad` or `unchecked`, the bare id and
-    /// the digest's value, `-` for none, with a tab between two; and a last line with the counts. It takes no memory.
+    /// the digest's value, `-` for none, with a tab between two; and a last line with the counts. It doesn't allocate.
     pub fn list<W: Sink>(&self, out: &mut W) -> Result<(), OutFault>
         ensures { SendsText (W.seen out.old) (W.seen out.new) result
             (fixity_text self.now.listing.rows self.now.judged) }

@@ -211,7 +211,7 @@ impl<A: Allocator + Copy> WaitingPayloads<A> {
 }
 
 impl<A: Allocator> WaitingPayloads<A> {
-    /// Adds what is known of the next payload. If memory is refused, nothing is added.
+    /// Adds what is known of the next payload. If an allocation fails, nothing is added.
     fn add(&mut self, one: &ToJudge<'_>) -> Result<(), AllocError>
         ensures ok { OnOk result ((self.new.stated ≡ self.old.stated ++ one.now.stated ∷ [])
             × (self.new.verdicts
@@ -224,7 +224,7 @@ impl<A: Allocator> WaitingPayloads<A> {
         Ok(())
     }
 
-    /// What is known of all records. The payloads that wait are hashed first. It takes no memory.
+    /// What is known of all records. The payloads that wait are hashed first. It doesn't allocate.
     pub(crate) fn into_known(self) -> KnownPayloads<A>
         ensures { result ≡ self }
     {

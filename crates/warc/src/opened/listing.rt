@@ -71,8 +71,8 @@ impl<S: Source, A: Allocator> Listing<S, A> {
         self.opened.source
     }
 
-    /// Writes a line for each record: its position and offset, the length of its block, its type,
-    /// date, id and target, with a tab between two, and `-` for an absent target. It takes no memory.
+    /// Writes a line for each record: its position and offset, the length of its block, its type, date, id and target,
+    /// with a tab between two, and `-` for an absent target. It doesn't allocate.
     pub fn list<W: Sink>(&self, out: &mut W) -> Result<(), OutFault>
         ensures { SendsText (W.seen out.old) (W.seen out.new) result (listing self.now.rows) }
     {
@@ -235,9 +235,9 @@ impl<S: Source, A: Allocator + Copy> Listing<S, A> {
     /// `1 N6`, or `- N12` for an archive without records. First each head is read again, and each block
     /// whose digest can be checked. Then the lines are written.
     ///
-    /// A read that fails, or a source that no longer gives what it gave at opening, is `Read`, and then
-    /// nothing was written. A write that fails is `Write`, and a refused growth of the memory `Memory`.
-    /// Each says how many bytes went out, which are the first of the output.
+    /// A read that fails, or a source that no longer gives what it gave at opening, is `Read`, and then nothing was
+    /// written. A write that fails is `Write`, and a failed allocation `Memory`. Each says how many bytes went out,
+    /// which are the first of the output.
     pub fn check<W: Sink>(&mut self, out: &mut W) -> Result<usize, OutFault>
         ensures checks { Checks self.old.rows (S.seen self.old.source) (S.seen self.new.source) (W.seen out.old)
             (W.seen out.new) result }
@@ -253,8 +253,7 @@ impl<S: Source, A: Allocator + Copy> Listing<S, A> {
     /// is copied from the source.
     ///
     /// A read that fails, or a source that no longer gives what it gave at opening, is `Read`; a write that fails is
-    /// `Write`, and a refused growth of the memory `Memory`. Each says how many bytes went out, which are the first of
-    /// the output.
+    /// `Write`, and a failed allocation `Memory`. Each says how many bytes went out, which are the first of the output.
     pub fn write_as<W: Sink>(&mut self, form: Form, out: &mut W) -> Result<(), OutFault>
         ensures writes { Writes form self.old.rows (S.seen self.old.source) (S.seen self.new.source)
             (W.seen out.old) (W.seen out.new) result }
@@ -271,13 +270,13 @@ impl<S: Source, A: Allocator + Copy> Listing<S, A> {
     }
 
     /// Writes the records anew, in their order, each split into segments of `size` bytes, the last one shorter or
-    /// equal. A record whose block has no more bytes, or which `warc_write::split` refuses but for want of memory, is
-    /// written whole, in canonical form. No block is kept: each piece is read three times, to judge its block, for
-    /// its own digest, and to be copied.
+    /// equal. A record whose block has no more bytes, or which `warc_write::split` refuses for another reason than a
+    /// failed allocation, is written whole, in canonical form. No block is kept: each piece is read three times, to
+    /// judge its block, for its own digest, and to be copied.
     ///
     /// A read that fails, or a source that no longer gives what it gave at opening, is `Read`; a write that fails is
-    /// `Write`, and a refused growth of the memory `Memory`. Each says how many bytes went out, which are the first of
-    /// the output, up to 2^64 - 1.
+    /// `Write`, and a failed allocation `Memory`. Each says how many bytes went out, which are the first of the output,
+    /// up to 2^64 - 1.
     pub fn split<W: Sink>(&mut self, size: u64, out: &mut W) -> Result<(), OutFault>
         ensures writes { WritesSplit size self.old.rows (S.seen self.old.source) (S.seen self.new.source)
             (W.seen out.old) (W.seen out.new) result }
@@ -331,8 +330,8 @@ impl<S: Source, A: Allocator + Copy> Listing<S, A> {
 }
 
 /// Opens the good front of a source: the listing of the longest list of good records that it begins with, and the fault
-/// after these by which the whole is refused, if it is. After a failed read, or want of memory, these are the whole
-/// records before it. Nothing is skipped, and nothing is mended.
+/// after these by which the whole is refused, if it is. After a failed read, or a failed allocation, these are the
+/// whole records before it. Nothing is skipped, and nothing is mended.
 pub fn open_front<S: Source, A: Allocator + Copy>(
     alloc: A,
     source: S,

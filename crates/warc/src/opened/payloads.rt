@@ -109,7 +109,7 @@ impl<A: Allocator + Copy> Payloads<A> {
     }
 
     /// Adds how the next payload compares with its digest, and the value of that digest unless the payload is good. If
-    /// memory is refused, nothing is added.
+    /// an allocation fails, nothing is added.
     fn add(
         &mut self,
         alloc: A,

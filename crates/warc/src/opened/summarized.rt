@@ -27,7 +27,7 @@ impl<S: Source, A: Allocator> Model for Summarized<S, A> {
 }
 
 impl<S: Source, A: Allocator> Summarized<S, A> {
-    /// What the archive holds. It takes no memory.
+    /// What the archive holds. It doesn't allocate.
     pub fn summary(&self) -> Summary<'_>
         ensures { IsSummaryOf self.now.listing.rows self.now.flags result }
     {

@@ -94,7 +94,7 @@ impl<A: Allocator> Model for SurveyParts<A> {
     } };
 }
 
-/// What is kept once all records are read. The blocks that wait are hashed first. It takes no memory.
+/// What is kept once all records are read. The blocks that wait are hashed first. It doesn't allocate.
 fn into_parts<A: Allocator + Copy>(alloc: A, waiting: WaitingSurvey<A>) -> SurveyParts<A>
     ensures { (records : List Placed) → AreGathered records waiting.first waiting.second.first
         waiting.second.second.first waiting.second.second.second.first waiting.second.second.second.second.index
@@ -351,7 +351,7 @@ impl<S: Source, A: Allocator + Copy> Surveyed<S, A> {
     /// record that states the digest of its payload, which isn't known to be good.
     ///
     /// A read that fails, or a source that doesn't give what it gave, is `Read`; a write that fails is `Write`, and a
-    /// refused growth of the memory `Memory`. Each has the number of bytes that went out, the first of the output.
+    /// failed allocation `Memory`. Each has the number of bytes that went out, the first of the output.
     pub fn write<W: Sink>(&mut self, out: &mut W) -> Result<(), OutFault>
         ensures writes { WritesSurvey self.old.listing.rows self.old.kept (S.seen self.old.listing.source)
             (S.seen self.new.listing.source) (W.seen out.old) (W.seen out.new) result }

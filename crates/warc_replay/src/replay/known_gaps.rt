@@ -91,8 +91,8 @@ fn recalled<A: Allocator>(
     }
 }
 
-/// Keeps the gap that was found of the series of a segment after a first segment of this length. If memory is refused,
-/// nothing changes.
+/// Keeps the gap that was found of the series of a segment after a first segment of this length. If an allocation
+/// fails, nothing changes.
 fn keep<A: Allocator + Copy>(
     table: &mut BTreeMap<(usize, u64), Gap, A>,
     segment: usize,

@@ -72,7 +72,7 @@ pub(crate) fn take_known<A: Allocator>(
     }
 }
 
-/// Keeps a series that blocks are joined from. If memory is refused, it is put in order again.
+/// Keeps a series that blocks are joined from. If an allocation fails, it is put in order again.
 pub(crate) fn keep_known<A: Allocator + Copy>(
     series: &mut BTreeMap<usize, KnownSeries<A>, A>,
     shared: Shared,
