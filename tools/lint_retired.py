@@ -7,11 +7,13 @@ import re
 import tokenize
 from collections.abc import Iterator
 
+OF_MEMORY = r"(?:lack|want)\s+of\s+memory|growth\s+of\s+the\s+memory|(?:it|and|which)\s+takes\s+no\s+memory"
 WORDS = re.compile(
-    r"\b(?:tells|told|stands|behind|lies|so\s+many|that\s+of\s+the|of\s+one\s+kind|whichever)\b", re.IGNORECASE
+    rf"\b(?:tells|told|stands|behind|lies|so\s+many|that\s+of\s+the|of\s+one\s+kind|whichever|{OF_MEMORY})\b",
+    re.IGNORECASE,
 )
 # Those of crates/. The others wait there for what proves their crates anew, since a comment does that too.
-OF_CRATES = re.compile(r"(?<!-)\b(?:tells|told|stands|behind|lies)\b", re.IGNORECASE)
+OF_CRATES = re.compile(rf"(?<!-)\b(?:tells|told|stands|behind|lies|{OF_MEMORY})\b", re.IGNORECASE)
 # What these words are right in.
 IDIOMS = re.compile(r"\btold\s+apart\b|\b(?:a\s+file\s+that|fails\s+or)\s+lies\b|\bbehind\s+a\s+proxy\b", re.IGNORECASE)
 # The page that lists the words, what is made of texts of crates/, and what isn't ours.

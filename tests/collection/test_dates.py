@@ -1,4 +1,4 @@
-"""What a date means is asked of the program. Only what it calls a bad date is one: another failure is told."""
+"""What a date means is asked of the program. Only what it calls a bad date is one: another failure is reported."""
 from __future__ import annotations
 
 import os
@@ -28,7 +28,7 @@ def test_it_is_no_date(date: str) -> None:
 
 
 @pytest.mark.parametrize("says", ["echo warc: out of memory after 0 >&2; exit 3", "exit 3", "kill -9 $$"])
-def test_another_failure_is_told(tmp_path: os.PathLike[str], says: str) -> None:
+def test_another_failure_is_reported(tmp_path: os.PathLike[str], says: str) -> None:
     with pytest.raises(Trouble) as failed:
         instant_of(script(os.path.join(tmp_path, "warc"), says), "2021")
     assert not isinstance(failed.value, BadDate)
@@ -46,7 +46,7 @@ def test_a_program_that_hangs(tmp_path: os.PathLike[str], monkeypatch: pytest.Mo
 
 
 @pytest.mark.parametrize("ways", [(), ("--whole",)])
-def test_a_replay_tells_of_it(collection: Collection, ways: Sequence[str]) -> None:
+def test_a_replay_reports_it(collection: Collection, ways: Sequence[str]) -> None:
     """A revisit that names its record by URI and date isn't called unresolved where the program couldn't be asked."""
     collection.put("disk/a.warc", record(1, b"body", URI, date=FIRST))
     collection.put("disk/b.warc", revisit(2, URI + "other", SECOND, "-", **OF_DATE))

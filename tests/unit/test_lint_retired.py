@@ -20,6 +20,7 @@ FOUND = [
     ("a.sh", "# tells\nx='# told'  # lies\n", ["a.sh:1: tells", "a.sh:2: lies"]),
     ("a.script", "# A hyphen stands.\n> as it stands\n", ["a.script:1: stands"]),
     ("a.edit", "why: it lies\nold: it lies\n", ["a.edit:1: lies"]),
+    ("crates/a/src/a.rt", "/// It takes no\n/// memory.\n", ["crates/a/src/a.rt:1: it takes no memory"]),
     ("crates/a/src/a.rt", "/// The end, or that of the text\n/// behind.\n", ["crates/a/src/a.rt:2: behind"]),
 ]
 CLEAN = [
@@ -30,6 +31,7 @@ CLEAN = [
     ("a.rt", 'fn told() { print("stands // behind") }\n'),
     ("a.warc", "# tells\n"),
     ("crates/a/src/a.rt", "/// A file that fails or lies, of one kind.\n"),
+    ("a.rt", "/// A mark takes no memory.\n"),
 ]
 
 
