@@ -28,7 +28,7 @@ fn lengths(
     Ok((before, length(alloc, archive, id)))
 }
 
-/// The same of an archive of these bytes.
+/// Calls `lengths` on an archive of these bytes.
 pub fn lengths_of(
     alloc: Global,
     old: Vec<u8>,

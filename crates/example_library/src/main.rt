@@ -59,7 +59,7 @@ fn report_replayed(
     }
 }
 
-/// The same for the bytes of an archive.
+/// Prints what `report_replayed` prints, for the bytes of an archive, or why they are refused.
 fn report_page(rt: &HostRuntime, bytes: Vec<u8>, moment: &Moment) -> io::Result<()> {
     let mut archive = match Archive::open(rt.alloc(), MemSource::new(bytes, usize::MAX)) {
         Ok(archive) => archive,
@@ -70,7 +70,7 @@ fn report_page(rt: &HostRuntime, bytes: Vec<u8>, moment: &Moment) -> io::Result<
     reported
 }
 
-/// The same for the first instant of a date.
+/// Prints what `report_page` prints, as of the first instant of a date.
 fn report_as_of(rt: &HostRuntime, bytes: Vec<u8>, date: &[u8]) -> io::Result<()> {
     match read_date(date) {
         Some(moment) => report_page(rt, bytes, &moment),

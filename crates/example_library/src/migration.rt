@@ -37,7 +37,7 @@ fn converted<S: Source>(alloc: Global, listing: &mut Listing<S>) -> Result<Vec<u
     }
 }
 
-/// The same of a listing that is let go then.
+/// What `converted` gives of a listing, which is dropped then.
 fn conversion<S: Source + Drop>(alloc: Global, mut listing: Listing<S>) -> Result<Vec<u8>, OutFault>
     ensures { IfHeld (S.seen listing.source).holds (λ bytes. (is : IsArchiveOf bytes listing.rows) → IfOk result
         (λ text. text.items ≡ texts_as Converted (contents is.are.records))) }

@@ -17,7 +17,7 @@ fn report_page(rt: &HostRuntime, bytes: Vec<u8>, moment: &Moment) -> io::Result<
     }
 }
 
-/// The same as of the first instant of a date.
+/// Prints what `report_page` prints, as of the first instant of a date.
 fn report_as_of(rt: &HostRuntime, bytes: Vec<u8>, date: &[u8]) -> io::Result<()> {
     match read_date(date) {
         Some(moment) => report_page(rt, bytes, &moment),
@@ -43,7 +43,7 @@ fn report_refused(
     }
 }
 
-/// The same of the bytes of an archive.
+/// Prints what `report_refused` prints, for the bytes of an archive.
 fn report_grown(
     rt: &HostRuntime,
     bytes: Vec<u8>,
@@ -59,7 +59,7 @@ fn report_grown(
     reported
 }
 
-/// The same of a file, and of the front of another record after it.
+/// Prints what `report_grown` prints, for a file that grows by the front of another record.
 fn report_torn(rt: &HostRuntime, moment: &Moment) -> io::Result<()> {
     let bytes = fs::read(rt, "described.warc")?;
     let mut longer = bytes.clone()?;
@@ -67,7 +67,7 @@ fn report_torn(rt: &HostRuntime, moment: &Moment) -> io::Result<()> {
     report_grown(rt, bytes, longer, moment)
 }
 
-/// The same as of the first instant of a date.
+/// Prints what `report_torn` prints, as of the first instant of a date.
 fn report_torn_as_of(rt: &HostRuntime, date: &[u8]) -> io::Result<()> {
     match read_date(date) {
         Some(moment) => report_torn(rt, &moment),

@@ -17,7 +17,7 @@ struct Names {
     target: Vec<u8>,
 }
 
-/// Those of the record of an archive at a position; of no bytes where there is none.
+/// The id and the target of the record of an archive at a position, or of no bytes if there is no such record.
 fn names_of<S: Source, A: Allocator + Copy>(
     alloc: Global,
     archive: &Archive<S, A>,

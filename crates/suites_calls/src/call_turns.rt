@@ -91,7 +91,7 @@ fn turn_once<S: Source + Drop, A: Allocator + Copy>(
     turn_of(alloc, &first, &again, whole, cause)
 }
 
-/// The same of what is opened of a source.
+/// What comes of the call of a case, as `turn_once`, on what is opened of a source.
 fn turn_opened<S: Source + Drop, A: Allocator + Copy>(
     alloc: Global,
     heap: A,

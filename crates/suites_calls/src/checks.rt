@@ -20,7 +20,7 @@ fn add_checked<S: Source>(
     answer.extend_from_slice(out.bytes())
 }
 
-/// The same of an archive that is opened for it.
+/// Adds what `add_checked` adds, for an archive that is opened of a source.
 pub(crate) fn add_check_of<S: Source + Drop>(
     alloc: Global,
     source: S,
@@ -48,7 +48,7 @@ fn add_thrice<S: Source>(
     add_number(alloc, answer, "records", archive.count() as u64)
 }
 
-/// The same of an archive of which the read of a number fails.
+/// Adds what `add_thrice` adds, for an archive of which the read of a number fails.
 pub(crate) fn add_check_thrice(
     alloc: Global,
     archive: &[u8],

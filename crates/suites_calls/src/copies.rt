@@ -105,7 +105,7 @@ struct Tried {
     anew: Copied,
 }
 
-/// The same of a source of which a read fails.
+/// Tries a source of which a read fails, as `Tried` says.
 fn try_unread(alloc: Global, source: BrokenSource) -> Tried {
     let (first, again, source) = copied_twice(alloc, alloc, source);
     let (anew, _, _) = copied_twice(alloc, alloc, source);

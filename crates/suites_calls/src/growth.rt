@@ -82,7 +82,7 @@ fn grown_unread(
     outcome_of(alloc, subject, reported, wanted)
 }
 
-/// The same of what is opened for it; nothing where it doesn't open.
+/// What `grown_unread` gives for what a case lets grow, once it is opened; `None` if it doesn't open.
 fn unread(
     alloc: Global,
     growth: Growth<'_>,
@@ -184,7 +184,7 @@ fn grown_unkept(
     Ok(request_of(outcome, has_refused, growth.bytes.len()))
 }
 
-/// The same of what is opened for it with that memory, of which the request of a number is refused.
+/// What `grown_unkept` gives for what a case lets grow, opened with a memory that refuses the request of a number.
 fn unkept(
     alloc: Global,
     growth: Growth<'_>,

@@ -43,7 +43,7 @@ pub(crate) fn add_located<E: Display + Copy, A: Allocator>(
     }
 }
 
-/// The same for the target and the date that the words of a case from the fourth on name.
+/// Adds what `add_located` adds, for the target and the date that the words of a case from the fourth on name.
 pub(crate) fn add_located_for<S: Source, A: Allocator + Copy>(
     alloc: Global,
     archive: &mut Archive<S, A>,

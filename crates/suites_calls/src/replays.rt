@@ -47,7 +47,7 @@ fn add_asked<S: Source, W: Sink>(
     add_replay(alloc, answer, reported)
 }
 
-/// Adds the same with a line that says whether the archive lists the same before and after it.
+/// Adds what `add_asked` adds, and a line that says whether the archive lists the same before and after it.
 fn add_between<S: Source, W: Sink>(
     alloc: Global,
     archive: &mut Archive<S>,
@@ -65,7 +65,7 @@ fn add_between<S: Source, W: Sink>(
     }
 }
 
-/// The same of an archive that is opened for it.
+/// Adds what `add_between` adds, for an archive that is opened of a source.
 fn add_opened<S: Source + Drop, W: Sink>(
     alloc: Global,
     source: S,

@@ -9,7 +9,7 @@ pub(crate) fn source_of(alloc: Global, bytes: &[u8], most: usize) -> Result<MemS
     Ok(MemSource::new(bytes.to_vec(alloc)?, most.max(1)))
 }
 
-/// The same, of which the read of a number fails; at 0 none does.
+/// A source of these bytes, of which a read gives `most` at most, and the read of a number fails; at 0 none does.
 pub(crate) fn broken(
     alloc: Global,
     bytes: &[u8],

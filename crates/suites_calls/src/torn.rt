@@ -48,7 +48,7 @@ fn recovers(
     Ok(is_whole(alloc, subject, whole, wanted)? && is_refused)
 }
 
-/// The same of what a word names, which is opened for it.
+/// What `recovers` gives for what a word names, once it is opened of these bytes.
 fn recovers_once_open(
     alloc: Global,
     name: &str,

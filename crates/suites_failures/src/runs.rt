@@ -71,7 +71,7 @@ pub(crate) fn run_in_pieces(
     Ok(ended)
 }
 
-/// The same where its bytes come once, in order.
+/// The run of a command over its archive, whose bytes come once, in order.
 pub(crate) fn run_streamed(alloc: Global, asked: Asked<'_>) -> Ended {
     let (ended, _) = run(alloc, alloc, asked, StreamSource::new(asked.archive));
     ended

@@ -91,7 +91,7 @@ fn add_again(index: &mut Index<Heap<'_>>, typed: &Typed<'_>) -> Option<bool> {
     (index.kept() == kept && index.add(typed).is_ok()).then_some(true)
 }
 
-/// The same of a record.
+/// Adds a record to an index, as `add_again` adds what its head says.
 fn add_head(alloc: Global, index: &mut Index<Heap<'_>>, head: &Head) -> Option<bool> {
     let fields = head.fields(alloc).ok()?;
     match type_head(&fields) {
@@ -126,7 +126,7 @@ fn push_again(index: &mut UnorderedIndex<Heap<'_>>, typed: &Typed<'_>) -> Option
     index.add(typed).is_ok().then_some(true)
 }
 
-/// The same of a record.
+/// Adds a record to those that wait to be put in order, as `push_again` adds what its head says.
 fn push_head(alloc: Global, index: &mut UnorderedIndex<Heap<'_>>, head: &Head) -> Option<bool> {
     let fields = head.fields(alloc).ok()?;
     match type_head(&fields) {
@@ -190,7 +190,7 @@ fn perform(
     }
 }
 
-/// The same where the request of that number is refused, and whether it was; at 0 none is.
+/// What `perform` gives if the request for memory of a number is refused, and whether it was; at 0 none is.
 fn perform_at(
     alloc: Global,
     records: &Records,

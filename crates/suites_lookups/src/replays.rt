@@ -78,7 +78,7 @@ fn send(
     }
 }
 
-/// The same where the blocks are read so.
+/// Reports what `send` reports, if the blocks are read as `reads` says.
 fn read_and_send(
     alloc: Global,
     origin: &Typed<'_>,
@@ -103,7 +103,7 @@ fn write_out(
     say(alloc, blocks, answer, writer.bytes())
 }
 
-/// The same of the write of that number.
+/// Reports what `write_out` reports, if the write of a number breaks.
 fn break_write(
     alloc: Global,
     origin: &Typed<'_>,

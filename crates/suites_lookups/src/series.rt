@@ -24,7 +24,7 @@ fn add_again(parts: &mut Parts<Heap<'_>>, typed: &Typed<'_>, start: u64, len: u6
     (parts.kept() == kept && parts.add(typed, start, len).is_ok()).then_some(true)
 }
 
-/// The same of a record, whose fields take their memory elsewhere.
+/// Adds a record, as `add_again` adds what its head says. Its fields take their memory from `willing`.
 fn add_head(
     parts: &mut Parts<Heap<'_>>,
     willing: Heap<'_>,
@@ -162,7 +162,7 @@ fn make_and_say<'a>(
     Ok(is_refused)
 }
 
-/// The same with parts that take their memory from a heap.
+/// Reports what `make_and_say` reports, with parts that take their memory from `heap`.
 fn perform(
     alloc: Global,
     heap: Heap<'_>,
@@ -175,8 +175,8 @@ fn perform(
     make_and_say(alloc, &mut parts, willing, records, case, reported)
 }
 
-/// The same where the request of that number is refused, and whether it was; at 0 none is. Heads take their memory
-/// elsewhere.
+/// Reports what `perform` reports if the request for memory of a number is refused, and whether it was; at 0 none is.
+/// Heads take their memory elsewhere.
 fn perform_at(
     alloc: Global,
     records: &Records,
@@ -288,7 +288,7 @@ fn add_numbers(
     Ok(())
 }
 
-/// The same with a head.
+/// Adds what `add_numbers` adds, for segments with this head.
 fn add_numbered(
     parts: &mut Parts<Heap<'_>>,
     willing: Heap<'_>,
@@ -346,7 +346,7 @@ fn add_and_say<'a>(
     say_following(alloc, &join(parts, willing, first, 1), reported)
 }
 
-/// The same with parts that hold none yet.
+/// Reports what `add_and_say` reports, with parts that hold no segment yet.
 fn say_numbered(
     alloc: Global,
     heads: (&Head, &Head),

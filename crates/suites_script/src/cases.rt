@@ -93,7 +93,7 @@ impl<'a> Case<'a> {
         self.number_in(self.word(index))
     }
 
-    /// The same, but 0 where there is no such word.
+    /// The word at an index as a number, and 0 if there is no such word. A case fails whose word isn't a number.
     pub fn optional_number(&self, index: usize) -> u64 {
         if self.word(index).is_empty() {
             0

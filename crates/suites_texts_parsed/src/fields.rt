@@ -48,7 +48,7 @@ fn say_name_twice(alloc: Global, answer: &mut Vec<u8>, text: &[u8]) -> Result<()
     say_once(alloc, answer, second)
 }
 
-/// The same of a value.
+/// Adds the answer for a value if the first request for memory is refused, and for the same value after that.
 fn say_value_twice(alloc: Global, answer: &mut Vec<u8>, text: &[u8]) -> Result<(), AllocError> {
     let heap = RefusingAllocator::new(alloc, 1);
     let first = keeps_value(&heap, text);

@@ -125,7 +125,7 @@ fn is_refused<A: Allocator + Copy>(alloc: A, fields: &Fields<A>) -> Option<bool>
     findings(alloc, fields, 3).is_ok().then_some(true)
 }
 
-/// The same of the fields of an area that are read with ample memory.
+/// What `is_refused` gives for the fields of an area, which are read with ample memory; `None` if they can't be read.
 fn is_refused_of_area<A: Allocator + Copy>(ample: A, heap: A, area: &[u8]) -> Option<bool> {
     match read_area(ample, area) {
         Ok(fields) => is_refused(heap, &fields),

@@ -10,7 +10,7 @@ fn say_bytes(answer: &mut Vec<u8>, begin: &str, text: &[u8]) -> Result<(), Alloc
     say_parts(answer, &[begin.as_bytes(), text, b"\n"])
 }
 
-/// The same of a text, if there is one.
+/// Adds a line that begins with `begin`, with a text, or `none` if there is no text.
 pub(crate) fn say_optional(
     answer: &mut Vec<u8>,
     begin: &str,
@@ -19,7 +19,7 @@ pub(crate) fn say_optional(
     say_bytes(answer, begin, text.unwrap_or(b"none"))
 }
 
-/// The same of the bytes of a key, if there is one.
+/// Adds a line that begins with `begin`, with the bytes of a key, or `none` if there is no key.
 fn say_key(answer: &mut Vec<u8>, begin: &str, key: Option<&IdKey<'_>>) -> Result<(), AllocError> {
     match key {
         Some(key) => say_bytes(answer, begin, key.bytes()),

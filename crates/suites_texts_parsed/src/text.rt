@@ -31,7 +31,7 @@ pub fn say<T: Display>(alloc: Global, answer: &mut Vec<u8>, value: &T) -> Result
     answer.extend_from_slice(shown.as_bytes())
 }
 
-/// The same on a line of its own.
+/// Adds how a value shows itself, on a line of its own.
 pub fn say_line<T: Display>(
     alloc: Global,
     answer: &mut Vec<u8>,

@@ -123,7 +123,7 @@ module _ (all : List ReadRecord) (ps : List ℕ) (are : ArePositions (length all
   abbrev series_in : List ReadRecord → ReadRecord → List Member
   series_in records r = series_of r.head.id (map piece_read records)
 
-  -- the same records are joined, where the number of the segment is this
+  -- the same records of both lists are joined to a record, if the number of its segment is this
   abbrev JoinsAlike : ReadRecord → SegmentNumber → Type 0
   JoinsAlike r n = with_members all r (joined n (length r.block) (series_in all r)) ≡ with_members part r (joined n (length r.block) (series_in part r))
 
@@ -141,6 +141,6 @@ module _ (all : List ReadRecord) (ps : List ℕ) (are : ArePositions (length all
   joins_alike r Bad series = refl
   joins_alike r (Number k) series = joins_first r k (k == 1) refl (λ one. series (ap Number one))
 
-  -- the same records are joined to it, or there is the same gap
+  -- the same records of both lists are joined to a record, or there is the same gap
   pub same_joined : (i p : ℕ) (r : ReadRecord) → IsSameRecord ps i p → slice_get all p ≡ Some r → joined_records all r ≡ joined_records part r
   same_joined i p r at there = joins_alike r r.head.segment.number (series_same i p r at there)

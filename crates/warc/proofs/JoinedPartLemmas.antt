@@ -13,7 +13,7 @@ use Rattle.warc_segment.specs.Gaps.{absent_or_total, end_of, followers, gap_of, 
 use Rattle.warc_segment.specs.Joined.{with_members}
 use Rattle.warc_segment.specs.Series.{Member, count_numbered, in_order, member_numbered, numbers_of}
 
--- the same member at another position
+-- a member, moved to another position
 abbrev pub moved : (ℕ → ℕ) → Member → Member
 moved f m = record { position = f m.position; number = m.number; total = m.total; size = m.size }
 

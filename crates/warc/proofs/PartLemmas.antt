@@ -70,7 +70,7 @@ is_slot_at {X} xs (p ∷ ps) below i = by_place (is_slot_at xs ps (All-tail (λ 
     by_place rest zero = ap (λ l. slice_get l 0) whole ∙ sym one.1
     by_place rest (suc k) = ap (λ l. slice_get l (suc k)) whole ∙ rest k
 
--- the same where it is
+-- the part has at a place what the whole has at the position of that place
 pub is_there : {X : Type 0} (xs : List X) (ps : List ℕ) → All (λ p. p < length xs) ps → (i p : ℕ) → IsSameRecord ps i p
     → slice_get (at_positions xs ps) i ≡ slice_get xs p
 is_there {X} xs ps below i p at = is_slot_at xs ps below i ∙ ap (option_and_then (slice_get xs)) at

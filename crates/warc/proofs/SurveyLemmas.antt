@@ -210,14 +210,14 @@ captures_inside rows records are p in_ =
 
 -- ---- writing a survey
 
--- the same marks and verdicts, whatever they are called
+-- a summary by marks and verdicts is one by equal marks and verdicts
 pub summary_as : {rows : List Row} {s t : List Bool} {v w : List Verdict} {x : Summary} → s ≡ t → v ≡ w → IsSummaryOf rows (flags_with s v) x → IsSummaryOf rows (flags_with t w) x
 summary_as {rows} {s} {t} {v} {w} {x} a b is =
     let P : List Bool → Type 0 = λ l. IsSummaryOf rows (flags_with l w) x in
     let Q : List Verdict → Type 0 = λ l. IsSummaryOf rows (flags_with s l) x in
     subst P a (subst Q b is)
 
--- the same positions
+-- what puts the captures at positions puts those at equal positions
 pub captures_at : {Right : List Placed → Type 0} {rows : List Row} {index : Indexes} {parts : Parts} {positions other : List ℕ} {old new : SeenSource} {before after : Seen}
     {waits waiting : Staged} {answer : Result (Unit {0}) OutFault} → positions ≡ other
     → PutsCaptures Right rows index parts positions old new before after waits waiting answer → PutsCaptures Right rows index parts other old new before after waits waiting answer

@@ -140,7 +140,7 @@ loop_or_other (Err NoReference) = inr (λ e. cc)
 loop_or_other (Err Unresolved) = inr (λ e. cc)
 loop_or_other (Err Loop) = inl refl
 
--- the same record, or the same reason
+-- both ways come to the same record, or to the same reason
 abbrev pub AreSame : List ℕ → Result ℕ Unfound → Result ℕ Unfound → Type 0
 AreSame ps (Ok p) (Ok i) = IsSameRecord ps i p
 AreSame ps (Err why) (Err other) = why ≡ other

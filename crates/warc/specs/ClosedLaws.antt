@@ -21,7 +21,7 @@ pub record AreClosed (records : List Record) (positions : List ℕ) : Type 0 whe
   pub are : ArePositions (length records) positions
   pub needs : NeedsNoOther (map read_record records) positions
 
--- ---- the same, positions aside
+-- ---- what is the same, positions aside
 
 -- the record at a place of a selection is the one at a position of the whole archive
 abbrev pub IsSameRecord : List ℕ → ℕ → ℕ → Type 0
@@ -40,7 +40,7 @@ pub record IsSameOutcome (positions : List ℕ) (part whole : CaptureSeen) : Typ
   pub given : AreSameRecord positions part.given whole.given
   pub stored : part.stored ≡ whole.stored
 
--- the same is said of a body
+-- both answers say the same of a body
 pub record IsSameAnswer (positions : List ℕ) (part whole : Answer) : Type 0 where
   pub chosen : IsSameRecord positions part.chosen whole.chosen
   pub given : IsSameRecord positions part.given whole.given
@@ -48,21 +48,21 @@ pub record IsSameAnswer (positions : List ℕ) (part whole : Answer) : Type 0 wh
   pub truncated : part.truncated ≡ whole.truncated
   pub length : part.length ≡ whole.length
 
--- the same body, with the same said of it, or the same reason
+-- both give the same body, with the same said of it, or the same reason
 abbrev pub IsSameGiven : List ℕ → Result Given Reason → Result Given Reason → Type 0
 IsSameGiven positions (Ok part) (Ok whole) = IsSameAnswer positions part.answer whole.answer × (part.body ≡ whole.body)
 IsSameGiven positions (Err why) (Err other) = why ≡ other
 IsSameGiven positions (Ok part) (Err other) = ⊥
 IsSameGiven positions (Err why) (Ok whole) = ⊥
 
--- the same is answered where a body was asked for
+-- both calls that ask for a body give the same answer, or the same fault
 abbrev pub IsSameResult : List ℕ → Result Answer BodyFault → Result Answer BodyFault → Type 0
 IsSameResult positions (Ok part) (Ok whole) = IsSameAnswer positions part whole
 IsSameResult positions (Err fault) (Err other) = fault ≡ other
 IsSameResult positions (Ok part) (Err other) = ⊥
 IsSameResult positions (Err fault) (Ok whole) = ⊥
 
--- the same where what is stored was asked for
+-- both calls that ask for what is stored give the same
 pub record IsSameBody (positions : List ℕ) (part whole : StoredAnswer) : Type 0 where
   pub chosen : IsSameRecord positions part.path.chosen whole.path.chosen
   pub given : IsSameRecord positions part.path.given whole.path.given

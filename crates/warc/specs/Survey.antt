@@ -72,7 +72,7 @@ pub record IsSurveyOf (bytes : List ℕ) (positions : List ℕ) (judged : ℕ) (
 abbrev pub IsWholeSurvey : List ℕ → Survey → Type 0
 IsWholeSurvey bytes s = IsSurveyOf bytes (capture_positions s.rows) (length s.rows) s
 
--- the same with its first captures and payloads, this many
+-- the survey of an archive, with this many of its first captures and payloads
 abbrev pub IsFrontSurvey : List ℕ → ℕ → ℕ → Survey → Type 0
 IsFrontSurvey bytes count judged s = IsSurveyOf bytes (take count (capture_positions s.rows)) judged s
 

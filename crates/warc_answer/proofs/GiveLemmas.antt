@@ -313,7 +313,7 @@ answer_of_body bytes records way path origin joined ps http start truncated len 
 pub blocks_lie : (bytes : List ℕ) (ps : List Place) → AreBlocksIn ps bytes → LieIn ps bytes
 blocks_lie bytes ps are = places_lie bytes ps are.joined are.short are.places_are
 
--- the same failure, with another value where nothing fails
+-- a source fails by a fault alike, whatever type a result without a fault has
 fault_as : (X Y : Type 0) (fault : ReplayFault) {Expected : List ℕ → Type 0} {old new : SeenSource}
     → FailsBy Expected (out_result {X = X} (Err fault)) old new → FailsBy Expected (out_result {X = Y} (Err fault)) old new
 fault_as X Y (Reason why) has = has

@@ -17,7 +17,7 @@ use Rattle.warc_frame.proofs.LawLemmas.{went_out_of_longer}
 use Rattle.warc_segment.specs.declared.place.Place.{Place}
 use Rattle.warc_answer.specs.Places.{IsInOne, LieIn, ReadsPlaces, bytes_at, len_of, text_at}
 
--- the same output
+-- what went out of an output went out of an equal one
 pub same_out : {start now : Option (List ℕ)} {a b : List ℕ} {sent : ℕ} → a ≡ b → WentOut start a now sent
     → WentOut start b now sent
 same_out {start} {now} {a} {b} {sent} same out =

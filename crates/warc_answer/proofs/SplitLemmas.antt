@@ -32,7 +32,7 @@ use Rattle.warc_answer.proofs.JudgeLemmas.{reads_once}
 
 -- ---- a text that goes on
 
--- the same, with another mark and length
+-- a stored body with another mark and length
 abbrev pub measured_as : StoredBody → Bool → ℕ → StoredBody
 measured_as s truncated length = record {
   status = s.status;

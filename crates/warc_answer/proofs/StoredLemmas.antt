@@ -64,7 +64,7 @@ said_seen {A} bytes fields places (Ok s) fine said memory = (fine, said)
 said_seen {A} bytes fields places (Err fault) fine said memory =
     subst (λ (f : ReplayFault). IsSeenIn {A = A} false fields bytes places (Err f)) (sym memory) tt
 
--- the same text, by whether it is that of an HTTP response
+-- what is stored in a text, of an HTTP response or not, is stored in an equal one
 stored_in : (http other : Bool) (fields : List Pair) (text block : List ℕ) (stored : Result StoredBody Why)
     → http ≡ other → text ≡ block → IsStoredIn http fields text stored → IsStoredIn other fields block stored
 stored_in http other fields text block stored same whole is =

@@ -33,7 +33,7 @@ HasPayload http block (Some p) = MatchBool http
     ((p.bytes ≡ block) × (p.coded ≡ false))
 HasPayload http block None = MatchBool http (HasNoHead block) ⊥
 
--- the same, where a joined block may be bad: then there is none
+-- the payload in the joined blocks of an HTTP response or of another record; none if one of the blocks is bad
 abbrev pub IsPayloadIn : Bool → Bool → List ℕ → Option StoredPayload → Type 0
 IsPayloadIn bad http block payload = MatchBool bad (payload ≡ None) (HasPayload http block payload)
 

@@ -21,7 +21,8 @@ pub record IsJoinedOn (bytes : List ℕ) (records : List Record) (found : Result
   pub http_is : http ≡ is_http_response origin.head
   pub places_are : ArePlacesOf bytes places joined
 
--- the same of a record at the end of a path and the records that are joined to it
+-- at the end of a path there is this record, these records are joined to it, and of their blocks these are the places
+-- among the bytes
 pub record IsContentOn (bytes : List ℕ) (content : Record) (joined : List ReadRecord) (places : List Place)
     : Type 0 where
   pub records : List Record

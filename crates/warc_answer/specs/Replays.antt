@@ -36,7 +36,7 @@ IsReplayOn records found (Err (Reason why)) old new = IsAnswerOn records found (
 IsReplayOn records found (Err (Out e)) old new =
     (outcome : Result Given Why) × IsAnswerOn records found outcome × WentOut old (body_of outcome) new (sent_of e)
 
--- the same for a URI as of a moment
+-- what a sink reports after a replay for a URI as of an instant
 abbrev pub IsReplay : List Record → List ℕ → Instant → Result Answer ReplayFault → Option (List ℕ) → Option (List ℕ)
     → Type 0
 IsReplay records uri moment answer old new = IsReplayOn records (path_for records uri moment) answer old new

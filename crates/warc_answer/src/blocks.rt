@@ -95,7 +95,7 @@ fn judge_each<S: Source>(
     Ok(Some(filled))
 }
 
-/// The same, through a buffer of its own, which is short where the joined blocks are.
+/// Judges joined blocks one after another, as `judge_each`, through a buffer of its own, which is short if they are.
 pub(crate) fn judge_blocks<S: Source>(
     source: &mut S,
     places: &[Place],

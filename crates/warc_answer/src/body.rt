@@ -69,7 +69,7 @@ fn start_through<S: Source>(
     }
 }
 
-/// The same, through a buffer of its own that has room for any HTTP head.
+/// Where the body begins, as `start_through`, through a buffer of its own that has room for any HTTP head.
 fn find_after_long_head<S: Source>(
     source: &mut S,
     places: &[Place],
@@ -80,7 +80,7 @@ fn find_after_long_head<S: Source>(
     start_through(source, places, &mut front)
 }
 
-/// The same, through a short buffer where the joined blocks are short.
+/// Where the body begins, as `start_through`, through a short buffer if the joined blocks are short.
 fn find_after_head<S: Source>(source: &mut S, places: &[Place]) -> Result<BodyStart, ReplayFault>
     ensures { FindsStart true places.now (S.seen source.old) (S.seen source.new) result }
 {

@@ -84,7 +84,7 @@ fn digest_after<S: Source>(
     Ok(hasher.finish())
 }
 
-/// The same, through a buffer of its own, which is short where the joined blocks are.
+/// The digest that `digest_after` gives, through a buffer of its own, which is short if the joined blocks are.
 fn digest_from<S: Source>(
     source: &mut S,
     begun: &[u8],
@@ -142,7 +142,7 @@ fn digest_through<S: Source>(
     }))
 }
 
-/// The same, through a buffer of its own that has room for any HTTP head.
+/// The digest that `digest_through` gives, through a buffer of its own that has room for any HTTP head.
 fn digest_after_long_head<S: Source>(
     source: &mut S,
     places: &[Place],
@@ -158,7 +158,7 @@ fn digest_after_long_head<S: Source>(
     digest_through(source, places, &mut front, algorithm)
 }
 
-/// The same, through a short buffer where the joined blocks are short.
+/// The digest that `digest_through` gives, through a short buffer if the joined blocks are short.
 fn digest_after_head<S: Source>(
     source: &mut S,
     places: &[Place],

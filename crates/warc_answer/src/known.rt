@@ -80,7 +80,7 @@ fn find_long_head<S: Source, A: Allocator + Copy>(
     head_in_front(alloc, source, places, &mut front)
 }
 
-/// The same, through a short buffer first.
+/// The HTTP head at the front of the joined blocks, none of which is bad, through a short buffer first.
 fn find_head<S: Source, A: Allocator + Copy>(
     alloc: A,
     source: &mut S,

@@ -97,7 +97,7 @@ fn known_through<S: Source>(
     }
 }
 
-/// The same, through a buffer of its own that has room for any HTTP head.
+/// The digest that `known_through` gives, through a buffer of its own that has room for any HTTP head.
 fn known_after_long_head<S: Source>(
     source: &mut S,
     places: &[Place],
@@ -114,7 +114,7 @@ fn known_after_long_head<S: Source>(
     known_through(source, places, &mut front, digest, known)
 }
 
-/// The same, through a short buffer where the joined blocks are short.
+/// The digest that `known_through` gives, through a short buffer if the joined blocks are short.
 fn known_after_head<S: Source>(
     source: &mut S,
     places: &[Place],

@@ -78,7 +78,7 @@ fn head_through<S: Source, A: Allocator + Copy>(
     }
 }
 
-/// The same, through a buffer of its own that has room for any HTTP head.
+/// The HTTP head that `head_through` gives, through a buffer of its own that has room for any HTTP head.
 fn find_long_head<S: Source, A: Allocator + Copy>(
     alloc: A,
     source: &mut S,
@@ -94,7 +94,7 @@ fn find_long_head<S: Source, A: Allocator + Copy>(
     head_through(alloc, source, places, &mut front)
 }
 
-/// The same, through a short buffer where the joined blocks are short.
+/// The HTTP head that `head_through` gives, through a short buffer if the joined blocks are short.
 fn find_head<S: Source, A: Allocator + Copy>(
     alloc: A,
     source: &mut S,

@@ -69,7 +69,7 @@ parts-cons (b ∷ c ∷ bs) =
     (λ no. let rest = parts-cons (c ∷ bs) in (b ∷ rest.0, rest.1, parts-more b c bs no ∙ ap (in_front b) rest.2))
     (true_or_false (is_crlf b c))
 
--- the same of lines, which end where no space or tab follows
+-- a line ends with a CRLF that no space or tab follows
 abbrev pub ends : ℕ → ℕ → List ℕ → Bool
 ends b c bs = is_crlf b c && not (begins_blank bs)
 

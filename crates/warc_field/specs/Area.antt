@@ -15,7 +15,7 @@ Pair = List ℕ × List ℕ
 abbrev pub first_value : List ℕ → List Pair → Option (List ℕ)
 first_value name fields = option_map (λ (field : Pair). field.1) (find (λ (field : Pair). same field.0 name) fields)
 
--- the same value, empty if no field has the name
+-- the value of the first field of a name, empty if no field has the name
 abbrev pub value_or_empty : List ℕ → List Pair → List ℕ
 value_or_empty name fields = unwrap_or (first_value name fields) []
 

@@ -152,15 +152,15 @@ pub fn read_area<A: Allocator + Copy>(alloc: A, area: &[u8]) -> Result<Fields<A>
     // A fault other than a failed allocation is the first line that is no field or isn't ended.
     ensures bad { IfErr result (ReportsBadLine area.now) }
 
-    // The same by the computing definition.
+    // The result is what `area_of` computes, unless memory runs out.
     ensures exact { Reads (λ f. f) result (area_of area.now) }
     ensures within { IfErr result (ReportsWithin (length area.now)) }
 {
     read_area_in(Fields::new(alloc), area)
 }
 
-/// The same, in the memory of fields that are no longer needed: a head that is read after a similar one doesn't
-/// allocate.
+/// The fields that `read_area` gives, in the memory of fields that are no longer needed: a head that is read after a
+/// similar one doesn't allocate.
 pub fn read_area_in<A: Allocator + Copy>(
     spare: Fields<A>,
     area: &[u8],

@@ -6,7 +6,7 @@ use Rattle.warc_frame.specs.Device.{Staged}
 use Rattle.warc_frame.specs.Send.{IsStaged, WentOut}
 use Rattle.warc_frame.proofs.LawLemmas.{went_out_of_longer}
 
--- the same output
+-- what went out of an output went out of an equal one
 pub same_out : {start now : Option (List ℕ)} {a b : List ℕ} {sent : ℕ} → a ≡ b → WentOut start a now sent → WentOut start b now sent
 same_out {start} {now} {a} {b} {sent} same out = let P : List ℕ → Type 0 = λ l. WentOut start l now sent in subst P same out
 

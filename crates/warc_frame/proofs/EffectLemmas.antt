@@ -58,7 +58,7 @@ fails_after {X} {Expected} {answer} {old} {mid} {new} kept same has = record {
   failed = λ bytes held is. from answer old.faults mid.faults new.faults same (has.failed bytes (kept ∙ held) is);
 }
 
--- the same failure as that of an answer of another type
+-- a failure in an answer of one type is a failure in an answer of another
 may_as : (X Y : Type 0) (e : OutFault) (a b : ℕ) → MayHaveFailedBy {X = X} (Err e) a b → MayHaveFailedBy {X = Y} (Err e) a b
 may_as X Y (Read sent) a b has = has
 may_as X Y (Write sent) a b has = has

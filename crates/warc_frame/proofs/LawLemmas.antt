@@ -123,7 +123,7 @@ sent_is_exact start now output sent out short =
 pub longer : {start now : Option (List ℕ)} {output : List ℕ} {sent : ℕ} (more : List ℕ) → WentOut start output now sent → WentOut start (output ++ more) now sent
 longer {start} {now} {output} {sent} more out = went_out_of_longer start now output more sent out
 
--- the same output
+-- what went out of an output went out of an equal one
 pub same_out : {start now : Option (List ℕ)} {a b : List ℕ} {sent : ℕ} → a ≡ b → WentOut start a now sent → WentOut start b now sent
 same_out {start} {now} {a} {b} {sent} same out = let P : List ℕ → Type 0 = λ l. WentOut start l now sent in subst P same out
 

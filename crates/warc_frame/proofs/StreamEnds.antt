@@ -34,11 +34,11 @@ empty_line-nowhere (b ∷ bs) h k = ⊎_elim
     (λ is. let e : option_map suc (empty_line bs) ≡ None = rw is at h in later b bs k is (empty_line-nowhere bs (none_map (empty_line bs) e)))
     (true_or_false (empty_at (b ∷ bs) 0))
 
--- the same bytes are in a text with more after it
+-- an empty line is at a place of a text exactly if it is there in the text with more after it
 pub empty_at-front : (a b : List ℕ) (k : ℕ) → k + 4 ≤ length a → empty_at (a ++ b) k ≡ empty_at a k
 empty_at-front a b k h = rw (get_or_append_left a b 0 k (omega arith), get_or_append_left a b 0 (suc k) (omega arith), get_or_append_left a b 0 (suc (suc k)) (omega arith), get_or_append_left a b 0 (suc (suc (suc k))) (omega arith)) refl
 
--- or before it
+-- a byte of a text is in the text with more before it
 get_or-following : (a b : List ℕ) (k : ℕ) → get_or (a ++ b) (length a + k) 0 ≡ get_or b k 0
 get_or-following a b k = sym (get_or-drop (length a) (a ++ b) k 0) ∙ ap (λ x. get_or x k 0) (drop-append_seam a b)
 

@@ -68,7 +68,7 @@ abbrev pub accepts : Option FaultKind → Result (Unit {0}) Fault
 accepts None = Ok tt
 accepts (Some kind) = Err (fault kind 0)
 
--- the same rows, with what they read
+-- a row of the table: what it reads, or the fault at the record's first byte
 abbrev pub at_front : {A : Type 0} → Result A FaultKind → Result A Fault
 at_front (Ok x) = Ok x
 at_front (Err kind) = Err (fault kind 0)

@@ -26,7 +26,7 @@ abbrev pub ended_by : EarlyFault → ℕ → OutFault
 ended_by NotRead sent = Read sent
 ended_by NoMemory sent = Memory sent
 
--- the same as the end of an output of which nothing went out
+-- the result of a call that writes nothing, as the end of an output of which nothing went out
 abbrev pub early_result : {X : Type 0} → Result X EarlyFault → Result (Unit {0}) OutFault
 early_result (Ok x) = Ok tt
 early_result (Err e) = Err (ended_by e 0)

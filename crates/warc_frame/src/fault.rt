@@ -210,7 +210,7 @@ pub enum EarlyFault {
 }
 
 impl EarlyFault {
-    /// The same as the end of an output of which `sent` bytes went out.
+    /// This fault as the end of an output of which `sent` bytes went out.
     pub fn after(self, sent: u64) -> OutFault
         ensures { result ≡ ended_by self sent }
     {

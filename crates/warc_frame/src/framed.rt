@@ -26,7 +26,7 @@ pub enum FramedFault {
 }
 
 impl FramedFault {
-    /// The same as a fault of an archive.
+    /// This fault as a fault of an archive.
     pub fn kind(self) -> FaultKind
         ensures { result ≡ fault_kind_of self }
     {

@@ -59,7 +59,7 @@ referent_of all revisit =
     else if names_something revisit.reference then ok_or (record_named all revisit.reference) Unresolved
     else ok_or (by_payload all revisit) NoReference
 
--- the same for the record at a position; at no position there is none
+-- the position that the record at a position refers to; at no position there is none
 abbrev pub referent_at : List Indexed → Option Indexed → Result ℕ Unfound
 referent_at all found = option_map_or (referent_of all) found (Err Unresolved)
 

@@ -39,7 +39,7 @@ all_lines judged rows i last =
     let rest = flat_map (λ p. fixity_line judged p.0 p.1) (enumerate_from (length (take i rows)) (drop i rows)) in
     sym (append_assoc (fixity_lines judged (take i rows)) rest last) ∙ ap (λ t. t ++ last) (sym (lines_front (fixity_line judged) rows i))
 
--- the same rows, and the same found of their blocks
+-- equal listings have the same rows, and the same found of their blocks
 pub same_listed : {S : Type 0} {a b : Digested S} → a ≡ b → a.listing.rows ≡ b.listing.rows
 same_listed {S} same = ap (λ (d : Digested S). d.listing.rows) same
 

@@ -21,7 +21,7 @@ settled_claim Good stated = stated
 settled_claim Bad stated = Bad
 settled_claim Unchecked stated = Unchecked
 
--- the same of each of the first records, as many as have a stated verdict
+-- the verdict by the digest that is wanted, of each of the first records, as many as have a stated verdict
 abbrev pub settled_claims : List Verdict → List Verdict → List Verdict
 settled_claims [] stated = []
 settled_claims (c ∷ cs) [] = c ∷ cs

@@ -34,7 +34,7 @@ fn settle<A: Allocator>(list: &mut Verdicts<A>, batch: &mut Batch<A>)
     list.replace_last(&verdicts[..count]);
 }
 
-/// The same, if no further block of this length should wait.
+/// Settles the verdicts, as `settle`, if no further block of this length should wait.
 fn settle_if_full<A: Allocator>(list: &mut Verdicts<A>, batch: &mut Batch<A>, len: u64)
     requires { length batch.old ≤ length list.old }
     ensures same { with_last list.new batch.new ≡ with_last list.old batch.old }

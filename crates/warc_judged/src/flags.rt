@@ -82,7 +82,7 @@ impl<A: Allocator + Copy> WaitingFlags<A> {
 }
 
 impl<A: Allocator> WaitingFlags<A> {
-    /// Adds those of the next record. If an allocation fails, none is added.
+    /// Adds the flags of the next record. If an allocation fails, none is added.
     fn add(&mut self, segmented: bool, check: BlockCheck, block: &[u8]) -> Result<(), AllocError>
         ensures ok { OnOk result ((self.new.segmented ≡ self.old.segmented ++ segmented ∷ [])
             × (self.new.verdicts ≡ self.old.verdicts ++ verdict_with check (sha1 block.now) ∷ [])) }
@@ -94,7 +94,7 @@ impl<A: Allocator> WaitingFlags<A> {
         Ok(())
     }
 
-    /// Those of all records. The blocks that wait are hashed first. It doesn't allocate.
+    /// The flags of all records. The blocks that wait are hashed first. It doesn't allocate.
     pub fn into_flags(self) -> RecordFlags<A>
         ensures { result ≡ self }
     {

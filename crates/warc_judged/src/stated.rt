@@ -78,7 +78,7 @@ fn stated_check(value: &[u8], block: &[u8]) -> BlockCheck
     }
 }
 
-/// The same for the block of a record that was read in place, and the digest that its head states.
+/// How the block of a record that was read in place is judged by the digest that its head states, as `stated_check`.
 pub fn plain_check(found: &QuickRecord<'_>) -> BlockCheck
     ensures { (p : Placed) (start : ℕ) → IsNextPlain p found.now start →
         verdict_with result (sha1 found.now.block.now) ≡ stated_on p }

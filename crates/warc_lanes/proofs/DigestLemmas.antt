@@ -33,7 +33,7 @@ pub digest_is : (hash message : List ℕ) → IsAbsorbed hash [] (padded_message
 unfolding sha1
 digest_is hash message held = ap (λ (h : List ℕ). digest_bytes h 5) held.0
 
--- the same of a hash value that is equal
+-- what is absorbed into a hash value is absorbed into an equal one
 pub absorbed_along : (new old m : List ℕ) → new ≡ old → IsAbsorbed old [] m → IsAbsorbed new [] m
 absorbed_along new old m same held = (same ∙ held.0, held.1)
 

@@ -22,6 +22,6 @@ keyed_more block word j t old room is held k below =
           rw (← same) (get_or-set_same (lane_of j old) t (slice_index word j) 0 (omega (arith, length-map old at)) ∙ is)
     ]
 
--- the same place, spelled another way
+-- a place before a keyed word, spelled another way
 pub same_word : (block window keyed : List ℕ) (t n : ℕ) → t ≡ n → IsBeforeKeyedWord block t window keyed → IsBeforeKeyedWord block n window keyed
 same_word block window keyed t n same held = rw (← same) held

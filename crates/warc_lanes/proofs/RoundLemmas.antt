@@ -43,7 +43,7 @@ pub round_taken : (block hash window v next : List ℕ) (t f word k : ℕ) → v
 round_taken block hash window v next t f word k variables mix constant is taken =
     taken ∙ rw (mix, constant, is, variables, rounds_next hash (schedule block 64) t) refl
 
--- the same place, spelled another way
+-- a place before a round, spelled another way
 pub same_round : (block hash window v : List ℕ) (t n : ℕ) → t ≡ n → IsBeforeRound block hash t window v → IsBeforeRound block hash n window v
 same_round block hash window v t n same held = rw (← same) held
 

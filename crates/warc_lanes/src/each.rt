@@ -158,7 +158,7 @@ impl Hashing {
         }
     }
 
-    // The same for one lane.
+    // If the message of a lane has ended, the lane gives its digest, and begins the next message.
     fn refill_lane(
         &mut self,
         lane: usize,

@@ -48,7 +48,7 @@ fails_of_replay E (replays.Out (outs.Read sent)) old new f = record { may = f.ma
 fails_of_replay E (replays.Out (outs.Write sent)) old new f = record { may = f.may; failed = f.failed }
 fails_of_replay E (replays.Out (outs.Memory sent)) old new f = record { may = f.may; failed = f.failed }
 
--- the same for the capture at a position
+-- a source fails as the fault of a body says, which is asked for at a position
 pub fails_of_body : (E : List ℕ → Type 0) (fault : BodyFault) (old new : SeenSource)
     → FailsBy E (location_result (Err fault)) old new → FailsBy E (problem_result {X = ℕ} (Err (problem_of_body fault))) old new
 fails_of_body E bodies.NoRecord old new f = f

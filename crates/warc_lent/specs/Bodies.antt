@@ -44,7 +44,7 @@ path_numbers (Ok path) old = record {
 }
 path_numbers (Err unfound) old = old
 
--- the same where there is a capture at a position
+-- the positions of the path of the capture at a position, if there is one; the rest stays
 abbrev pub path_numbers_at : BodyFault → Result Path Unfound → AnswerNumbers → AnswerNumbers
 path_numbers_at NoRecord found old = old
 path_numbers_at NoCapture found old = old
@@ -71,7 +71,8 @@ pub record PutsNone (bytes : List ℕ) (records : List Record) (found : Result P
   pub problem_is : problem ≡ problem_of_replay fault
   pub path : new ≡ path_numbers found old
 
--- the same for the capture at a position, where there may be no capture or no record
+-- there is no body at a position, where there may be no capture or no record: the problem says why, and the positions
+-- of the path are put, if there is one
 pub record PutsNoneAt (bytes : List ℕ) (records : List Record) (position : ℕ) (problem : Problem)
     (old new : AnswerNumbers) : Type 0 where
   pub fault : BodyFault
@@ -95,7 +96,7 @@ PutsFor bytes records found (Ok number) old new spans =
     PutsBody (λ body. IsLocatedOn bytes records found (Ok body)) number new spans
 PutsFor bytes records found (Err problem) old new spans = PutsNone bytes records found problem old new
 
--- the same as of a date, which may be none
+-- what is put for a URI as of a date, which may be none
 abbrev pub PutsReplay : List ℕ → List Record → List ℕ → Option Instant → Result ℕ Problem → AnswerNumbers
     → AnswerNumbers → List SpanNumbers → Type 0
 PutsReplay bytes records uri None result old new spans = (result ≡ Err BadDate) × (new ≡ old)

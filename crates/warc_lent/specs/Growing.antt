@@ -12,7 +12,7 @@ abbrev pub head_range : Option Row → ℕ × ℕ
 head_range (Some row) = (row.offset, row.block_start)
 head_range None = (0, 0)
 
--- that of the last record
+-- where the last record's head begins and ends
 abbrev pub last_head : List Row → ℕ × ℕ
 last_head rows = head_range (slice_get rows (length rows - 1))
 
@@ -31,7 +31,7 @@ abbrev pub IsNoGrowth : Problem → Type 0
 IsNoGrowth problem =
     (problem ≡ problems.Changed) ⊎ ((fault : Fault) × (problem ≡ problems.Fault fault) × (fault.kind ≢ Read))
 
--- the same of an archive of these rows: bytes are others exactly if they don't begin alike
+-- why an archive of these rows doesn't grow, as `IsNoGrowth`: bytes are others exactly if they don't begin alike
 abbrev pub IsUngrown : List Row → List ℕ → List ℕ → Problem → Type 0
 IsUngrown rows old new problem =
     ((problem ≡ problems.Changed) × (begins_alike rows old new ≡ false))

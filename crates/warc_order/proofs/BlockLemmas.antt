@@ -221,7 +221,7 @@ put_list bs b o q old new h e le n =
     let l : b < length (lists_of bs) = rw length-map h in
     ap flattened (lists_of-set bs b new ∙ ap (set (lists_of bs) b) more) ∙ flattened-insert (lists_of bs) b o q l le
 
--- the same, where the block is then cut in two
+-- one more in a block, which is then cut in two
 pub put_list-halved : (bs : List (Held)) (b o : ℕ) (q : Slot) (m : ℕ) (old front tail : Held) → b < length bs →
     old ≡ get_or bs b old → o ≤ length (get_or (lists_of bs) b []) → front.list ≡ take m (insert old.list o q) →
     tail.list ≡ drop m (insert old.list o q) → flattened (lists_of (insert (set bs b front) (b + 1) tail)) ≡ insert

@@ -26,7 +26,7 @@ needs_no_growth blank column = is_skipped blank column || nat_lt 0 column.free
 abbrev pub IsEmpty : {A : Type 0} → Sparse A → Type 0
 IsEmpty {A} column = (blank : ℕ → A) → values blank column ≡ []
 
--- the same values
+-- both columns have the same values
 abbrev pub IsSame : {A : Type 0} → Sparse A → Sparse A → Type 0
 IsSame {A} old new = (blank : ℕ → A) → values blank new ≡ values blank old
 

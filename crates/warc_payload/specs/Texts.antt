@@ -43,7 +43,7 @@ coding_text field = codes " " ++ map to_ascii_lowercase field.0 ++ codes "=" ++ 
 abbrev pub coding_text_if : List ℕ × List ℕ → List ℕ
 coding_text_if field = if names_coding field then coding_text field else []
 
--- the same of each field that names a coding, in order
+-- what is said of each field that names a coding, in order
 abbrev pub codings_in : List (List ℕ × List ℕ) → List ℕ
 codings_in fields = flat_map coding_text_if fields
 

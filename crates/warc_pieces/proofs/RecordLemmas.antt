@@ -110,7 +110,7 @@ pub closed_cases : (end : ℕ) (t : List ℕ) (f : Fault) → closed_at end t �
 unfolding closed_at
 closed_cases end t f bad = by_tests (not (begins (drop end t) (crlf ++ crlf))) (nat_lt (length t) (end + 4)) _ _ f bad
 
--- the same, of what begins at an offset
+-- a result of what begins at an offset, whose fault is from there
 abbrev moved_by : ℕ → Result (Unit {0}) Fault → Result (Unit {0}) Fault
 moved_by at (Ok u) = Ok u
 moved_by at (Err f) = Err (following at f)

@@ -69,7 +69,7 @@ goes_more text count len r n over is =
       within = omega (arith, over.within, found.0, length-drop len text);
     }
 
--- the same records lie in as many bytes as these are
+-- records at the front of a text are at the front of the text cut after them
 pub goes_cut : (text : List ℕ) (count len m : ℕ) → len ≤ m → GoesOver text count len → GoesOver (take m text) count len
 goes_cut text count len m low over = record {
   records = over.records;

@@ -107,7 +107,7 @@ length_shared front gs n is = ⊎_elim
     inr (lengths_more (count_of content_length gs) (count_of content_length (front ++ gs)) (first_value content_length gs) (first_value content_length (front ++ gs)) n is some.0))
     (adds content_length front gs)
 
--- the same of type, id and date
+-- the only type, id or date of a head's fields is in the fields before which others come, unless there are more
 name_shared : (field : Mandatory) (reads : List ℕ → Bool) (fault : FaultKind) (front gs : List Pair) → option_or (count_fault field gs) (value_fault field reads fault gs) ≡ None
     → (option_or (count_fault field (front ++ gs)) (value_fault field reads fault (front ++ gs)) ≡ None)
     ⊎ (option_or (count_fault field (front ++ gs)) (value_fault field reads fault (front ++ gs)) ≡ Some (Repeated field))

@@ -246,7 +246,7 @@ none_on t from mid to first second k low below = ⊎_elim
     (λ (after : mid ≤ k). second k after below)
     (cases_lt k mid)
 
--- those of what is left of a text
+-- no good record begins at places of a text if none does in what is left of it
 pub none_rest : (t : List ℕ) (at n : ℕ) → NoneFrom (drop at t) 0 n → NoneFrom t at (at + n)
 none_rest t at n none k low below =
     let sum : at + (k - at) ≡ k = omega (arith, low) in

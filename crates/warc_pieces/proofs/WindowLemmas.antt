@@ -124,7 +124,7 @@ goes_further bytes part buf n w shows unended is few gives =
       last = λ is_last. absurd (let no : false ≡ true = sym unended ∙ is_last in cc);
     }
 
--- the same bytes are shown
+-- bytes that are equal to shown ones are shown
 pub still_shows : (bytes part : List ℕ) (w : Shown) → Shows bytes w → part ≡ w.bytes → Shows bytes (record { bytes = part; begin = w.begin; is_last = w.is_last })
 still_shows bytes part w shows is = subst (Shows bytes) (same_shown w.bytes part w.begin w.is_last w.is_last (sym is) refl) shows
 

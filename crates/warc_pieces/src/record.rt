@@ -272,7 +272,7 @@ fn quick_len<A: Allocator>(window: &Window<A>, at: u64) -> Option<u64>
     Some(found.len as u64)
 }
 
-/// The same as `record_len`, for any head.
+/// What `record_len` gives, by the fields of any head.
 fn record_len_by_fields<S: Source, A: Allocator + Copy>(
     alloc: A,
     source: &mut S,

@@ -68,7 +68,7 @@ copied {A} portion bytes row p version fields at head version_is fields_are star
     portion_text portion bytes p.content version fields head version_is fields_are there
     (omega (arith, at.whole.range.0, start, start_is, len, len_at bytes row p at), at.whole.range.1)
 
--- the same as a record of WARC 1.1
+-- a row's record whose block stays as it is, as a record of WARC 1.1
 pub copied_converted : {A : Type 0} (portion : Portion A) (bytes : List ℕ) (row : Row) (p : Placed) (fields : List Pair)
     → IsInPlace bytes row p → portion.head.items ≡ head_text V1_1 (canonical_fields fields)
     → fields ≡ converted_fields p.content.fields

@@ -507,7 +507,7 @@ some_as : {X Y : Type 0} (Is : List ℕ → X → Type 0) (Gives : List ℕ → 
 some_as Is Gives bytes x y (Ok u) gives (more, is) = (more, gives (bytes ++ more) is)
 some_as Is Gives bytes x y (Err f) gives some = tt
 
--- the same growth, by what is made of what it keeps
+-- what grows, by what is made of what it keeps
 pub grows_as : {X Y : Type 0} {Is : List ℕ → X → Type 0} {Gives : List ℕ → Y → Type 0} {old new : SeenSource} (was x : X) (seen y : Y) (r : Result (Unit {0}) Fault) → ((bytes : List ℕ) → Gives bytes seen → Is bytes was)
     → ((bytes : List ℕ) → Is bytes x → Gives bytes y) → Grows Is was old new (grown r x) → Grows Gives seen old new (grown r y)
 grows_as {X} {Y} {Is} {Gives} {old} {new} was x seen y r begins gives grows = record {
@@ -600,7 +600,7 @@ kept_by_rows K bytes rows kept l same is beside = record {
   beside = beside;
 }
 
--- the same by what was answered, where that is known
+-- what grows, by equal rows and an equal answer
 pub grows_by_answer : {L : Type 0} {K : L → List Placed → Type 0} {old new : SeenSource} (kept was rows : List Row) (l m : L) (r answer : Result (Unit {0}) Fault) → kept ≡ was → r ≡ answer
     → Grows (IsKeptOf K) (kept, l) old new (grown r (rows, m)) → Grows (IsKeptOf K) (was, l) old new (grown answer (rows, m))
 grows_by_answer {L} {K} {old} {new} kept was rows l m r answer same is grows =

@@ -4,7 +4,7 @@ use Rattle.warc_frame.specs.declared.fault.Fault.{Fault}
 use Rattle.warc_frame.specs.Seen.{SeenSource}
 use Rattle.warc_reading.specs.Opening.{OpensFrom}
 
--- the same opening, by what is made of its answer
+-- what opening gives, by what is made of its answer
 pub opens_with : {X Y : Type 0} {Is : List ℕ → X → Type 0} {Gives : List ℕ → Y → Type 0} {start : ℕ} {old new : SeenSource} (x : X) (y : Y) → ((bytes : List ℕ) → Is bytes x → Gives bytes y) → OpensFrom start Is old new (Ok x)
     → OpensFrom start Gives old new (Ok y)
 opens_with x y gives opens = record {

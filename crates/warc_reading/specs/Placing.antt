@@ -24,7 +24,7 @@ pub record ArePlacedIn (bytes : List ℕ) (records : List Placed) : Type 0 where
 abbrev pub IsInRow : Row → ℕ → Type 0
 IsInRow row at = (row.offset ≤ at) × (at < row.block_start + row.block_len)
 
--- the same of one of these rows
+-- the offset of a byte of the head or of the block of the record of one of these rows
 pub record IsInAnyRow (rows : List Row) (at : ℕ) : Type 0 where
   pub place : ℕ
   pub row : Row

@@ -298,7 +298,8 @@ fn take_event<A: Allocator + Copy, L: Keep<A> + Drop>(
     }
 }
 
-/// The same. A plain record that the piece begins with is read in place, if it is kept without its fields.
+/// Keeps what `take_event` keeps, but reads a plain record that the piece begins with in place, if it is kept without
+/// its fields.
 fn take_front<A: Allocator + Copy, L: Keep<A> + Drop>(
     alloc: A,
     decoder: &mut Decoder<A>,

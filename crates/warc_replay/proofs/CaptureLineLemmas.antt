@@ -241,7 +241,7 @@ module _ {rows : List Row} {index : Indexes} {parts : Parts} where
     cause = puts.cause;
   }
 
-  -- the same, by what else is right
+  -- captures that are put by what is right are put by whatever implies it
   pub puts_given : {From To : List Placed → Type 0} {ps : List ℕ} {answer : Result (Unit {0}) OutFault} {old new : SeenSource} {to end : Seen} {waits waiting : Staged}
       → ((records : List Placed) → To records → From records) → PutsCaptures From rows index parts ps old new to end waits waiting answer
       → PutsCaptures To rows index parts ps old new to end waits waiting answer

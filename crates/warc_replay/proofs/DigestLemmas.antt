@@ -74,7 +74,7 @@ once_known records known items origin by one same are is =
     let has = are is.index one (subst (λ (l : List Known). slice_get l is.index ≡ Some one) same is.there) in
     subst (λ (a : Algorithm). IsOriginDigest records origin a one.digest) is.algorithm_is (subst (λ (o : ℕ). IsOriginDigest records o one.algorithm one.digest) is.origin_is has)
 
--- that of an origin is that at the end of a path to it
+-- the digest of an origin is the digest at the end of a path to it
 pub path_digested : (records : List Record) (position : ℕ) (path : Path) (by : Algorithm) (digest : Option PayloadDigest) → path_at records position ≡ Ok path → IsOriginDigest records path.given by digest
     → IsPathDigest records position by digest
 path_digested records position path by digest same (payload, at, of) =

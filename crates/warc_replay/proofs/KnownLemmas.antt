@@ -266,7 +266,7 @@ gap_found A B bytes records i (Reason why) spelled law (gap, says, at) =
     subst (λ (w : Why). IsStoredAt (contents records) i (Err w)) (sym says) (stored_gap records i at.placed gap at.there (gap_is bytes records i at.placed spelled at.there gap law at.gap_is))
 gap_found A B bytes records i (Out e) spelled law at = tt
 
--- the same by what is judged
+-- if looking gives a reason, that is what is judged
 pub by_reason : {A : Type 0} {rows : List Row} {parts : Parts} {position : ℕ} {own joined : Verdict} {rests again : List Verdict} {old new : SeenSource} (answer : Result (Stored A) ReplayFault) (why : Why) → answer ≡ Err (Reason why)
     → LooksBy rows parts position own joined rests again old new answer → JudgesBy {A = A} rows parts position own joined rests again old new (Ok (Err why))
 by_reason {A} {rows} {parts} {position} {own} {joined} {rests} {again} {old} {new} answer why is looks =

@@ -127,7 +127,7 @@ module _ {A : Type 0} {rows : List Row} {parts : Parts} {position : ℕ} {old mi
   pub asked_within : AsksWithin rows parts old mid
   asked_within = λ bytes is are. (looks.inside bytes is are).asks
 
--- the same judged, without the places
+-- if a look gives a reason, that is what is judged, without the places
 pub judged_none : {A : Type 0} {rows : List Row} {parts : Parts} {position : ℕ} {old new : SeenSource} (answer : Result (Look A) ReplayFault) (why : Why) → answer ≡ Err (Reason why)
     → Looks rows parts position old new answer → Judges {A = A} rows parts position old new (Ok (Err why))
 judged_none {A} {rows} {parts} {position} {old} {new} answer why is looks =

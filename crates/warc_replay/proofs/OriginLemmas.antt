@@ -136,7 +136,7 @@ pub same_fields : (text : List ℕ) (r : Record) (block_len : ℕ) (says : Readi
     → head_of any_fields text ≡ Ok (record { version = r.version; fields = r.fields; len = length text; block_len = block_len }) → is.fields ≡ r.fields
 same_fields text r block_len says content_type is reads = ap (λ (h : Head). h.fields) (one_head (sym is.reads ∙ reads))
 
--- the same head, by another name
+-- an origin by a head is one by an equal head
 pub by_head : {A : Type 0} (all : List PlacedRecord) (row : Row) (answer : Result (Origin A) ReplayFault) {one other : Reading} {own own' : List ℕ} → one ≡ other → own ≡ own'
     → IsOriginBy all row one own answer → IsOriginBy all row other own' answer
 by_head all row answer {one} {other} {own} {own'} same typed is =

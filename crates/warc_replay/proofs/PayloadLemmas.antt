@@ -66,7 +66,7 @@ own_made content fields http block by digest verdict same http_is block_is by_is
   law payload (subst (λ a. IsDigestOf a payload digest) by_is of) ∙ ap (λ f. payload_verdict f payload) same,
 )
 
--- the same where no payload matters
+-- the verdict on the payload in a record's own block, if no payload matters
 pub own_early : HasOnePayload → (content : Record) (fields : List Pair) (verdict : PayloadVerdict) → fields ≡ content.fields
     → ((payload : Option StoredPayload) → verdict ≡ payload_verdict fields payload) → IsOwnVerdict content verdict
 own_early one content fields verdict same law =

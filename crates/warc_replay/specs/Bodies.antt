@@ -49,7 +49,7 @@ IsBodyAt records position (Err NoCapture) old new = IsOtherAt records position �
 IsBodyAt records position (Err (Replay fault)) old new =
     IsCaptureAt records position × IsReplayOn records (path_at records position) (Err fault) old new
 
--- the same as a replay: there a missing record or capture is no failure
+-- a result of giving a body, as one of an output: there a missing record or capture isn't a failure
 abbrev pub body_result : Result Answer BodyFault → Result (Unit {0}) OutFault
 body_result (Ok answer) = Ok tt
 body_result (Err NoRecord) = Ok tt

@@ -56,7 +56,7 @@ line_by row chosen given (Ok s) =
     else columns_line row chosen given s.status s.media_type (Some s.length) None
 line_by row chosen given (Err why) = columns_line row chosen given None [] None (Some why)
 
--- the same by the rows of an archive
+-- the line of a capture, by the rows of an archive
 abbrev pub capture_line : List Row → CaptureSeen → List ℕ
 capture_line rows c = option_map_or (λ row. line_by row c.chosen c.given c.stored) (slice_get rows c.chosen) []
 

@@ -88,7 +88,7 @@ pub record PutsCaptures (Right : List Placed → Type 0) (rows : List Row) (inde
   pub fails : FailsBy (AreIndexedAt rows index parts positions) answer old new
   pub cause : after.faults ≡ failed_by answer before.faults
 
--- the same where nothing waits before or after: the lines went out, or a front of them
+-- what writing the lines of captures does if nothing waits before or after: the lines went out, or a front of them
 pub record SendsCaptures (Right : List Placed → Type 0) (rows : List Row) (index : Indexes) (parts : Parts)
     (positions : List ℕ) (old new : SeenSource) (before after : Seen) (answer : Result (Unit {0}) OutFault)
     : Type 0 where
@@ -182,7 +182,8 @@ pub record JudgesBy {A : Type 0} (rows : List Row) (parts : Parts) (position : �
   pub keeps : Preserves old new
   pub fails : FailsBy (IsRecordAt rows parts position) answer old new
 
--- the same by what is known of all blocks, and what was found of joined ones, which is right afterwards too
+-- what is stored of an origin, by what is known of all blocks, and what was found of joined ones, which is right
+-- afterwards too
 pub record JudgesOne {A : Type 0} (rows : List Row) (parts : Parts) (origin : ℕ) (known : List Verdict)
     (found again : JoinedVerdicts A) (old new : SeenSource) (answer : Result (Result (Stored A) Why) OutFault)
     : Type 0 where

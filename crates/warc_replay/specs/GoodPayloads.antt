@@ -88,7 +88,8 @@ pub record LearnsDigest (rows : List Row) (parts : Parts) (origin : ℕ) (own : 
   pub keeps : Preserves old new
   pub fails : FailsBy (IsRecordAt rows parts origin) answer old new
 
--- the same of the origin of the capture at a position, by what is known of blocks and payloads
+-- the digest of the payload of the origin of the capture at a position is known then, if that payload is good; by what
+-- is known of blocks and payloads
 pub record LearnsOrigin (rows : List Row) (index : Indexes) (parts : Parts) (position : ℕ) (blocks : List Verdict)
     (verdicts : List (Option PayloadVerdict)) (known knows : List Known) (old new : SeenSource)
     (answer : Result (Unit {0}) OutFault) : Type 0 where

@@ -55,7 +55,7 @@ abbrev pub IsSharedFrom : List PlacedRecord → PlacedRecord → Shared → List
 IsSharedFrom all r shared places =
     BeginsSeries all shared.segment r.head × JoinsLike all shared.segment shared.size places shared.rest
 
--- the same, where they are joined from a series
+-- a record is a first segment of the series from which these places are joined, if they are joined from one
 abbrev pub IsSharedBy : List PlacedRecord → PlacedRecord → Option Shared → List Place → Type 0
 IsSharedBy all r None places = ⊤
 IsSharedBy all r (Some shared) places = IsSharedFrom all r shared places

@@ -40,7 +40,7 @@ pub record ArePlacesFor (all : List Placed) (p : Placed) (places : List Place) :
   pub are : joined_places (map placed_record all) (placed_record p) ≡ Ok places
   pub long : len_of places ≡ origin_joined all p
 
--- the same, none where there is no origin
+-- there is an origin, and these are the places of the blocks that are joined to it
 abbrev pub ArePlacesIn : List Placed → Option Placed → List Place → Type 0
 ArePlacesIn all None places = ⊥
 ArePlacesIn all (Some p) places = ArePlacesFor all p places
@@ -80,7 +80,7 @@ pub record Looks {A : Type 0} (rows : List Row) (parts : Parts) (position : ℕ)
   pub keeps : Preserves old new
   pub fails : FailsBy (IsRecordAt rows parts position) (out_result answer) old new
 
--- the same without the places
+-- what is stored of the origin at a position, by rows and parts, as `Looks`, without the places
 pub record Judges {A : Type 0} (rows : List Row) (parts : Parts) (position : ℕ) (old new : SeenSource)
     (answer : Result (Result (Stored A) Why) OutFault) : Type 0 where
   pub reported : IfHeld old.holds (λ bytes. (is : IsArchiveOf bytes rows) → ArePartsOf is.are.records parts
@@ -100,7 +100,7 @@ IsSent records position (Ok s) old new =
 IsSent records position (Err (Reason why)) old new = IsStoredAt records position (Err why) × (new ≡ old)
 IsSent records position (Err (Out e)) old new = IsFrontAt records position (sent_of e) old new
 
--- the same by rows and parts
+-- what went out of what is stored of the origin at a position, by rows and parts
 pub record SendsStored {A : Type 0} (rows : List Row) (parts : Parts) (position : ℕ) (old new : SeenSource)
     (before after : Seen) (answer : Result (Stored A) ReplayFault) : Type 0 where
   pub reported : IfHeld old.holds (λ bytes. (is : IsArchiveOf bytes rows) → ArePartsOf is.are.records parts

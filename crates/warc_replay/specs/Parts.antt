@@ -41,7 +41,7 @@ IsGiven found (Ok n) old new =
 IsGiven found (Err NoRecord) old new = (found ≡ None) × (new ≡ old)
 IsGiven found (Err (Out e)) old new = IsGivenCut found e old new
 
--- the same as an output: there a missing record is no failure
+-- a result of giving a part, as one of an output: there a missing record isn't a failure
 abbrev pub extract_result : Result ℕ ExtractFault → Result (Unit {0}) OutFault
 extract_result (Ok n) = Ok tt
 extract_result (Err NoRecord) = Ok tt

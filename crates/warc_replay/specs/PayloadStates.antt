@@ -90,7 +90,8 @@ abbrev pub no_digest : ReplayFault → Result (Option PayloadDigest) OutFault
 no_digest (Reason why) = Ok None
 no_digest (Out e) = Err e
 
--- the same, or one that was known; what is known then is known of these records
+-- the digest of the payload of the origin at a position, or one that was known; what is known then is known of these
+-- records
 pub record DigestsOnce (rows : List Row) (parts : Parts) (origin : ℕ) (by : Algorithm) (known knows : List Known)
     (old new : SeenSource) (answer : Result (Option PayloadDigest) OutFault) : Type 0 where
   pub reported : IfHeld old.holds (λ bytes. (is : IsArchiveOf bytes rows) → ArePartsOf is.are.records parts

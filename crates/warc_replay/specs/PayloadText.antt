@@ -44,7 +44,7 @@ payload_line position verdict row digest =
     ∷ shown digest ∷ [])
     ++ codes "\n"
 
--- the same, if the payload isn't good, and nothing where no digest is stated
+-- the line of a payload, if it isn't good, and nothing if no digest is stated
 abbrev pub payload_line_if : ℕ → Option PayloadVerdict → Row → List ℕ → List ℕ
 payload_line_if position None row digest = []
 payload_line_if position (Some Good) row digest = []

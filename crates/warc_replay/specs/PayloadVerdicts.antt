@@ -57,7 +57,7 @@ payload_verdict fields payload =
     if has_segment_number fields then Unchecked unjudged.Segment
     else by_stated (stated_digest (payload_value fields)) payload
 
--- the same of a revisit, by the payload that its replay gives
+-- how the payload that the replay of a revisit gives compares with the digest that the revisit's fields state
 abbrev pub revisit_verdict : List Pair → Option StoredPayload → PayloadVerdict
 revisit_verdict fields None = Unchecked unjudged.Revisit
 revisit_verdict fields (Some p) = payload_verdict fields (Some p)
@@ -81,7 +81,7 @@ IsVerdictByKind kinds.Revisit records position content verdict = IsRevisitVerdic
 IsVerdictByKind kinds.Request records position content verdict = verdict ≡ Unchecked unjudged.Request
 IsVerdictByKind _ records position content verdict = IsOwnVerdict content verdict
 
--- the same, if the record states the digest of its payload, and none if it states none
+-- the verdict on the payload of a record by its kind, if it states the digest of its payload, and none if it doesn't
 abbrev pub IsJudgedPayload : List Record → ℕ → Record → Option PayloadVerdict → Type 0
 IsJudgedPayload records position content None = payload_value content.fields ≡ []
 IsJudgedPayload records position content (Some verdict) = (payload_value content.fields ≢ [])
@@ -135,7 +135,7 @@ pub record IsPayloadJudged (records : List Record) (position : ℕ) (verdict : O
   pub is : IsJudgedPayload records position content verdict
   pub shown : digest ≡ value_shown verdict (payload_value content.fields)
 
--- those of the first records, this many
+-- the verdicts on the payloads of the first records, this many, and the values that are kept of them
 pub record AreJudgedPayloads (records : List Record) (count : ℕ) (judged : PayloadJudgements) : Type 0 where
   pub verdicts_are : length judged.verdicts ≡ count
   pub digests_are : length judged.digests ≡ count

@@ -19,7 +19,7 @@ IsTaken found (Err NoRecord) = found ≡ None
 IsTaken found (Err Read) = IsSome found
 IsTaken found (Err Memory) = IsSome found
 
--- the same as an output of which nothing goes out: there a missing record is no failure
+-- a result of taking a record, as one of an output of which nothing goes out: there a missing record isn't a failure
 abbrev pub take_result : {X : Type 0} → Result X TakeFault → Result (Unit {0}) OutFault
 take_result (Ok r) = Ok tt
 take_result (Err NoRecord) = Ok tt

@@ -66,7 +66,7 @@ short {X} {Y} {One} {All} {e} {from} {last} {to} {end} {waits} {waiting} first g
       (fails_more (λ bytes held is. let (one, more, same, is_one) = gives bytes is.0 held is.1 in (one, is_one)) first.fails);
 }
 
--- the same text, by what gives it
+-- what sends one text sends the whole, if the whole is that text
 pub given : {X : Type 0} {One All : Giving} {answer : Result X OutFault} {from last : SeenSource} {to end : Seen} {waits waiting : Staged}
     → Emits One from last to end waits waiting answer → Gives from.holds All One → Emits All from last to end waits waiting answer
 given {X} {One} {All} {answer} {from} {last} {to} {end} {waits} {waiting} first gives = record {

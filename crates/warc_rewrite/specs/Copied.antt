@@ -60,7 +60,7 @@ pub record AreTextsOf (text_of : Record → List ℕ) (rows : List Row) (bytes t
 abbrev pub IsTextWith : {A : Type 0} → (Record → List ℕ) → Row → Head A → List ℕ → List ℕ → Type 0
 IsTextWith text_of row head bytes text = (is : IsTextOf text_of row bytes text) × IsHeadReadOf is.placed.content head
 
--- the same, of which this is the text of the head
+-- what is written of a row's record, the text of whose head is this
 abbrev pub IsTextAfter : (Record → List ℕ) → Row → List ℕ → List ℕ → List ℕ → Type 0
 IsTextAfter text_of row head bytes text =
     (is : IsTextOf text_of row bytes text) × IsHeadText is.placed.content row head

@@ -40,8 +40,8 @@ split_texts n records = flat_map (split_text n) records
 abbrev pub read_len : Form → Row → ℕ
 read_len form row = (row.block_start - row.offset) + row.block_len
 
--- the same where records are split: a block is read to judge its digest, and then twice, since the digest of a segment
--- is before it
+-- how many bytes of a record are read to split it: its block is read to judge its digest, and then twice, since the
+-- digest of a segment is before it
 abbrev pub split_len : Row → ℕ
 split_len row = (row.block_start - row.offset) + 3 * row.block_len
 
@@ -57,10 +57,10 @@ pub record WritesEach (text_of : Record → List ℕ) (len_of : Row → ℕ) (ro
   pub sends : Sends (IsOutputOf text_of rows) old new before after answer
   pub reads : ReadsOnly (IsInAnyRow rows) (sum_by len_of rows) old new
 
--- the same in a form
+-- writing each record of an archive of these rows in a form
 abbrev pub Writes : Form → List Row → SeenSource → SeenSource → Seen → Seen → Result (Unit {0}) OutFault → Type 0
 Writes form = WritesEach (text_as form) (read_len form)
 
--- the same of records that are split into segments of n bytes
+-- writing each record of an archive of these rows, split into segments of n bytes
 abbrev pub WritesSplit : ℕ → List Row → SeenSource → SeenSource → Seen → Seen → Result (Unit {0}) OutFault → Type 0
 WritesSplit n = WritesEach (split_text n) split_len

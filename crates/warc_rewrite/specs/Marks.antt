@@ -49,7 +49,7 @@ pub record AreMarked (next : ℕ → Option ℕ) (positions : List ℕ) (marks :
   pub reached : (q : ℕ) → IsMarked marks q → IsReached next positions q
   pub closed : (q r : ℕ) → IsMarked marks q → next q ≡ Some r → IsMarked marks r
 
--- the same but for the place that the last way has come to
+-- what the ways from positions come to is marked, but for the place that the last way has come to, and nothing else
 pub record AreMarkedBut (next : ℕ → Option ℕ) (positions : List ℕ) (at : ℕ) (marks : List Mark) : Type 0 where
   pub named : (p : ℕ) → Contains positions p → IsMarked marks p ⊎ (p ≡ at)
   pub reached : (q : ℕ) → IsMarked marks q → IsReached next positions q

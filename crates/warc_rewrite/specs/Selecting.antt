@@ -27,7 +27,7 @@ at_positions xs positions = filter_map (slice_get xs) positions
 abbrev pub record_bytes : List ℕ → Row → List ℕ
 record_bytes bytes row = slice_range bytes row.offset (row.block_start + row.block_len + 4)
 
--- those of the records at positions, one after another
+-- the bytes of the records at positions, one after another
 abbrev pub selected_text : List Row → List ℕ → List ℕ → List ℕ
 selected_text rows positions bytes = flat_map (record_bytes bytes) (at_positions rows positions)
 

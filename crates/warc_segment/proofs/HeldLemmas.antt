@@ -37,7 +37,7 @@ held_more p es fs e f held at low number = record {
   numbered = All-push (λ (x : Entry). (x.mark.major ≡ 0) × (2 ≤ x.mark.minor)) es e held.numbered (low, number);
 }
 
--- the same of the lists after an addition
+-- the entries and their facts after an addition to both
 pub held_added : (p : ℕ) (es es' : List Entry) (fs gs fs' : List TotalAndPlace) (e : Entry) (f : TotalAndPlace) → AreHeld p es fs
     → es' ≡ es ++ e ∷ [] → fs' ≡ gs ++ f ∷ [] → gs ≡ fs → e.position ≡ p → e.mark.major ≡ 0 → 2 ≤ e.mark.minor
     → AreHeld (p + 1) es' fs'

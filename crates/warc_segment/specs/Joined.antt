@@ -69,7 +69,7 @@ ArePlacesOf bytes (p ∷ ps) (r ∷ rs) = IsPlaceOf bytes p r × ArePlacesOf byt
 ArePlacesOf bytes [] (r ∷ rs) = ⊥
 ArePlacesOf bytes (p ∷ ps) [] = ⊥
 
--- the same records, by place and by block
+-- placed records and read ones are the same, by head and by block
 abbrev pub AreStored : List ℕ → List PlacedRecord → List ReadRecord → Type 0
 AreStored bytes [] [] = Unit {0}
 AreStored bytes (p ∷ ps) (r ∷ rs) = (p.head ≡ r.head) × IsPlaceOf bytes p.place r × AreStored bytes ps rs

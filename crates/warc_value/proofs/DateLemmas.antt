@@ -320,7 +320,7 @@ fit-more bs at fit few below so_far =
 pub fit-whole : (bs : List ℕ) (at : ℕ) → length bs ≤ 29 → length bs ≤ at → fits_from 0 0 (take at bs) ≡ list_all (λ (pair : ℕ × ℕ). fits_place pair.0 pair.1) (zip places bs)
 fit-whole bs at few past = rw (take_all at bs past) (fits_from-zip 0 0 bs (omega arith) (inl (omega arith)))
 
--- the same by the forms themselves
+-- a length is that of a form by the forms themselves
 pub length-matches : (n : ℕ) → is_form_length n ≡ has_length n
 unfolding forms has_length
 length-matches n = elim (cases_lt n 31) [

@@ -12,7 +12,7 @@ use Rattle.warc_value.proofs.LawLemmas.{symbol_of-symbol_value}
 abbrev pub twenty_of : List ℕ → Option ℕ
 twenty_of xs = if list_all is_symbol xs then Some (number_of_bits (flat_map (λ c. bits_of 5 (unwrap_or (symbol_value c) 0)) xs)) else None
 
--- the same by their values
+-- what four characters write, by their values
 abbrev pub from_values : Option ℕ → Option ℕ → Option ℕ → Option ℕ → Option ℕ
 from_values p q r s =
     if is_some p && (is_some q && (is_some r && (is_some s && true)))

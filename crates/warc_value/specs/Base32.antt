@@ -45,7 +45,7 @@ base32_of bytes = map (λ five. symbol_of (number_of_bits five)) (fives (flat_ma
 unfoldable pub bytes_of : List ℕ → List ℕ
 bytes_of text = map number_of_bits (eights (flat_map (λ c. bits_of 5 (unwrap_or (symbol_value c) 0)) text))
 
--- the same, where each is a character of base32
+-- the bytes of characters, if each is a character of base32
 abbrev pub decoded_of : List ℕ → Option (List ℕ)
 decoded_of text = if list_all is_symbol text then Some (bytes_of text) else None
 

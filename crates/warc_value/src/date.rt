@@ -138,7 +138,7 @@ fn days_since_first(year: u16, month: u8, day: u8) -> Option<u32>
     Some(date.to_plain().days_since_min())
 }
 
-/// The same days to 1 January of the year 0.
+/// The days from 1 January of the year -9999 to 1 January of the year 0.
 const DAYS_BEFORE_YEAR_0: u32 = 3_652_059;
 
 /// The days from 1 January of the year 0 to a date, unless the calendar has no such day.

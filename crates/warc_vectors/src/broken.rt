@@ -206,7 +206,7 @@ impl<A: Allocator> BrokenWriter<A> {
         }
     }
 
-    /// The same writer, of which each write takes at most n bytes.
+    /// This writer, of which each write takes at most `most` bytes.
     pub fn taking(self, most: usize) -> BrokenWriter<A>
         ensures { result ≡ self }
     {

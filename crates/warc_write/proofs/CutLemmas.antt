@@ -157,7 +157,7 @@ part_from n seen block piece at digest part is piece_is digest_is same =
 
 -- ---- what `cut` answers
 
--- the same of the head, by the fields of any record that has them
+-- what splitting fields gives, by the fields of any record that has them
 pub head_of_parts : (r : Record) (version : Version) (fields : List Pair) (n len : ℕ) (is_bad : Bool) (answer : Result (List ℕ) SplitFault)
     → HasParts version fields len is_bad r → splittable fields n ≡ answer → splittable r.fields n ≡ answer
 head_of_parts r version fields n len is_bad answer has is = ap (λ fs. splittable fs n) has.fields_are ∙ is

@@ -149,7 +149,7 @@ pub(crate) fn written_once(text: &[u8]) -> (Result<usize, WriteFault>, u32) {
     (written, writes)
 }
 
-/// The same of a send.
+/// What a send to a writer reports whose first write fails, and how often the writer was written to.
 pub(crate) fn sent_once(text: &[u8]) -> (Result<(), SendFault>, u32) {
     let mut sink = OutSink::new(FailsOnce { writes: 0 });
     let sent = send_all(&mut sink, text);

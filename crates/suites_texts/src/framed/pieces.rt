@@ -90,7 +90,8 @@ fn say_cuttings(
     say_text(alloc, answer, &wanted, text)
 }
 
-/// The same of a case, whose words say where the first byte is, how many places there are, and what is replaced.
+/// Adds what `say_cuttings` adds, for a case whose words say where the first byte is, how many places there are, and
+/// what is replaced.
 fn say_cuttings_of(
     alloc: Global,
     case: &Case<'_>,

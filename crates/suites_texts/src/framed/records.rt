@@ -129,7 +129,7 @@ fn say_made(
     }
 }
 
-/// The same of the fields of an area.
+/// Adds what `say_made` adds, for the fields of an area, or why it can't be read.
 fn say_made_of(
     alloc: Global,
     answer: &mut Vec<u8>,

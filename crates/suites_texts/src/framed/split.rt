@@ -52,7 +52,7 @@ fn say_split(
     }
 }
 
-/// The same of the record that a text begins with.
+/// Adds what `say_split` adds, for the record that a text begins with, or why there is none.
 pub(crate) fn say_split_of(
     alloc: Global,
     case: &Case<'_>,
@@ -141,7 +141,7 @@ fn say_splittable(
     }
 }
 
-/// The same of the fields of the record that a text begins with.
+/// Adds what `say_splittable` adds, for the fields of the record that a text begins with, or why there is none.
 pub(crate) fn say_splittable_of(
     alloc: Global,
     case: &Case<'_>,

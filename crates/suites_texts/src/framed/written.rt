@@ -76,7 +76,7 @@ fn say_converted(
     say_rendered(alloc, answer, from_ref(&converted), text)
 }
 
-/// The same of the record that a text begins with.
+/// Adds what `say_converted` adds, for the record that a text begins with, or why there is none.
 fn say_converted_of(alloc: Global, answer: &mut Vec<u8>, text: &[u8]) -> Result<(), AllocError> {
     match record(alloc, text) {
         Ok(framed) => say_converted(alloc, answer, &framed, text),

@@ -127,7 +127,7 @@ impl<A: Allocator + Copy> Payloads<A> {
         Ok(())
     }
 
-    /// The same, with the end of an output of which nothing went out.
+    /// Adds what `add` adds. A failed allocation is reported as the end of an output of which nothing went out.
     fn add_or_fail(
         &mut self,
         alloc: A,
@@ -410,8 +410,8 @@ fn good_origins<A: Allocator + Copy>(
     marked(alloc, &marks)
 }
 
-/// The same where nothing is known of any block. The blocks of origins whose payloads are good are judged first, side
-/// by side.
+/// The verdicts on the payloads of all records, as `judge_payloads_by`, if nothing is known of any block. The blocks of
+/// origins whose payloads are good are judged first, side by side.
 pub(crate) fn judge_payloads<S: Source, A: Allocator + Copy>(
     source: &mut S,
     rows: &Rows<A>,
@@ -428,7 +428,7 @@ pub(crate) fn judge_payloads<S: Source, A: Allocator + Copy>(
     judge_payloads_by(source, rows, lookup, known, &blocks)
 }
 
-/// The same where nothing is known of any payload either.
+/// The verdicts on the payloads of all records, as `judge_payloads`, if nothing is known of any payload either.
 pub(crate) fn judge_all_payloads<S: Source, A: Allocator + Copy>(
     source: &mut S,
     rows: &Rows<A>,

@@ -150,7 +150,7 @@ fn origin_digest<S: Source, A: Allocator + Copy>(
     }
 }
 
-/// The same, or the one that is known.
+/// The digest that `origin_digest` gives, or the one that is known.
 fn digest_once<S: Source, A: Allocator + Copy>(
     source: &mut S,
     rows: &Rows<A>,

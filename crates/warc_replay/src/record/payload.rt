@@ -175,7 +175,7 @@ pub(crate) fn payload_verdict<A: Allocator>(
     by_stated(payload_value(fields), digest)
 }
 
-/// The same of a revisit, by the digest of the payload that its replay gives.
+/// How the payload that the replay of a revisit gives compares with the digest that the revisit's fields state.
 pub(crate) fn revisit_verdict<A: Allocator>(
     fields: &Fields<A>,
     digest: Option<PayloadDigest>,

@@ -103,7 +103,7 @@ pub(crate) fn write_captures<S: Source, W: Sink, A: Allocator + Copy>(
     Ok(())
 }
 
-/// The same by the verdicts on the blocks of all records.
+/// Writes what `write_captures` writes, by the verdicts on the blocks of all records.
 pub fn write_judged<S: Source, W: Sink, A: Allocator + Copy>(
     source: &mut S,
     rows: &Rows<A>,
@@ -118,7 +118,7 @@ pub fn write_judged<S: Source, W: Sink, A: Allocator + Copy>(
     write_captures(source, rows, lookup, verdicts, positions, out)
 }
 
-/// The same where nothing is known of any block.
+/// Writes what `write_captures` writes, if nothing is known of any block.
 pub fn write_unjudged<S: Source, W: Sink, A: Allocator + Copy>(
     source: &mut S,
     rows: &Rows<A>,

@@ -202,7 +202,7 @@ fn judge_each<S: Source, A: Allocator + Copy>(
     Ok(outcomes)
 }
 
-/// The same where nothing is known of any block.
+/// The outcomes that `judge_each` gives, if nothing is known of any block.
 pub fn judge_all<S: Source, A: Allocator + Copy>(
     source: &mut S,
     rows: &Rows<A>,

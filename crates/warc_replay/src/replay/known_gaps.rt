@@ -144,7 +144,7 @@ fn join_anew<A: Allocator + Copy>(
     }
 }
 
-/// The same, unless the gap is known.
+/// The places that `join_anew` gives, or the gap if it is known.
 fn join_first<A: Allocator + Copy>(
     parts: &Parts<A>,
     gaps: &mut KnownGaps<A>,
@@ -166,7 +166,7 @@ fn join_first<A: Allocator + Copy>(
     }
 }
 
-/// The same, unless the series is known. It is taken out then: `keep_series` puts it back.
+/// The places that `join_first` gives, unless the series is known. It is taken out then: `keep_series` puts it back.
 fn join_known<A: Allocator + Copy>(
     parts: &Parts<A>,
     gaps: &mut KnownGaps<A>,

@@ -97,7 +97,7 @@ fn stored_in<A: Allocator + Copy>(
     }
 }
 
-/// The same, by its head, which is read again through a buffer that it fits.
+/// What `stored_in` gives, by the head of a row's record, which is read again through a buffer that has room for it.
 fn stored_through<S: Source, A: Allocator + Copy>(
     alloc: A,
     source: &mut S,

@@ -236,7 +236,7 @@ fn look_by<S: Source, A: Allocator + Copy>(
     judged
 }
 
-/// The same, or the reason why nothing is stored.
+/// What `look_by` gives, or the reason why nothing is stored.
 pub(crate) fn judge_by<S: Source, A: Allocator + Copy>(
     source: &mut S,
     rows: &Rows<A>,
