@@ -50,20 +50,21 @@ fn is_present<'a, H: HeadFields<'a>>(fields: &H, name: FieldName) -> bool
     }
 }
 
-/// Whether the rule of a field gives the finding that is looked for.
+/// Whether the rule of a field gives the finding that is looked for. `has_field` is whether its field isn't absent.
 fn is_broken<'a, H: HeadFields<'a>>(
     check: TableCheck,
     kind: Kind,
     fields: &H,
     rule: &FieldRule<'_>,
+    has_field: bool,
 ) -> bool
     ensures { (pairs : List Pair) → H.reads fields.now pairs
+        → has_field ≡ is_present (rule_seen rule.now).name pairs
         → result ≡ is_broken check kind pairs (rule_seen rule.now) }
 {
     match check {
-        TableCheck::Lacks => is_among(kind, rule.required) && !is_present(fields, rule.field),
-        TableCheck::HasForbidden => is_present(fields, rule.field)
-            && is_among(kind, rule.forbidden),
+        TableCheck::Lacks => !has_field && is_among(kind, rule.required),
+        TableCheck::HasForbidden => has_field && is_among(kind, rule.forbidden),
         TableCheck::Repeats => is_known(kind) && fields.occurs_again(rule.field),
     }
 }
@@ -73,9 +74,10 @@ fn keeps_rule<'a, H: HeadFields<'a>>(kind: Kind, fields: &H, rule: &FieldRule<'_
     ensures { result ≡ true → (pairs : List Pair) → H.reads fields.now pairs
         → (check : TableCheck) → is_broken check kind pairs (rule_seen rule.now) ≡ false }
 {
-    !is_broken(TableCheck::Lacks, kind, fields, rule)
-        && !is_broken(TableCheck::HasForbidden, kind, fields, rule)
-        && !is_broken(TableCheck::Repeats, kind, fields, rule)
+    let has_field = is_present(fields, rule.field);
+    !is_broken(TableCheck::Lacks, kind, fields, rule, has_field)
+        && !is_broken(TableCheck::HasForbidden, kind, fields, rule, has_field)
+        && !is_broken(TableCheck::Repeats, kind, fields, rule, has_field)
 }
 
 /// Whether no rule of the field table gives a finding.
@@ -102,10 +104,11 @@ fn add_broken<'a, H: HeadFields<'a>, S: FindingSink>(
         (S.listed found.new ≡ S.listed found.old ++ by_table check kind pairs) }
 {
     for rule in rows() {
+        let has_field = is_present(fields, rule.field);
         add_once(
             found,
             check.finding(rule),
-            is_broken(check, kind, fields, rule),
+            is_broken(check, kind, fields, rule, has_field),
         )?;
     }
     Ok(())
