@@ -1,5 +1,5 @@
 -- Findings in flat lists, and the lines of those that are reported.
-use Rattle.std.proofs.Common.{◌≡◌, ℕ, zero, suc, ◌+◌, ◌-◌, ◌<◌, ◌≤◌, Bool, ◌&&◌, if◌then◌else◌, List, [], ◌∷◌, ◌++◌, Some, None, length, map, take, drop, set, slice_range, get_or, true, false, append_assoc, length-append, refl, sym, ap, subst, ◌∙◌, arith}
+use Rattle.std.proofs.Common.{◌≡◌, ℕ, zero, suc, ◌+◌, ◌-◌, ◌<◌, ◌≤◌, Bool, ◌&&◌, if◌then◌else◌, List, [], ◌∷◌, ◌++◌, Some, length, map, take, drop, set, slice_range, get_or, true, false, append_assoc, length-append, refl, sym, ap, subst, ◌∙◌, arith}
 use Rattle.std.proofs.Math.Seq.{drop-append_seam, take-length}
 use Rattle.std.proofs.lemmas.List.{append-nil, drop-append-le, drop-map, length-drop, length-take-le, map-append, map_more, take-append-drop, take-append-le, take-map, take_all}
 use Rattle.std.proofs.lemmas.List.Elements.{filter-append}
@@ -8,15 +8,17 @@ use Rattle.std.specs.List.{AllByRecursion, filter, slice_get}
 use Rattle.std.specs.Option.{unwrap_or}
 use Rattle.warc_reading.specs.Archive.{contents}
 use Rattle.warc_reading.specs.Row.{Placed}
-use Rattle.warc_record.specs.Findings.{SeenFinding, Absent, Forbidden, Repeated, Digest, SegmentNumber, IdUsed, NoContentType, Profile, NotUtf8, BareId, NoOrigin, Empty, finding_field, finding_number, once}
+use Rattle.warc_record.specs.Findings.{SeenFinding, Absent, Forbidden, Repeated, Digest, SegmentNumber, IdUsed, NoContentType, Profile, NotUtf8, BareId, NoOrigin, Empty, once, plain_seen}
+use Rattle.warc_record.specs.declared.finding_sink.PlainFinding.{PlainFinding}
 use Rattle.warc_checking.specs.Checking.{about_record, line_text}
 use Rattle.warc_checking.specs.Lines.{record_lines}
 use Rattle.warc_checking.specs.Judged.{own_findings}
-use Rattle.warc_checking.specs.OwnFindings.{AreEnds, AreEndsFrom, AreNamed, IsNamed, IsPart, IsWithoutDigest, all_found, all_of, bad_at, each_with, found_at, found_by_part, found_from, found_with, finding_in, findings_of_part, finding_by_number, is_between, is_higher, is_lower, last_end, mark_at, marked, state_by, unjudged, with_bad, with_both, with_digest}
+use Rattle.warc_checking.specs.OwnFindings.{AreEnds, AreEndsFrom, AreNamed, IsNamed, IsPart, IsWithoutDigest, all_found, all_of, bad_at, each_with, found_at, found_by_part, found_from, found_with, finding_in, findings_of_part, is_between, is_higher, is_lower, last_end, mark_at, marked, state_by, unjudged, with_bad, with_both, with_digest}
 use Rattle.warc_checking.specs.declared.digest_state.DigestState.{DigestState}
 use Rattle.warc_checking.specs.declared.digest_state.DigestState.TheVariants.{Outside, Unmarked, Marked}
+use Rattle.warc_checking.specs.declared.finding_list.ListPart.{ListPart}
 use Rattle.warc_checking.specs.declared.finding_list.PackedFinding.{PackedFinding}
-use Rattle.warc_checking.specs.declared.finding_list.FindingSpan.{FindingSpan}
+use Rattle.warc_checking.specs.declared.finding_list.PackedFinding.TheVariants as packed
 use Rattle.warc_checking.proofs.CheckLemmas.{text_append}
 
 -- a part of a list stays when more follow
@@ -56,63 +58,50 @@ module _ {X : Type 0} (P : X → Type 0) where
   all_at (x ∷ xs) zero d (here, all) lt = here
   all_at (x ∷ xs) (suc i) d (here, all) lt = all_at xs i d all (omega (arith, lt))
 
--- a finding has its number, and the name of its field if it is about one
-pub numbered_named : (f : SeenFinding) (name : List ℕ) → finding_field f ≡ Some name → finding_by_number (finding_number f) name ≡ f
-numbered_named (Absent name) other is = let same : name ≡ other = cc in rw same refl
-numbered_named (Forbidden name) other is = let same : name ≡ other = cc in rw same refl
-numbered_named (Repeated name) other is = let same : name ≡ other = cc in rw same refl
-numbered_named (NotUtf8 name) other is = let same : name ≡ other = cc in rw same refl
-numbered_named Digest other is = refl
-numbered_named SegmentNumber other is = refl
-numbered_named IdUsed other is = refl
-numbered_named NoContentType other is = refl
-numbered_named Profile other is = refl
-numbered_named BareId other is = refl
-numbered_named NoOrigin other is = refl
-numbered_named Empty other is = refl
-
-pub numbered_bare : (f : SeenFinding) (name : List ℕ) → finding_field f ≡ None → finding_by_number (finding_number f) name ≡ f
-numbered_bare (Absent name) other is = absurd cc
-numbered_bare (Forbidden name) other is = absurd cc
-numbered_bare (Repeated name) other is = absurd cc
-numbered_bare (NotUtf8 name) other is = absurd cc
-numbered_bare Digest other is = refl
-numbered_bare SegmentNumber other is = refl
-numbered_bare IdUsed other is = refl
-numbered_bare NoContentType other is = refl
-numbered_bare Profile other is = refl
-numbered_bare BareId other is = refl
-numbered_bare NoOrigin other is = refl
-numbered_bare Empty other is = refl
+-- a packed finding stays when more names follow
+one_stays : (names more : List ℕ) (n : PackedFinding) → IsNamed (length names) n → finding_in (names ++ more) n ≡ finding_in names n
+one_stays names more (packed.Plain found) is = refl
+one_stays names more (packed.NotUtf8 name) is = ap (λ l. NotUtf8 l) (slice_front name.start name.end names more is.order is.end)
 
 found_stays : (names more : List ℕ) (ns : List PackedFinding) → AreNamed (length names) ns → all_found (names ++ more) ns ≡ all_found names ns
 found_stays names more [] all = refl
 found_stays names more (n ∷ ns) (here, all) =
-    ap (λ f. f ∷ all_found (names ++ more) ns) (ap (finding_by_number n.number) (slice_front n.start n.end names more here.order here.end))
+    ap (λ f. f ∷ all_found (names ++ more) ns) (one_stays names more n here)
     ∙ ap (λ l. finding_in names n ∷ l) (found_stays names more ns all)
+
+one_longer : (a b : ℕ) (n : PackedFinding) → a ≤ b → IsNamed a n → IsNamed b n
+one_longer a b (packed.Plain found) le is = tt
+one_longer a b (packed.NotUtf8 name) le is = record { order = is.order; end = omega (arith, is.end, le) }
 
 named_longer : (a b : ℕ) (ns : List PackedFinding) → a ≤ b → AreNamed a ns → AreNamed b ns
 named_longer a b [] le all = tt
-named_longer a b (n ∷ ns) le (here, all) = (record { order = here.order; end = omega (arith, here.end, le) }, named_longer a b ns le all)
+named_longer a b (n ∷ ns) le (here, all) = (one_longer a b n le here, named_longer a b ns le all)
 
--- one more packed finding
-module _ (names new name : List ℕ) (ns : List PackedFinding) (n : PackedFinding) (names_is : new ≡ names ++ name) (start : n.start ≡ length names) (end : n.end ≡ length new) (named : AreNamed (length names) ns) where
+-- one more packed finding, whose name comes after the others
+module _ (names new name : List ℕ) (ns : List PackedFinding) (p : ListPart) (names_is : new ≡ names ++ name) (start : p.start ≡ length names) (end : p.end ≡ length new) (named : AreNamed (length names) ns) where
   longer : length new ≡ length names + length name
   longer = ap length names_is ∙ length-append names name
 
-  pub packed_named : AreNamed (length new) (ns ++ n ∷ [])
+  pub packed_named : AreNamed (length new) (ns ++ packed.NotUtf8 p ∷ [])
   packed_named =
-      all_more (IsNamed (length new)) ns n (named_longer (length names) (length new) ns (omega (arith, longer)) named)
+      all_more (IsNamed (length new)) ns (packed.NotUtf8 p) (named_longer (length names) (length new) ns (omega (arith, longer)) named)
       (record { order = omega (arith, start, end, longer); end = omega (arith, end) })
 
-  pub packed_name : slice_range new n.start n.end ≡ name
-  packed_name = ap (λ l. slice_range l n.start n.end) names_is ∙ slice_after n.start n.end names name start (end ∙ ap length names_is)
+  packed_name : slice_range new p.start p.end ≡ name
+  packed_name = ap (λ l. slice_range l p.start p.end) names_is ∙ slice_after p.start p.end names name start (end ∙ ap length names_is)
 
-  pub packed_more : (f : SeenFinding) → finding_in new n ≡ f → all_found new (ns ++ n ∷ []) ≡ all_found names ns ++ f ∷ []
-  packed_more f is =
-      map-append (finding_in new) ns (n ∷ [])
-      ∙ ap (λ l. l ++ finding_in new n ∷ []) (ap (λ l. all_found l ns) names_is ∙ found_stays names name ns named)
-      ∙ ap (λ g. all_found names ns ++ g ∷ []) is
+  pub packed_more : all_found new (ns ++ packed.NotUtf8 p ∷ []) ≡ all_found names ns ++ NotUtf8 name ∷ []
+  packed_more =
+      map-append (finding_in new) ns (packed.NotUtf8 p ∷ [])
+      ∙ ap (λ l. l ++ finding_in new (packed.NotUtf8 p) ∷ []) (ap (λ l. all_found l ns) names_is ∙ found_stays names name ns named)
+      ∙ ap (λ l. all_found names ns ++ NotUtf8 l ∷ []) packed_name
+
+-- one more packed finding that holds no text
+pub plain_named : (count : ℕ) (ns : List PackedFinding) (found : PlainFinding) → AreNamed count ns → AreNamed count (ns ++ packed.Plain found ∷ [])
+plain_named count ns found named = all_more (IsNamed count) ns (packed.Plain found) named tt
+
+pub plain_more : (names : List ℕ) (ns : List PackedFinding) (found : PlainFinding) → all_found names (ns ++ packed.Plain found ∷ []) ≡ all_found names ns ++ plain_seen found ∷ []
+plain_more names ns found = map-append (finding_in names) ns (packed.Plain found ∷ [])
 
 -- the last part begins after the start, and is within the findings
 ends_within : (count start : ℕ) (ends : List ℕ) → AreEndsFrom count start ends → (start ≤ last_end start ends) × (last_end start ends ≤ count)
@@ -220,7 +209,7 @@ part_from findings start [] i d lt = absurd (omega (arith, lt))
 part_from findings start (e ∷ es) zero d lt = refl
 part_from findings start (e ∷ es) (suc i) d lt = part_from findings e es i d (omega (arith, lt))
 
-pub part_found_at : (findings : List SeenFinding) (ends : List ℕ) (i d : ℕ) (p : FindingSpan) → i < length ends
+pub part_found_at : (findings : List SeenFinding) (ends : List ℕ) (i d : ℕ) (p : ListPart) → i < length ends
     → p.start ≡ last_end 0 (take i ends) → p.end ≡ get_or ends i d → findings_of_part findings p ≡ found_at (found_by_part findings ends) i
 part_found_at findings ends i d p lt start end =
     ap (λ n. slice_range findings n p.end) start ∙ ap (slice_range findings (last_end 0 (take i ends))) end
@@ -233,7 +222,7 @@ part_within_from count start (e ∷ es) zero d lt (here, all) =
     let (order, end) = ends_within count e es all in (here, omega (arith, order, end))
 part_within_from count start (e ∷ es) (suc i) d lt (here, all) = part_within_from count e es i d (omega (arith, lt)) all
 
-pub part_within : (count : ℕ) (ends : List ℕ) (i d : ℕ) (p : FindingSpan) → i < length ends
+pub part_within : (count : ℕ) (ends : List ℕ) (i d : ℕ) (p : ListPart) → i < length ends
     → p.start ≡ last_end 0 (take i ends) → p.end ≡ get_or ends i d → AreEnds count ends → IsPart count p
 part_within count ends i d p lt start end all =
     let (order, within) = part_within_from count 0 ends i d lt all in
@@ -309,11 +298,11 @@ pub last_texts : (position : ℕ) (a b c : List SeenFinding) (output : List ℕ)
 last_texts position a b c output = two_texts position a (b ++ c) output ∙ ap (λ l. output ++ record_lines position l) (sym (append_assoc a b c))
 
 -- the findings of a part of the packed ones
-pub part_found : (names : List ℕ) (findings : List PackedFinding) (p : FindingSpan) → all_found names (slice_range findings p.start p.end) ≡ findings_of_part (all_found names findings) p
+pub part_found : (names : List ℕ) (findings : List PackedFinding) (p : ListPart) → all_found names (slice_range findings p.start p.end) ≡ findings_of_part (all_found names findings) p
 part_found names findings p =
     sym (ap (take (p.end - p.start)) (drop-map (finding_in names) p.start findings) ∙ take-map (finding_in names) (p.end - p.start) (drop p.start findings))
 
-pub part_len : (findings : List SeenFinding) (p : FindingSpan) → IsPart (length findings) p → p.end - p.start ≡ length (findings_of_part findings p)
+pub part_len : (findings : List SeenFinding) (p : ListPart) → IsPart (length findings) p → p.end - p.start ≡ length (findings_of_part findings p)
 part_len findings p is = sym (length-take-le (p.end - p.start) (drop p.start findings) (omega (arith, length-drop p.start findings, is.order, is.end)))
 
 -- the line of a finding, if it holds
@@ -322,7 +311,7 @@ once_line position f true is = sym (append-nil (line_text (about_record position
 once_line position f false is = absurd (cc is)
 
 -- a part that is within, whatever the ends are called
-pub part_is : (count : ℕ) (ends slice : List ℕ) (p : FindingSpan) → slice ≡ ends → ((n : ℕ) → AreEnds n slice → IsPart n p) → AreEnds count ends → IsPart count p
+pub part_is : (count : ℕ) (ends slice : List ℕ) (p : ListPart) → slice ≡ ends → ((n : ℕ) → AreEnds n slice → IsPart n p) → AreEnds count ends → IsPart count p
 part_is count ends slice p same within all = let P : List ℕ → Type 0 = λ l. AreEnds count l in within count (subst P (sym same) all)
 
 -- N4 and N6 are put among the others by three ranges of numbers

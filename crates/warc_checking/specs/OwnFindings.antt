@@ -1,10 +1,10 @@
 -- How findings are kept in flat lists, and how a record's are reported with N4 and N6 among them. States of the code,
 -- but for `all_of`, `unjudged` and `AreJudged`, which public contracts cite.
-use Rattle.std.specs.Prelude.{◌≡◌, ℕ, ◌≤◌, zero, suc, Bool, true, false, nat_lt, ◌&&◌, List, [], ◌∷◌, ◌++◌, length, map, ◌==◌, slice_range, unwrap_or, None, if◌then◌else◌}
+use Rattle.std.specs.Prelude.{◌≡◌, ℕ, ◌≤◌, zero, suc, Bool, true, false, nat_lt, ◌&&◌, List, [], ◌∷◌, ◌++◌, length, map, slice_range, unwrap_or, None}
 use Rattle.std.specs.List.{AllByRecursion, filter, slice_get}
 use Rattle.std.specs.Option.{option_map_or}
 use Rattle.warc_field.specs.Area.{Pair}
-use Rattle.warc_record.specs.Findings.{SeenFinding, Absent, Forbidden, Repeated, Digest, SegmentNumber, IdUsed, NoContentType, Profile, NotUtf8, BareId, NoOrigin, Empty, finding_number, findings_of, once}
+use Rattle.warc_record.specs.Findings.{SeenFinding, Digest, IdUsed, NotUtf8, finding_number, findings_of, once, plain_seen}
 use Rattle.warc_record.specs.Kinds.{is_known}
 use Rattle.warc_record.specs.Readings.{kind_of}
 use Rattle.warc_frame.specs.Record.{Record}
@@ -17,47 +17,33 @@ use Rattle.warc_checking.specs.Judged.{own_findings}
 use Rattle.warc_checking.specs.UsedIds.{HoldsIdsOf, Ids, IsAlone}
 use Rattle.warc_checking.specs.declared.digest_state.DigestState.{DigestState}
 use Rattle.warc_checking.specs.declared.digest_state.DigestState.TheVariants.{Outside, Unmarked, Marked}
+use Rattle.warc_checking.specs.declared.finding_list.ListPart.{ListPart}
 use Rattle.warc_checking.specs.declared.finding_list.PackedFinding.{PackedFinding}
-use Rattle.warc_checking.specs.declared.finding_list.FindingSpan.{FindingSpan}
+use Rattle.warc_checking.specs.declared.finding_list.PackedFinding.TheVariants as packed
 
--- the finding of a number, with the name of a field if it is about one
-abbrev pub finding_by_number : ℕ → List ℕ → SeenFinding
-finding_by_number number name =
-    if number == 1 then Absent name
-    else if number == 2 then Forbidden name
-    else if number == 3 then Repeated name
-    else if number == 4 then Digest
-    else if number == 5 then SegmentNumber
-    else if number == 6 then IdUsed
-    else if number == 7 then NoContentType
-    else if number == 8 then Profile
-    else if number == 9 then NotUtf8 name
-    else if number == 10 then BareId
-    else if number == 11 then NoOrigin
-    else Empty
+-- a part of a list of n
+pub record IsPart (count : ℕ) (p : ListPart) : Type 0 where
+  pub order : p.start ≤ p.end
+  pub end : p.end ≤ count
 
 -- the finding that is packed, its name among the bytes
 abbrev pub finding_in : List ℕ → PackedFinding → SeenFinding
-finding_in names n = finding_by_number n.number (slice_range names n.start n.end)
+finding_in names (packed.Plain found) = plain_seen found
+finding_in names (packed.NotUtf8 name) = NotUtf8 (slice_range names name.start name.end)
 
 abbrev pub all_found : List ℕ → List PackedFinding → List SeenFinding
 all_found names findings = map (finding_in names) findings
 
 -- its name is within the first bytes, as many as this
-pub record IsNamed (count : ℕ) (n : PackedFinding) : Type 0 where
-  pub order : n.start ≤ n.end
-  pub end : n.end ≤ count
+abbrev pub IsNamed : ℕ → PackedFinding → Type 0
+IsNamed count (packed.Plain found) = Unit {0}
+IsNamed count (packed.NotUtf8 name) = IsPart count name
 
 abbrev pub AreNamed : ℕ → List PackedFinding → Type 0
 AreNamed count findings = AllByRecursion (IsNamed count) findings
 
--- a part of n findings
-pub record IsPart (count : ℕ) (p : FindingSpan) : Type 0 where
-  pub order : p.start ≤ p.end
-  pub end : p.end ≤ count
-
 -- the findings of a part
-abbrev pub findings_of_part : List SeenFinding → FindingSpan → List SeenFinding
+abbrev pub findings_of_part : List SeenFinding → ListPart → List SeenFinding
 findings_of_part findings p = slice_range findings p.start p.end
 
 -- the findings of each part, by where the parts end: each starts at the end of the one before it, and the first at a

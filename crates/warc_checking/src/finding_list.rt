@@ -2,9 +2,9 @@
 ghost use Rattle.std.specs.Prelude.{◌≡◌, ◌+◌, ◌<◌, false, List, [], ◌∷◌, ◌++◌, length, map, take, OnErr, OnOk};
 ghost use Rattle.std.specs.List.{filter};
 ghost use Rattle.warc_frame.specs.Effects.{Puts};
-ghost use Rattle.warc_record.specs.Findings.{SeenFinding, finding_seen, findings_of, once, plain_seen};
+ghost use Rattle.warc_record.specs.Findings.{NotUtf8, SeenFinding, finding_seen, findings_of, once, plain_seen};
 ghost use Rattle.warc_checking.specs.Lines.{record_lines};
-ghost use Rattle.warc_checking.specs.OwnFindings.{AreNamed, IsNamed, IsPart, all_found, finding_in, is_between, findings_of_part, finding_by_number, with_both};
+ghost use Rattle.warc_checking.specs.OwnFindings.{AreNamed, IsNamed, IsPart, all_found, finding_in, is_between, findings_of_part, with_both};
 
 use crate::lines::put_finding;
 use std::alloc::{AllocError, Allocator};
@@ -20,33 +20,21 @@ const DIGEST_NUMBER: u8 = 4;
 /// The number of the finding that an id is used: N6.
 const USED_NUMBER: u8 = 6;
 
-/// A finding in 24 bytes: its number, and where the name of its field is in a list of bytes, an empty part if it is
-/// about none. N4 is never packed.
+/// A part of a list: where it starts and where it ends.
 #[derive(Clone, Copy)]
-struct PackedFinding {
-    number: u8,
-    start: usize,
-    end: usize,
+pub(crate) struct ListPart {
+    pub(crate) start: usize,
+    pub(crate) end: usize,
 }
 
-/// The finding of a number, with the name of a field if it is about one.
-fn finding_by_number(number: u8, name: &[u8]) -> Finding<'_>
-    ensures { finding_seen result ≡ finding_by_number number name.now }
-{
-    match number {
-        1 => Finding::Absent(name),
-        2 => Finding::Forbidden(name),
-        3 => Finding::Repeated(name),
-        4 => Finding::Digest,
-        5 => Finding::SegmentNumber,
-        6 => Finding::IdUsed,
-        7 => Finding::NoContentType,
-        8 => Finding::Profile,
-        9 => Finding::NotUtf8(name),
-        10 => Finding::BareId,
-        11 => Finding::NoOrigin,
-        _ => Finding::Empty,
-    }
+/// A finding in 24 bytes. N4 is never packed.
+#[derive(Clone, Copy)]
+enum PackedFinding {
+    /// A finding that holds no text of the record.
+    Plain(PlainFinding),
+
+    /// N9: the name of the field is this part of a list of bytes.
+    NotUtf8(ListPart),
 }
 
 /// The finding that is packed.
@@ -54,7 +42,10 @@ fn finding_in<'a>(names: &'a [u8], packed: &PackedFinding) -> Finding<'a>
     requires { IsNamed (length names.now) packed.now }
     ensures { finding_seen result ≡ finding_in names.now packed.now }
 {
-    finding_by_number(packed.number, &names[packed.start..packed.end])
+    match *packed {
+        PackedFinding::Plain(plain) => Finding::Plain(plain),
+        PackedFinding::NotUtf8(name) => Finding::NotUtf8(&names[name.start..name.end]),
+    }
 }
 
 /// The numbers between two others.
@@ -133,18 +124,18 @@ fn put_range<W: Sink>(
 /// Adds the line of a finding to the output, if it holds.
 fn put_once<W: Sink>(
     position: u64,
-    finding: &Finding<'_>,
+    finding: PlainFinding,
     holds: bool,
     buffer: &mut OutBuffer,
     out: &mut W,
 ) -> Result<(), SendFault>
     ensures { Puts (W.seen out.old) (W.seen out.new) buffer.old buffer.new result (record_lines position
-        (once (finding_seen finding.now) holds)) }
+        (once (plain_seen finding) holds)) }
 {
     if !holds {
         return Ok(());
     }
-    put_finding(position, finding, buffer, out)
+    put_finding(position, &Finding::Plain(finding), buffer, out)
 }
 
 /// Adds the lines of the findings whose numbers are among these, and then of another finding, if it holds.
@@ -153,7 +144,7 @@ fn put_range_and<W: Sink>(
     names: &[u8],
     findings: &[PackedFinding],
     numbers: Between,
-    finding: &Finding<'_>,
+    finding: PlainFinding,
     holds: bool,
     buffer: &mut OutBuffer,
     out: &mut W,
@@ -161,7 +152,7 @@ fn put_range_and<W: Sink>(
     requires { AreNamed (length names.now) findings.now }
     ensures { Puts (W.seen out.old) (W.seen out.new) buffer.old buffer.new result (record_lines position
         (filter (is_between numbers.above numbers.below) (all_found names.now findings.now)
-        ++ once (finding_seen finding.now) holds)) }
+        ++ once (plain_seen finding) holds)) }
 {
     went_out_of_longer();
     put_range(position, names, findings, numbers, buffer, out)?;
@@ -187,7 +178,7 @@ fn put_found<W: Sink>(
         names,
         findings,
         BEFORE_DIGEST,
-        &Finding::Digest,
+        PlainFinding::Digest,
         facts.bad_digest,
         buffer,
         out,
@@ -197,7 +188,7 @@ fn put_found<W: Sink>(
         names,
         findings,
         DIGEST_TO_USED,
-        &Finding::IdUsed,
+        PlainFinding::IdUsed,
         facts.used_id,
         buffer,
         out,
@@ -205,33 +196,48 @@ fn put_found<W: Sink>(
     put_range(position, names, findings, AFTER_USED, buffer, out)
 }
 
-/// Adds the finding of a number after the others, with the name of its field. If memory is refused, none is added.
-fn add_numbered<A: Allocator>(
+/// Adds N9 after the others, with the name of its field. If memory is refused, none is added.
+#[tactic(auto, using(crate::proofs::OwnFindingLemmas::packed_named))]
+fn add_not_utf8<A: Allocator>(
     names: &mut Vec<u8, A>,
     findings: &mut Vec<PackedFinding, A>,
-    number: u8,
     name: &[u8],
 ) -> Result<(), AllocError>
     requires { AreNamed (length names.old.items) findings.old.items }
     ensures named { AreNamed (length names.new.items) findings.new.items }
     ensures ok { OnOk result (all_found names.new.items findings.new.items
-        ≡ all_found names.old.items findings.old.items ++ finding_by_number number name.now ∷ []) }
+        ≡ all_found names.old.items findings.old.items ++ NotUtf8 name.now ∷ []) }
     ensures err { OnErr result (all_found names.new.items findings.new.items
         ≡ all_found names.old.items findings.old.items) }
 {
     let start = names.len();
     findings.reserve(1)?;
     names.extend_from_slice(name)?;
-    findings.push_reserved(PackedFinding {
-        number,
+    findings.push_reserved(PackedFinding::NotUtf8(ListPart {
         start,
         end: names.len(),
-    });
+    }));
+    Ok(())
+}
+
+/// Adds a finding that holds no text of the record after the others. If memory is refused, it isn't added.
+#[tactic(auto, using(crate::proofs::OwnFindingLemmas::plain_named, crate::proofs::OwnFindingLemmas::plain_more))]
+fn add_plain<A: Allocator>(
+    names: &[u8],
+    findings: &mut Vec<PackedFinding, A>,
+    finding: PlainFinding,
+) -> Result<(), AllocError>
+    requires { AreNamed (length names.now) findings.old.items }
+    ensures named { AreNamed (length names.now) findings.new.items }
+    ensures ok { OnOk result (all_found names.now findings.new.items
+        ≡ all_found names.now findings.old.items ++ plain_seen finding ∷ []) }
+    ensures err { OnErr result (findings.new.items ≡ findings.old.items) }
+{
+    findings.push(PackedFinding::Plain(finding))?;
     Ok(())
 }
 
 /// Adds a finding after the others. If memory is refused, none is added.
-#[tactic(auto, using(crate::proofs::OwnFindingLemmas::numbered_named, crate::proofs::OwnFindingLemmas::numbered_bare))]
 fn add_finding<A: Allocator>(
     names: &mut Vec<u8, A>,
     findings: &mut Vec<PackedFinding, A>,
@@ -244,9 +250,9 @@ fn add_finding<A: Allocator>(
     ensures err { OnErr result (all_found names.new.items findings.new.items
         ≡ all_found names.old.items findings.old.items) }
 {
-    match finding.field() {
-        Some(name) => add_numbered(names, findings, finding.number(), name),
-        None => add_numbered(names, findings, finding.number(), b""),
+    match *finding {
+        Finding::Plain(plain) => add_plain(names.as_slice(), findings, plain),
+        Finding::NotUtf8(name) => add_not_utf8(names, findings, name),
     }
 }
 
@@ -308,7 +314,7 @@ impl<A: Allocator> FindingList<A> {
     /// Adds the lines of a part to the output, and of N4 and N6 among them, if they hold.
     pub(crate) fn put<W: Sink>(
         &self,
-        part: FindingSpan,
+        part: ListPart,
         position: u64,
         facts: ArchiveFacts,
         buffer: &mut OutBuffer,
@@ -334,7 +340,7 @@ impl<A: Allocator> FindingList<A> {
 fn put_part<W: Sink>(
     names: &[u8],
     findings: &[PackedFinding],
-    part: FindingSpan,
+    part: ListPart,
     position: u64,
     facts: ArchiveFacts,
     buffer: &mut OutBuffer,
@@ -378,7 +384,7 @@ pub(crate) fn add_plain_findings<A: Allocator>(
     ensures more { (more : List SeenFinding) × (findings.new ≡ findings.old ++ more) }
 {
     'adding: for one in found {
-        findings.push(&one.finding())?;
+        findings.push(&Finding::Plain(*one))?;
     }
     Ok(())
 }
@@ -396,11 +402,4 @@ pub(crate) fn add_others<A: Allocator + Copy>(
 {
     let found = warc_record::findings(alloc, fields, block_len)?;
     add_all(&found, findings)
-}
-
-/// The place of a record's findings among all findings.
-#[derive(Clone, Copy)]
-pub(crate) struct FindingSpan {
-    pub(crate) start: usize,
-    pub(crate) end: usize,
 }

@@ -7,7 +7,7 @@ ghost use Rattle.warc_quick.specs.PlainFindings.{all_plain};
 ghost use Rattle.warc_checking.specs.Lines.{record_lines};
 ghost use Rattle.warc_checking.specs.OwnFindings.{AreEnds, IsPart, found_at, found_by_part, findings_of_part, last_end, with_both};
 
-use crate::finding_list::{FindingList, FindingSpan, add_others, add_plain_findings};
+use crate::finding_list::{FindingList, ListPart, add_others, add_plain_findings};
 use std::alloc::{AllocError, Allocator};
 use std::marker::Model;
 use warc_field::Fields;
@@ -34,15 +34,15 @@ fn end_before(ends: &[usize], position: usize) -> usize
 }
 
 /// The part at a place, an empty one past the end.
-fn part_at(ends: &[usize], position: usize) -> FindingSpan
+fn part_at(ends: &[usize], position: usize) -> ListPart
     ensures is { (findings : List SeenFinding) → findings_of_part findings result
         ≡ found_at (found_by_part findings ends.now) position }
     ensures within { (count : ℕ) → AreEnds count ends.now → IsPart count result }
 {
     if position >= ends.len() {
-        return FindingSpan { start: 0, end: 0 };
+        return ListPart { start: 0, end: 0 };
     }
-    FindingSpan {
+    ListPart {
         start: end_before(ends, position),
         end: ends[position],
     }

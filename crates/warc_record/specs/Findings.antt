@@ -146,21 +146,6 @@ findings_by reading fields size bad_digest used_id =
 unfoldable pub findings_of : List Pair → ℕ → Bool → Bool → List SeenFinding
 findings_of fields size bad_digest used_id = findings_by (reading_of fields) fields size bad_digest used_id
 
--- a finding of the code
-abbrev pub finding_seen : Finding → SeenFinding
-finding_seen (seen.Absent name) = Absent name.now
-finding_seen (seen.Forbidden name) = Forbidden name.now
-finding_seen (seen.Repeated name) = Repeated name.now
-finding_seen seen.Digest = Digest
-finding_seen seen.SegmentNumber = SegmentNumber
-finding_seen seen.IdUsed = IdUsed
-finding_seen seen.NoContentType = NoContentType
-finding_seen seen.Profile = Profile
-finding_seen (seen.NotUtf8 name) = NotUtf8 name.now
-finding_seen seen.BareId = BareId
-finding_seen seen.NoOrigin = NoOrigin
-finding_seen seen.Empty = Empty
-
 -- a finding of the code that holds no text of the record
 abbrev pub plain_seen : PlainFinding → SeenFinding
 plain_seen (plain.Absent name) = Absent (name_text name)
@@ -173,3 +158,9 @@ plain_seen plain.NoContentType = NoContentType
 plain_seen plain.Profile = Profile
 plain_seen plain.BareId = BareId
 plain_seen plain.NoOrigin = NoOrigin
+plain_seen plain.Empty = Empty
+
+-- a finding of the code
+abbrev pub finding_seen : Finding → SeenFinding
+finding_seen (seen.Plain found) = plain_seen found
+finding_seen (seen.NotUtf8 name) = NotUtf8 name.now

@@ -16,41 +16,11 @@ use warc_field::Fields;
 /// What is wrong with a record that can be read, or with an archive: N1 to N12. Some hold the name of a field.
 #[derive(Clone, Copy, Debug, PartialEq, Eq)]
 pub enum Finding<'a> {
-    /// A field that the table requires is absent.
-    Absent(&'a [u8]),
+    /// A finding that holds no text of the record.
+    Plain(PlainFinding),
 
-    /// A field that the table forbids isn't absent.
-    Forbidden(&'a [u8]),
-
-    /// A field that may not be repeated is repeated.
-    Repeated(&'a [u8]),
-
-    /// The block's digest is checked and differs.
-    Digest,
-
-    /// The segment number or the total length is bad.
-    SegmentNumber,
-
-    /// An earlier record has the same id.
-    IdUsed,
-
-    /// A block that isn't empty has no content type.
-    NoContentType,
-
-    /// A revisit's profile isn't known.
-    Profile,
-
-    /// The value of a field isn't UTF-8. The name is spelled as in the record.
+    /// The value of a field isn't UTF-8: N9. The name is spelled as in the record.
     NotUtf8(&'a [u8]),
-
-    /// The value of the id isn't in brackets.
-    BareId,
-
-    /// A continuation's origin holds no id.
-    NoOrigin,
-
-    /// The archive has no records.
-    Empty,
 }
 
 impl<'a> Finding<'a> {
@@ -59,18 +29,8 @@ impl<'a> Finding<'a> {
         ensures { result ≡ finding_number (finding_seen self.entry) }
     {
         match self {
-            Finding::Absent(_) => 1,
-            Finding::Forbidden(_) => 2,
-            Finding::Repeated(_) => 3,
-            Finding::Digest => 4,
-            Finding::SegmentNumber => 5,
-            Finding::IdUsed => 6,
-            Finding::NoContentType => 7,
-            Finding::Profile => 8,
+            Finding::Plain(plain) => plain.number(),
             Finding::NotUtf8(_) => 9,
-            Finding::BareId => 10,
-            Finding::NoOrigin => 11,
-            Finding::Empty => 12,
         }
     }
 
@@ -79,18 +39,8 @@ impl<'a> Finding<'a> {
         ensures { option_copied result ≡ finding_field (finding_seen self.entry) }
     {
         match self {
-            Finding::Absent(name)
-            | Finding::Forbidden(name)
-            | Finding::Repeated(name)
-            | Finding::NotUtf8(name) => Some(name),
-            Finding::Digest
-            | Finding::SegmentNumber
-            | Finding::IdUsed
-            | Finding::NoContentType
-            | Finding::Profile
-            | Finding::BareId
-            | Finding::NoOrigin
-            | Finding::Empty => None,
+            Finding::Plain(plain) => plain.field(),
+            Finding::NotUtf8(name) => Some(name),
         }
     }
 }
@@ -161,7 +111,7 @@ impl<'a, A: Allocator> FindingSink for Vec<Finding<'a>, A> {
     ghost listed = { λ found. map finding_seen found.items };
 
     fn add(&mut self, finding: PlainFinding) -> Result<(), AllocError> {
-        self.push(finding.finding())?;
+        self.push(Finding::Plain(finding))?;
         Ok(())
     }
 }

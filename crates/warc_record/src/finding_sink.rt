@@ -1,11 +1,11 @@
 //! Findings without a text of the record, and what they are added to.
 ghost use Rattle.std.specs.Prelude.{◌≡◌, List, [], ◌∷◌, ◌++◌, OnOk};
-ghost use Rattle.warc_record.specs.Findings.{SeenFinding, finding_seen, once, plain_seen};
+ghost use Rattle.std.specs.Option.{option_copied};
+ghost use Rattle.warc_record.specs.Findings.{SeenFinding, finding_field, finding_number, once, plain_seen};
 
-use crate::checks::Finding;
 use warc_frame::FieldName;
 
-/// A finding that holds no text of the record: any of N1 to N11 but N9.
+/// A finding that holds no text of the record: any of N1 to N12 but N9.
 #[derive(Clone, Copy, Debug, PartialEq, Eq)]
 pub enum PlainFinding {
     /// A field that the table requires is absent: N1.
@@ -37,24 +37,40 @@ pub enum PlainFinding {
 
     /// A continuation's origin holds no id: N11.
     NoOrigin,
+
+    /// The archive has no records: N12.
+    Empty,
 }
 
 impl PlainFinding {
-    /// The finding, as one that may hold a text of the record.
-    pub fn finding(self) -> Finding<'static>
-        ensures { finding_seen result ≡ plain_seen self }
+    /// 1 to 12, for N1 to N12.
+    pub fn number(self) -> u8
+        ensures { result ≡ finding_number (plain_seen self) }
     {
         match self {
-            PlainFinding::Absent(name) => Finding::Absent(name.text().as_bytes()),
-            PlainFinding::Forbidden(name) => Finding::Forbidden(name.text().as_bytes()),
-            PlainFinding::Repeated(name) => Finding::Repeated(name.text().as_bytes()),
-            PlainFinding::Digest => Finding::Digest,
-            PlainFinding::SegmentNumber => Finding::SegmentNumber,
-            PlainFinding::IdUsed => Finding::IdUsed,
-            PlainFinding::NoContentType => Finding::NoContentType,
-            PlainFinding::Profile => Finding::Profile,
-            PlainFinding::BareId => Finding::BareId,
-            PlainFinding::NoOrigin => Finding::NoOrigin,
+            PlainFinding::Absent(_) => 1,
+            PlainFinding::Forbidden(_) => 2,
+            PlainFinding::Repeated(_) => 3,
+            PlainFinding::Digest => 4,
+            PlainFinding::SegmentNumber => 5,
+            PlainFinding::IdUsed => 6,
+            PlainFinding::NoContentType => 7,
+            PlainFinding::Profile => 8,
+            PlainFinding::BareId => 10,
+            PlainFinding::NoOrigin => 11,
+            PlainFinding::Empty => 12,
+        }
+    }
+
+    /// The standard's name of the field that it is about, if it is about one.
+    pub fn field(self) -> Option<&'static [u8]>
+        ensures { option_copied result ≡ finding_field (plain_seen self) }
+    {
+        match self {
+            PlainFinding::Absent(name)
+            | PlainFinding::Forbidden(name)
+            | PlainFinding::Repeated(name) => Some(name.text().as_bytes()),
+            _ => None,
         }
     }
 }

@@ -2,13 +2,16 @@ use Rattle.std.proofs.Common.{rules, ◌+◌, drop, map, ◌∙◌, ap, ◌++◌
 use Rattle.std.specs.List.{filter}
 use Rattle.warc_checking.specs.Lines.{record_lines}
 use Rattle.warc_checking.specs.OwnFindings.{finding_in, is_between}
+use Rattle.warc_frame.specs.declared.field_name.FieldName.TheVariants.{«Type»}
+use Rattle.warc_record.specs.declared.finding_sink.PlainFinding.TheVariants.{Absent}
 use Rattle.warc_checking.specs.declared.finding_list.PackedFinding.{PackedFinding}
+use Rattle.warc_checking.specs.declared.finding_list.PackedFinding.TheVariants.{Plain}
 use Rattle.warc_frame.proofs.LawLemmas.{same_out, same_staged}
 use Rattle.warc_checking.proofs.OwnFindingLemmas.{reported_more, reported_rest}
 use Rattle.warc_checking.proofs.finding_list.put_range.Goals as goal
 
 abbrev any : PackedFinding
-any = record { number = 0; start = 0; end = 0 }
+any = Plain (Absent «Type»)
 
 pub returns-in_err-put_packed : goal.returns-in_err-put_packed
 returns-in_err-put_packed g c = record {

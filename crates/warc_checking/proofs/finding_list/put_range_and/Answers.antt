@@ -2,7 +2,7 @@ use Rattle.std.proofs.Common.{rules}
 use Rattle.std.proofs.lemmas.Result.{IfErr-weaker, on_ok_weaker}
 use Rattle.std.specs.List.{filter}
 use Rattle.warc_frame.proofs.LawLemmas.{same_out, same_staged}
-use Rattle.warc_record.specs.Findings.{finding_seen, once}
+use Rattle.warc_record.specs.Findings.{once, plain_seen}
 use Rattle.warc_checking.specs.Lines.{record_lines}
 use Rattle.warc_checking.specs.OwnFindings.{all_found, is_between}
 use Rattle.warc_checking.proofs.OwnFindingLemmas.{two_texts}
@@ -13,7 +13,7 @@ returns-in_err-put_range g c = record {
   out = search rules;
   cut = λ start output is.
       let range = filter (is_between c.args.numbers.above c.args.numbers.below) (all_found c.args.names.now c.args.findings.now) in
-      let one = once (finding_seen c.args.finding.now) c.args.holds in
+      let one = once (plain_seen c.args.finding) c.args.holds in
       let cut = c.went_out_of_longer.ensures start _ _ (record_lines c.args.position one) _ (c.in_err-put_range.ensures.cut start output is) in
       let whole = same_out (two_texts c.args.position range one output) cut in
       search rules;
@@ -24,7 +24,7 @@ returns-in_err-put_range g c = record {
 pub returns : goal.returns
 returns g c =
     let range = filter (is_between c.args.numbers.above c.args.numbers.below) (all_found c.args.names.now c.args.findings.now) in
-    let one = once (finding_seen c.args.finding.now) c.args.holds in
+    let one = once (plain_seen c.args.finding) c.args.holds in
     record {
       out = λ start output is.
           on_ok_weaker c.put_once.result (same_staged (two_texts c.args.position range one output))
