@@ -92,7 +92,7 @@ module _ (ls fs rs : List Rule) (b4 b5 b7 b8 b10 b11 : Bool) (names : List Pair)
       ∙ ap (λ x. (l ++ f ++ r ++ once Digest b4 ++ once SegmentNumber b5) ++ once IdUsed used ++ x) back
       ∙ parted l f r (once Digest b4) (once SegmentNumber b5) (once IdUsed used) (once NoContentType b7) (once Profile b8) u (once BareId b10) (once NoOrigin b11)
 
-  -- the same, whatever is said of N4
+  -- N4 is among them where it holds
   digest_among : (bad : Bool) → with_digest (all_by []) bad ≡ map absent ls ++ map forbidden fs ++ map repeated rs ++ once Digest bad ++ once SegmentNumber b5 ++ [] ++ once NoContentType b7 ++ once Profile b8 ++ map about_field names ++ once BareId b10 ++ once NoOrigin b11
   digest_among bad =
       let E = is_lower Digest in

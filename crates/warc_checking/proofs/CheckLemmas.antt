@@ -15,7 +15,7 @@ use Rattle.warc_reading.specs.Row.{Placed, Row, row_of}
 use Rattle.warc_checking.specs.Checking.{about_record, record_key, line_text, numbered_line}
 use Rattle.warc_checking.specs.Lines.{record_lines}
 
--- the same text
+-- a text is put as an equal one
 pub puts_same : {X : Type 0} {old new : Seen} {waits waiting : Staged} {answer : Result X SendFault} {a b : List ℕ} → a ≡ b → Puts old new waits waiting answer a
     → Puts old new waits waiting answer b
 puts_same {X} {old} {new} {waits} {waiting} {answer} same puts = let P : List ℕ → Type 0 = λ l. Puts old new waits waiting answer l in subst P same puts

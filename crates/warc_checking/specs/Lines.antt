@@ -41,7 +41,7 @@ abbrev pub PutsFindingsOf : List Record → Seen → Seen → Staged → Staged 
 PutsFindingsOf records old new waits waiting answer =
     PutsLines (records_text records) (length (findings_of_records records)) old new waits waiting answer
 
--- the same, or the line that there is no record
+-- the lines of the findings of records, or the line that there is no record
 abbrev pub PutsCheck : List Record → Seen → Seen → Staged → Staged → Result ℕ OutFault → Type 0
 PutsCheck records old new waits waiting answer =
     PutsLines (check_text records) (length (findings_of_archive records)) old new waits waiting answer

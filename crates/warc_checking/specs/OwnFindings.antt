@@ -130,11 +130,11 @@ shown_plain found = record { others = found; known = true; bad = false }
 abbrev pub unjudged : Record → Found
 unjudged r = shown_by r.fields (length r.block) false
 
--- the same, once its digest is known to differ
+-- what a record shows once its digest is known to differ
 abbrev pub with_bad : Found → Found
 with_bad f = record { others = f.others; known = f.known; bad = f.known }
 
--- the same of the record at a position
+-- the digest of the record at a position is known to differ
 abbrev pub mark_at : List Found → ℕ → List Found
 mark_at [] position = []
 mark_at (f ∷ fs) zero = with_bad f ∷ fs
@@ -157,7 +157,7 @@ is_marked Outside = false
 is_marked Unmarked = false
 is_marked Marked = true
 
--- the same of the record at a position, false past the end
+-- N4 holds of the record at a position; false past the end
 abbrev pub bad_at : List DigestState → ℕ → Bool
 bad_at states position = option_map_or is_marked (slice_get states position) false
 

@@ -28,7 +28,7 @@ const MAX_KEPT: usize = 1_048_576;
 /// The longest block that is kept, 256 KiB. A longer one is judged at once.
 const MAX_KEPT_BLOCK: u64 = 262_144;
 
-/// Makes a buffer at least as long as this. If memory is refused, it stays.
+/// Makes a buffer at least as long as this. If an allocation fails, it stays.
 fn lengthen<A: Allocator>(bytes: &mut Vec<u8, A>, len: usize) -> Result<(), AllocError>
     ensures longer { (more : List ℕ) × (bytes.new.items ≡ bytes.old.items ++ more) }
     ensures ok { OnOk result (len ≤ length bytes.new.items) }
@@ -113,7 +113,7 @@ impl<A: Allocator> Blocks<A> {
         Ok(())
     }
 
-    /// Adds a block that is in memory, for which there is room. If memory is refused, none is added.
+    /// Adds a block that is in memory, for which there is room. If an allocation fails, none is added.
     fn push(&mut self, block: &[u8]) -> Result<(), AllocError>
         requires { length self.old + length block.now ≤ MAX_KEPT }
         ensures ok { OnOk result (self.new ≡ self.old ++ block.now) }
@@ -233,7 +233,7 @@ struct Waiting {
     end: usize,
 }
 
-/// Adds a block that is in memory to those that wait. If memory is refused, none is added.
+/// Adds a block that is in memory to those that wait. If an allocation fails, none is added.
 fn add_block<A: Allocator>(
     waiting: &mut Vec<Waiting, A>,
     blocks: &mut Blocks<A>,
@@ -259,7 +259,7 @@ fn add_block<A: Allocator>(
     Ok(())
 }
 
-/// Adds a block of the source to those that wait. If it isn't read, or memory is refused, none is added.
+/// Adds a block of the source to those that wait. If it isn't read, or an allocation fails, none is added.
 fn add_read_block<S: Source, A: Allocator>(
     waiting: &mut Vec<Waiting, A>,
     blocks: &mut Blocks<A>,
@@ -398,8 +398,8 @@ impl<A: Allocator> Batch<A> {
         add_block(&mut self.waiting, &mut self.blocks, check, block)
     }
 
-    /// Adds a block of the source, which is read now, if a digest of it can be checked. If the read fails, or memory is
-    /// refused, none is added.
+    /// Adds a block of the source, which is read now, if a digest of it can be checked. If the read fails, or an
+    /// allocation fails, none is added.
     pub(crate) fn add_read<S: Source>(
         &mut self,
         source: &mut S,
@@ -429,7 +429,7 @@ impl<A: Allocator> Batch<A> {
     }
 
     /// Hashes the blocks that wait, side by side, writes the verdicts on them, in their order, and returns how many
-    /// they are. Then none waits. It takes no memory.
+    /// they are. Then none waits. It doesn't allocate.
     pub fn judge(&mut self, verdicts: &mut [Verdict; MAX_WAITING]) -> usize
         ensures verdicts { take result verdicts.new ≡ self.old }
         ensures count { result ≡ length self.old }

@@ -110,8 +110,8 @@ fn row_findings<S: Source, A: Allocator + Copy>(
 /// of it can be checked. Then the lines are written.
 ///
 /// A read that fails, or a source that doesn't give what the rows say, is `Read`, and then nothing was written. A write
-/// that fails is `Write`, and a refused growth of the memory `Memory`. Each has the number of bytes that went out, the
-/// first of the output.
+/// that fails is `Write`, and a failed allocation `Memory`. Each has the number of bytes that went out, the first of
+/// the output.
 pub fn check_rows<S: Source, A: Allocator + Copy, W: Sink>(
     alloc: A,
     source: &mut S,

@@ -32,7 +32,7 @@ impl DigestState {
         }
     }
 
-    /// The same, once the digest is known to differ.
+    /// What is kept of N4 once the digest is known to differ.
     fn marked(&self) -> DigestState
         ensures { result ≡ marked self.now }
     {

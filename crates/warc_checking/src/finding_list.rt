@@ -196,7 +196,7 @@ fn put_found<W: Sink>(
     put_range(position, names, findings, AFTER_USED, buffer, out)
 }
 
-/// Adds N9 after the others, with the name of its field. If memory is refused, none is added.
+/// Adds N9 after the others, with the name of its field. If an allocation fails, none is added.
 #[tactic(auto, using(crate::proofs::OwnFindingLemmas::packed_named))]
 fn add_not_utf8<A: Allocator>(
     names: &mut Vec<u8, A>,
@@ -220,7 +220,7 @@ fn add_not_utf8<A: Allocator>(
     Ok(())
 }
 
-/// Adds a finding that holds no text of the record after the others. If memory is refused, it isn't added.
+/// Adds a finding that holds no text of the record after the others. If an allocation fails, it isn't added.
 #[tactic(auto, using(crate::proofs::OwnFindingLemmas::plain_named, crate::proofs::OwnFindingLemmas::plain_more))]
 fn add_plain<A: Allocator>(
     names: &[u8],
@@ -237,7 +237,7 @@ fn add_plain<A: Allocator>(
     Ok(())
 }
 
-/// Adds a finding after the others. If memory is refused, none is added.
+/// Adds a finding after the others. If an allocation fails, none is added.
 fn add_finding<A: Allocator>(
     names: &mut Vec<u8, A>,
     findings: &mut Vec<PackedFinding, A>,
@@ -295,7 +295,7 @@ impl<A: Allocator> FindingList<A> {
         self.findings.len()
     }
 
-    /// Adds a finding after the others. If memory is refused, none is added.
+    /// Adds a finding after the others. If an allocation fails, none is added.
     pub(crate) fn push(&mut self, finding: &Finding<'_>) -> Result<(), AllocError>
         ensures ok { OnOk result (self.new ≡ self.old ++ finding_seen finding.now ∷ []) }
         ensures err { OnErr result (self.new ≡ self.old) }
@@ -361,7 +361,7 @@ fn put_part<W: Sink>(
     )
 }
 
-/// Adds findings after the others. If memory is refused, some of them are added.
+/// Adds findings after the others. If an allocation fails, some of them are added.
 fn add_all<A: Allocator>(
     found: &[Finding<'_>],
     findings: &mut FindingList<A>,
@@ -375,7 +375,7 @@ fn add_all<A: Allocator>(
     Ok(())
 }
 
-/// The same, of findings of a record whose head is plain.
+/// Adds findings of a plain head after the others. If an allocation fails, some of them are added.
 pub(crate) fn add_plain_findings<A: Allocator>(
     found: &[PlainFinding],
     findings: &mut FindingList<A>,
@@ -389,8 +389,8 @@ pub(crate) fn add_plain_findings<A: Allocator>(
     Ok(())
 }
 
-/// Adds the findings that a record alone shows but for N4, by the fields of its head and the length of its block. If
-/// memory is refused some of them are added.
+/// Adds the findings that a record alone shows but for N4, by the fields of its head and the length of its block. If an
+/// allocation fails some of them are added.
 pub(crate) fn add_others<A: Allocator + Copy>(
     alloc: A,
     fields: &Fields<A>,

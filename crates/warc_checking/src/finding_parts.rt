@@ -58,8 +58,8 @@ fn forget_rest<A: Allocator>(findings: &mut FindingList<A>, ends: &[usize])
     findings.truncate(end_before(ends, ends.len()));
 }
 
-/// Adds the part of the next record, by the fields of its head and the length of its block. If memory is refused, none
-/// is added, and the findings that were added are in no part.
+/// Adds the part of the next record, by the fields of its head and the length of its block. If an allocation fails,
+/// none is added, and the findings that were added are in no part.
 fn add_part<A: Allocator + Copy>(
     alloc: A,
     findings: &mut FindingList<A>,
@@ -81,7 +81,8 @@ fn add_part<A: Allocator + Copy>(
     Ok(())
 }
 
-/// The same, by the findings of a plain head.
+/// Adds the part of the next record, by the findings of its plain head. If an allocation fails, none is added, and the
+/// findings that were added are in no part.
 fn add_plain_part<A: Allocator>(
     findings: &mut FindingList<A>,
     ends: &mut Vec<usize, A>,
@@ -132,8 +133,8 @@ impl<A: Allocator + Copy> OtherFindings<A> {
         }
     }
 
-    /// Adds the findings of the next record, by the fields of its head and the length of its block. If memory is
-    /// refused, none is added.
+    /// Adds the findings of the next record, by the fields of its head and the length of its block. If an allocation
+    /// fails, none is added.
     pub(crate) fn add(
         &mut self,
         alloc: A,
@@ -148,7 +149,7 @@ impl<A: Allocator + Copy> OtherFindings<A> {
 }
 
 impl<A: Allocator> OtherFindings<A> {
-    /// Adds the findings of the next record, whose head is plain. If memory is refused, none is added.
+    /// Adds the findings of the next record, whose head is plain. If an allocation fails, none is added.
     pub(crate) fn add_plain(&mut self, found: &PlainFindings) -> Result<(), AllocError>
         ensures ok { OnOk result (self.new ≡ self.old ++ all_plain found.now ∷ []) }
         ensures err { OnErr result (self.new ≡ self.old) }

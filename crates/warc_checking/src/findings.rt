@@ -41,7 +41,7 @@ pub(crate) fn mark_last<A: Allocator>(findings: &mut OwnFindings<A>, verdicts: &
 }
 
 /// Hashes the blocks that wait, and marks of their records, the last ones, whether the digest differs. Then none waits.
-/// It takes no memory.
+/// It doesn't allocate.
 fn settle<A: Allocator>(findings: &mut OwnFindings<A>, batch: &mut Batch<A>)
     requires { length batch.old ≤ length findings.old }
     ensures same { findings.new ≡ settled findings.old batch.old }
@@ -52,7 +52,7 @@ fn settle<A: Allocator>(findings: &mut OwnFindings<A>, batch: &mut Batch<A>)
     mark_last(findings, &verdicts[..count]);
 }
 
-/// The same, if no further block of this length should wait.
+/// Hashes the blocks that wait, as `settle`, if no further block of this length should wait.
 fn settle_if_full<A: Allocator>(findings: &mut OwnFindings<A>, batch: &mut Batch<A>, len: u64)
     requires { length batch.old ≤ length findings.old }
     ensures same { settled findings.new batch.new ≡ settled findings.old batch.old }
@@ -83,7 +83,8 @@ fn add_good_head<A: Allocator + Copy>(
     }
 }
 
-/// The same. If the head is plain and its findings are known, no fields are kept.
+/// Adds what the head that a text is shows, as `add_good_head`. If the head is plain and its findings are known, no
+/// fields are kept.
 fn add_head<A: Allocator + Copy>(
     alloc: A,
     text: &[u8],
@@ -103,7 +104,7 @@ fn add_head<A: Allocator + Copy>(
     }
 }
 
-/// Adds what the head of a record shows that was read in place. If memory is refused, nothing is added.
+/// Adds what the head of a record shows that was read in place. If an allocation fails, nothing is added.
 pub(crate) fn add_plain_head<A: Allocator + Copy>(
     alloc: A,
     found: &QuickRecord<'_>,
@@ -126,7 +127,7 @@ pub(crate) fn add_plain_head<A: Allocator + Copy>(
     }
 }
 
-/// Adds a record that was read in place. If memory is refused, it isn't added.
+/// Adds a record that was read in place. If an allocation fails, it isn't added.
 fn add_in_place<A: Allocator + Copy>(
     alloc: A,
     found: &QuickRecord<'_>,
@@ -146,14 +147,14 @@ fn add_in_place<A: Allocator + Copy>(
     match batch.add(BlockCheck::of(&found.head.wanted()), found.block) {
         Ok(()) => Ok(()),
         Err(refused) => {
-            // What was added is taken back, which takes no memory.
+            // What was added is taken back, which doesn't allocate.
             findings.truncate(count);
             Err(refused)
         }
     }
 }
 
-/// Adds a record whose block is judged already. If memory is refused, it isn't added.
+/// Adds a record whose block is judged already. If an allocation fails, it isn't added.
 fn add_known<A: Allocator + Copy>(
     alloc: A,
     fields: &Fields<A>,
@@ -174,7 +175,7 @@ fn add_known<A: Allocator + Copy>(
     match batch.add(BlockCheck::Known(verdict), b"") {
         Ok(()) => Ok(()),
         Err(refused) => {
-            // What was added is taken back, which takes no memory.
+            // What was added is taken back, which doesn't allocate.
             findings.truncate(count);
             Err(refused)
         }
@@ -229,7 +230,7 @@ fn add_reread<S: Source, A: Allocator + Copy>(
     match batch.add_read(source, row.block_start, row.block_len, &wanted, buf) {
         Ok(()) => Ok(()),
         Err(fault) => {
-            // What was added is taken back, which takes no memory.
+            // What was added is taken back, which doesn't allocate.
             findings.truncate(count);
             Err(fault)
         }
@@ -267,8 +268,8 @@ impl<A: Allocator + Copy> Judging<A> {
         }
     }
 
-    /// Adds the next record, by the fields of its head, the length of its block and the verdict on its digest. If
-    /// memory is refused, it isn't added.
+    /// Adds the next record, by the fields of its head, the length of its block and the verdict on its digest. If an
+    /// allocation fails, it isn't added.
     pub(crate) fn add(
         &mut self,
         alloc: A,
@@ -291,7 +292,7 @@ impl<A: Allocator + Copy> Judging<A> {
         )
     }
 
-    /// Adds the next record, which was read in place. If memory is refused, it isn't added.
+    /// Adds the next record, which was read in place. If an allocation fails, it isn't added.
     pub(crate) fn add_plain(&mut self, alloc: A, found: &QuickRecord<'_>) -> Result<(), AllocError>
         requires { (p : Placed) × (start : ℕ) × IsNextPlain p found.now start }
         ensures ok { (p : Placed) (start : ℕ) → IsNextPlain p found.now start →
@@ -322,7 +323,7 @@ impl<A: Allocator + Copy> Judging<A> {
         add_reread(alloc, source, row, &mut self.findings, &mut self.batch, buf)
     }
 
-    /// Forgets all but the first records, this many. It takes no memory.
+    /// Forgets all but the first records, this many. It doesn't allocate.
     pub(crate) fn truncate(&mut self, count: usize)
         ensures { self.new ≡ take count self.old }
     {
@@ -330,7 +331,7 @@ impl<A: Allocator + Copy> Judging<A> {
         self.findings.truncate(count);
     }
 
-    /// What is found of each record. The blocks that wait are hashed first. It takes no memory.
+    /// What is found of each record. The blocks that wait are hashed first. It doesn't allocate.
     pub fn into_findings(self) -> OwnFindings<A>
         ensures { map all_of result ≡ self }
     {

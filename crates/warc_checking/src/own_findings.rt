@@ -48,7 +48,7 @@ impl<A: Allocator + Copy> OwnFindings<A> {
     }
 
     /// Adds the findings of the next record, by the fields of its head and the length of its block. Its digest isn't
-    /// known to differ. If memory is refused, none is added.
+    /// known to differ. If an allocation fails, none is added.
     pub(crate) fn add(
         &mut self,
         alloc: A,
@@ -75,7 +75,7 @@ impl<A: Allocator> OwnFindings<A> {
     }
 
     /// Adds the findings of the next record, whose head is plain, and whose kind is one of the eight. Its digest isn't
-    /// known to differ. If memory is refused, none is added.
+    /// known to differ. If an allocation fails, none is added.
     pub(crate) fn add_plain(&mut self, found: &PlainFindings) -> Result<(), AllocError>
         requires { IsWithoutDigest (all_plain found.now) }
         ensures ok { OnOk result (self.new ≡ self.old ++ shown_plain (all_plain found.now) ∷ []) }

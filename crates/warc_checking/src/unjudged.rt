@@ -56,7 +56,7 @@ impl<A: Allocator + Copy> Keep<A> for OwnFindings<A> {
     }
 }
 
-/// Marks of each record whether its digest differs, by the verdicts on all blocks. It takes no memory.
+/// Marks of each record whether its digest differs, by the verdicts on all blocks. It doesn't allocate.
 pub fn mark_each<A: Allocator>(findings: &mut OwnFindings<A>, verdicts: &[Verdict])
     ensures { (records : List Placed) → findings.old ≡ map unjudged (contents records) →
         verdicts.now ≡ map verdict_on records → map all_of findings.new ≡ map own_findings (contents records) }

@@ -1,4 +1,4 @@
-//! The head of a WARC record, read in place, line by line. Reading takes no memory, and copies no name and no value.
+//! The head of a WARC record, read in place, line by line. Reading doesn't allocate, and copies no name and no value.
 //!
 //! Most heads are plain: each field is on a line of its own, and each name of the standard is spelled as there and
 //! occurs at most once, if it may not repeat. These are read here. Any other head is left to `warc_frame` and

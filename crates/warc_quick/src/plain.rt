@@ -72,7 +72,7 @@ pub fn quick_record(text: &[u8]) -> Option<QuickRecord<'_>>
     with_block(text, quick_head(text)?)
 }
 
-/// The same record, with its findings, if they are known.
+/// The record that `quick_record` gives, with its findings, if they are known.
 #[inline(always)]
 pub fn record_with_findings(text: &[u8]) -> Option<QuickRecord<'_>>
     ensures { IfSome result (IsQuickRecord text.now) }

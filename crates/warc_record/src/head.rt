@@ -163,7 +163,7 @@ pub fn wanted<A: Allocator>(fields: &Fields<A>) -> Wanted
     wanted_in(&ByName::new(fields))
 }
 
-/// The same, from fields by their names.
+/// The digest that the head asks for of its block, from fields by their names.
 fn wanted_in<A: Allocator>(fields: &ByName<'_, A>) -> Wanted
     ensures { result ≡ digest_wanted fields.now }
 {
@@ -282,7 +282,7 @@ pub fn type_head<A: Allocator>(fields: &Fields<A>) -> Result<Typed<'_>, FaultKin
     type_fields(&ByName::new(fields))
 }
 
-/// The same, from fields by their names.
+/// What `type_head` gives, from fields by their names.
 fn type_fields<'a, A: Allocator>(fields: &ByName<'a, A>) -> Result<Typed<'a>, FaultKind>
     ensures { MatchResult result
         (λ typed. (head_fault fields.now ≡ None) × (said typed ≡ reading_of fields.now))

@@ -208,7 +208,7 @@ pub fn id_key(text: &[u8]) -> Option<IdKey<'_>>
     }
 }
 
-/// The same, by a search for brackets, spaces and tabs.
+/// The key of the id that a text holds, by a search for brackets, spaces and tabs, or `None` if it holds none.
 fn searched_id_key(text: &[u8]) -> Option<IdKey<'_>>
     ensures { result ≡ id_key text.now }
 {

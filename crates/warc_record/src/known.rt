@@ -108,7 +108,7 @@ fn spots_of<A: Allocator>(fields: &Fields<A>) -> Spots
 }
 
 impl<'a, A: Allocator> ByName<'a, A> {
-    /// The same fields. It goes over them once.
+    /// These fields, found by their names. It goes over them once.
     pub(crate) fn new(fields: &'a Fields<A>) -> ByName<'a, A>
         ensures { result ≡ fields.now }
     {
