@@ -230,7 +230,7 @@ typedef struct {
 size_t warc_row_at(warc_archive *archive, size_t position, warc_row *row, uint8_t *texts, size_t texts_length,
                    warc_problem *problem);
 
-/* The same of many records in one call: those from a position on, in order. Writes the row of each, and to `text` its
+/* What is kept of many records, in one call: from a position on, in order. Writes the row of each, and to `text` its
  * type, its date, its id and its target, each with a line feed after it, which none of them has: of as many records
  * as there is room for. 65,540 bytes hold the lines of any record. Answers how many records these are: 0 at the end
  * of the archive, and where there is no room for the first one. What is in the buffers after these is of no meaning.

@@ -258,7 +258,7 @@ class Archive {
     return this.keeper;
   }
 
-  // The same, with the archive open.
+  // That module, with the archive open.
   async ready() {
     const keeper = await this.full();
     if (!keeper.isOpen) this.openIn(keeper);

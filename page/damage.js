@@ -200,7 +200,7 @@ function damageMark() {
   return isMarked ? [make('b', {className: 'of-damaged', title: OF_DAMAGED}, 'damaged archive')] : [];
 }
 
-// The same in words, beside an answer.
+// The mark with its words, beside an answer.
 const damageNote = () => damageMark().map((mark) => note(mark, `: ${OF_DAMAGED}`));
 
 // What is wrong with the archive, once it is listed.

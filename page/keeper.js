@@ -57,7 +57,7 @@ class Keeper extends Instance {
     }
   }
 
-  // The same as they are in the memory, with the text of one fault of each kind.
+  // The pieces that the library put into the memory, with the text of one fault of each kind.
   /** @type {(places: number, count: number, start: number) => Pieces} */
   piecesAt(places, count, start) {
     const view = new DataView(this.memory.buffer, places, count * PIECE_BYTES);

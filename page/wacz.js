@@ -187,7 +187,8 @@ async function verdictOn(entry, statements, judge) {
   return WORST_FIRST.find((verdict) => verdicts.has(verdict)) ?? 'unchecked';
 }
 
-// The same by a hash. The library judges it, as it judges the block of a record that states this digest.
+// How the bytes of an entry compare with a hash that is stated. The library judges it, as it judges the block of a
+// record that states this digest.
 /** @type {(entry: ZipEntry, hash: any, judge: JudgeOfFile) => Promise<string>} */
 async function verdictByHash(entry, hash, judge) {
   const [, algorithm, digits] = (typeof hash === 'string' && STATED_HASH.exec(hash)) || [];

@@ -64,7 +64,7 @@ function reasonNote(reason, {can = '', more = [], details = []} = {}) {
 const prose = (text) => text.split('`').map((part, number) => (number % 2 ? make('code', {}, part) : part));
 
 /**
- * The same as a plain text.
+ * A text with code between backquotes, as a plain text.
  * @param {string} text
  */
 const plain = (text) => text.replace(/`/g, '');

@@ -298,7 +298,7 @@ async function* packedOf({file, begin, packed}) {
     yield bytesOfFile(file, at, Math.min(begin + packed, at + ENTRY_PIECE));
 }
 
-// The same, inflated.
+// The bytes of an entry, inflated.
 /** @type {(entry: ZipEntry) => AsyncGenerator<Uint8Array>} */
 async function* inflatedOf(entry) {
   const stream = new ZStream(), output = new Uint8Array(INFLATED_PIECE), OTHER = 'other bytes follow what was deflated';

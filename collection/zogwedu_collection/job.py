@@ -199,7 +199,7 @@ class Job:
         return self.judge_package(file, state, detail) if is_package(file) else (state, detail)
 
     def verdict_on_records(self, file: IO[bytes]) -> Tuple[str, str]:
-        """The same for what the file holds."""
+        """Reads what the file holds. Returns its state and a few words about it."""
         try:
             source = Source(file, self.where, self.pace, self.room)
             with contextlib.closing(source):

@@ -265,7 +265,7 @@ def link_timemap(paths: Paths, around: Around, parts: Parts, instants: Iterable[
 
 
 def json_timemap(paths: Paths, around: Around, parts: Parts, captures: Iterable[Tuple[str, Dict[str, Any]]]) -> str:
-    """The same in JSON, in the form that other archives use, with what the catalogue says of each capture."""
+    """A list of captures in JSON, in the form that other archives use, with what the catalogue says of each capture."""
     mementos: Dict[str, Any] = {}
     for name, instant in (("first", around.first), ("last", around.last)):
         mementos[name] = json_memento(paths, instant)

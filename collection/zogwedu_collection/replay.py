@@ -450,7 +450,7 @@ class Replayer:
             return self.names[file, position]
 
     def named_alone(self, file: int, position: int) -> Names:
-        """The same, by its own record. NoMember where it can't be read by itself."""
+        """What the head of a revisit names, by its own record. NoMember where it can't be read by itself."""
         if (file, position) not in self.names:
             self.names[file, position] = self.names_in(self.one(self.known(file), position), 0)
         return self.names[file, position]

@@ -78,7 +78,7 @@ class Sample:
         return {int(row[0]) for row in rows if row[3].lower() == b"continuation"}
 
     def readable(self, lines: List[Line], series: Set[int]) -> List[Line]:
-        """Those of lines whose records have members of their own, as many as have not too many bytes."""
+        """The lines whose records have members of their own, as many as have not too many bytes."""
         left = max(LEAST, self.end_of(len(self.tally.offsets) - 1) // PART)
         sizes: Dict[int, int] = {}
         for position in {int(it.given) for it in lines} | series:

@@ -46,7 +46,7 @@ fn put_stated(out: &mut impl Write, archive: &Archive<'_>) -> Result<(), Box<dyn
     Ok(writeln!(out, "records {} good {good} bad {bad} unchecked {unchecked}", verdicts.len())?)
 }
 
-/// The same of `warc fixity --payload`.
+/// The lines of `warc fixity --payload` without ids and digests, made of the verdicts on single records.
 fn put_payloads(out: &mut impl Write, archive: &Archive<'_>) -> Result<(), Box<dyn error::Error>> {
     let (mut good, mut bad, mut unchecked) = (0, 0, 0);
     writeln!(out, "== payloads")?;

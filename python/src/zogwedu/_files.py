@@ -124,7 +124,7 @@ def _read_file(file: Any, map_it: bool, upon: Upon) -> Contents:
 
 
 def read_object(file: Any, map_it: bool, upon: Upon) -> Contents:
-    """The same of a binary file object, from where it is to its end."""
+    """The bytes of a binary file object, from where it is to its end. A damaged member is treated as `upon` says."""
     if isinstance(file, io.TextIOBase):
         raise TypeError("an archive is read from a binary file: sys.stdin.buffer, or open(path, 'rb')")
     return _read_object(file, map_it, upon)._replace(source=identity_of(file))

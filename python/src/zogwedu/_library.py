@@ -389,7 +389,7 @@ class Opened:
         return self._verdict(lib.warc_verdict_at, position)
 
     def stated_verdict(self, position: int) -> int:
-        """The same for a digest of any algorithm that is known."""
+        """How the block of a record compares with its digest, by any algorithm that is known."""
         return self._verdict(lib.warc_stated_verdict_at, position)
 
     def payload_verdict(self, position: int) -> int:

@@ -294,7 +294,7 @@ def _packed(read: Read, entry: Entry) -> Iterator[bytes]:
 
 
 def _inflated(read: Read, entry: Entry) -> Iterator[bytes]:
-    """The same, inflated."""
+    """The bytes of an entry, inflated."""
     inflater, left = zlib.decompressobj(RAW_DEFLATE), entry.packed
     for data in _packed(read, entry):
         for at in range(0, len(data), STEP):
