@@ -216,7 +216,7 @@ is_request DisplayHelp = true
 is_request DisplayVersion = true
 is_request _ = false
 
--- a refusal for want of memory, or for one of these kinds, that says whether it was a request
+-- a refusal because an allocation failed, or for one of these kinds, that says whether it was a request
 abbrev pub IsReportedBy : Kinds → CommandFault → Type 0
 IsReportedBy kinds (Usage text asked) = (kind : ErrorKind) × IsAmong kind kinds × (asked ≡ is_request kind)
 IsReportedBy kinds Memory = Unit {0}

@@ -11,7 +11,7 @@ pub enum UriFault {
     /// Their number is odd, or one isn't a hexadecimal digit.
     Digits,
 
-    /// A growth of the memory was refused.
+    /// An allocation failed.
     Memory,
 }
 

@@ -30,7 +30,7 @@ const TIP: &str = "\n  tip: to pass '";
 pub enum CommandFault {
     /// The text that `clap` writes, and whether it was asked for, as by `--help`.
     Usage { text: String, asked: bool },
-    /// A growth of the memory was refused.
+    /// An allocation failed.
     Memory,
 }
 

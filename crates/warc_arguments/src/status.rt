@@ -11,7 +11,7 @@ pub enum Status {
     Found,
     /// The archive is refused.
     Refused,
-    /// The words are wrong, the file doesn't open, or a read, a write or a growth of the memory failed.
+    /// The words are wrong, the file doesn't open, or a read, a write or an allocation failed.
     Failed,
     /// Some block or payload can't be checked.
     Unchecked,
