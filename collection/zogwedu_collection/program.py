@@ -90,13 +90,13 @@ def instant_of(warc: str, date: str) -> str:
     except ValueError:  # no word can be this text
         raise BadDate("bad date") from None
     except subprocess.TimeoutExpired:
-        raise Trouble("%s instant takes too long" % shown(warc)) from None
+        raise Trouble("warc instant takes too long") from None
     except OSError as error:
         raise Trouble("%s doesn't run: %s" % (shown(warc), error.strerror)) from None
     if done.returncode == 0:
         return done.stdout.decode("ascii").strip()
     message = said(done.stderr)
-    raise BadDate(message) if message == "bad date" else Trouble("%s instant: %s" % (shown(warc), message))
+    raise BadDate(message) if message == "bad date" else Trouble("warc instant: %s" % message)
 
 
 def said(message: bytes) -> str:

@@ -29,7 +29,7 @@ def test_it_is_no_date(date: str) -> None:
 
 @pytest.mark.parametrize("says", ["echo warc: out of memory after 0 >&2; exit 3", "exit 3", "kill -9 $$"])
 def test_another_failure_is_reported(tmp_path: os.PathLike[str], says: str) -> None:
-    with pytest.raises(Trouble) as failed:
+    with pytest.raises(Trouble, match="^warc instant: ") as failed:
         instant_of(script(os.path.join(tmp_path, "warc"), says), "2021")
     assert not isinstance(failed.value, BadDate)
 
@@ -41,7 +41,7 @@ def test_a_program_that_does_not_run(tmp_path: os.PathLike[str]) -> None:
 
 def test_a_program_that_hangs(tmp_path: os.PathLike[str], monkeypatch: pytest.MonkeyPatch) -> None:
     monkeypatch.setattr(programs, "MOST_SECONDS", 0.2)
-    with pytest.raises(Trouble, match="takes too long"):
+    with pytest.raises(Trouble, match="^warc instant takes too long$"):
         instant_of(script(os.path.join(tmp_path, "warc"), "exec sleep 60"), "2021")
 
 
