@@ -51,6 +51,7 @@ RETIRED = re.compile(
     r"|\b\w*(?:Told|Tells?|Telling|Behind|Stands?|Standings?)(?=[A-Z_]|\b)"
 )
 NO_CODE = {".rt": re.compile(r'//[^\n]*|"(?:\\.|[^"\\])*"'), ".antt": re.compile(r'--[^\n]*|"(?:\\.|[^"\\])*"')}
+BY_ANOTHER = re.compile(r"^(?![ \t]*///)[^\n]*\n[ \t]*/// (The same|Those of|That of)\b", re.MULTILINE)
 GERUND = re.compile(r"crates/\w+/src/(?:\w+/)*(?!listing\.)\w+ing\.rt")
 # Each planted bug in the gate costs a minute of a processor, and each crate that has any is checked once more.
 EDIT = re.compile(r"(?:crates/\w+/must-fail|tests/plants/\w+)/\w+\.edit")
@@ -228,6 +229,15 @@ def without_head(top: str, paths: list[str]) -> Iterator[str]:
             yield path
 
 
+def without_subject(top: str, paths: list[str]) -> Iterator[str]:
+    """Doc comments that say what a call does by the one above it, which a reader may not see, and which may move."""
+    for path in paths:
+        if re.fullmatch(r"crates/\w+/src/.*\.rt", path):
+            text = "\n".join(lines_of(top, path))
+            for found in BY_ANOTHER.finditer(text):
+                yield f"{path}:{text.count(chr(10), 0, found.start(1)) + 1}: {found[1]}"
+
+
 def strays(top: str, _: list[str]) -> Iterator[str]:
     """What stops the gate wherever it is: `crates/NAME/out` alone is set aside."""
     for at, folders, names in os.walk(top):
@@ -266,6 +276,7 @@ def main(words: list[str]) -> int:
             ("bad edit", bad_edits),
             ("number of a paper", numbers_of_papers),
             ("no first line //!", without_head),
+            ("says nothing alone", without_subject),
             ("stops the gate", strays),
             ("retired name", retired_names),
             ("retired word", lint_retired.found),
