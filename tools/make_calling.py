@@ -22,7 +22,7 @@ from shared import TOP, matched, read
 CALLERS: dict[str, tuple[str, tuple[str, ...]]] = {
     "warc_field": ("warc_frame/src/front.rt", ("read_fields",)),
     "warc_lanes": ("warc_checking/src/batch.rt", ("judge_each",)),
-    "warc_value": ("warc_commands/src/replays.rt", ("replay_of",)),
+    "warc_value": ("warc_commands/src/words.rt", ("read_moment",)),
     "warc_frame": ("warc_digest/src/lib.rt", ("update_range",)),
     "warc_record": ("warc_reading/src/reread.rt", ("judged",)),
     "warc_quick": ("warc_replay/src/replay/origin.rt", ("origin_in",)),

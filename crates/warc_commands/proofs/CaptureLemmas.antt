@@ -1,4 +1,4 @@
--- How `captures` ends, and the commands that are given a URI in digits.
+-- How `captures` ends, and lines in pieces.
 use Rattle.std.proofs.Common.{◌≡◌, inl, inr, ℕ, Bool, true, false, List, [], ◌∷◌, length, ◌+◌, ◌<◌, ◌^◌, ◌++◌, nat_lt, if◌then◌else◌, append_assoc, take, take_all, map, Option, Some, None, Result, Ok, Err, refl, sym, ap, subst, ◌∙◌, arith, codes}
 use Rattle.std.specs.Io.KnownBytes.{append_known}
 use Rattle.std.specs.List.{concat}
@@ -22,15 +22,10 @@ use Rattle.warc_reading.specs.Row.{Placed, Row, row_of}
 use Rattle.warc_replay.specs.Captures.{captures_text}
 use Rattle.warc_replay.specs.Capturing.{AreFirstOutcomes, AreIndexedAt, AreOutcomes, SendsCaptures}
 use Rattle.warc_replay.specs.Outcomes.{CaptureSeen}
-use Rattle.warc_arguments.specs.Digits.{uri_named}
 use Rattle.warc_arguments.specs.declared.status.Status.{Status}
-use Rattle.warc_arguments.specs.declared.status.Status.TheVariants.{Failed}
 use Rattle.warc_commands.specs.Captures.{AnswerEnds, AreListed, CapturesEnds, CountEnds, WritesListed}
-use Rattle.warc_commands.specs.Devices.{Devices, devices}
-use Rattle.warc_commands.specs.Program.{Reports, reported_line}
-use Rattle.warc_commands.specs.Uris.{IsStarved, UriEnds, uri_fault_text, uri_listed}
-use Rattle.warc_arguments.specs.declared.digits.UriFault.{UriFault}
-use Rattle.warc_arguments.specs.declared.digits.UriFault.TheVariants.{Digits, Memory}
+use Rattle.warc_commands.specs.Devices.{devices}
+use Rattle.warc_commands.specs.Program.{Reports}
 use Rattle.warc_commands.proofs.ProgramLemmas.{has_failed, may_have_failed}
 use Rattle.warc.proofs.SurveyLemmas.{captures_inside}
 
@@ -160,48 +155,6 @@ module _ {Is : List ℕ → Type 0} {Right : List Placed → Type 0} {uri : Opti
         fails = fails_never sends.fails.may;
         cause = sends.cause;
       }
-
--- ---- a URI in digits
-
--- a command that is given a URI as it is
-pub uri_plain : (ends : List ℕ → Devices → Devices → Status → Type 0) (in_hex : Bool) (word bytes : List ℕ) (old new : Devices) (status : Status) → in_hex ≡ false → bytes ≡ word
-    → ends bytes old new status → UriEnds ends in_hex (uri_named in_hex word) old new status
-uri_plain ends in_hex word bytes old new status plain same is =
-    subst (λ (b : Bool). UriEnds ends b (uri_named b word) old new status) (sym plain) (inl (subst (λ (w : List ℕ). ends w old new status) same is))
-
-pub uri_hex : (ends : List ℕ → Devices → Devices → Status → Type 0) (in_hex : Bool) (word : List ℕ) (old new : Devices) (status : Status) → in_hex ≡ true
-    → UriEnds ends true (uri_named true word) old new status → UriEnds ends in_hex (uri_named in_hex word) old new status
-uri_hex ends in_hex word old new status hex is = subst (λ (b : Bool). UriEnds ends b (uri_named b word) old new status) (sym hex) is
-
-pub uri_found : {X : Type 0} (ends : X → Devices → Devices → Status → Type 0) (o : Option X) (x : X) (old new : Devices) (status : Status) → o ≡ Some x → ends x old new status
-    → UriEnds ends true o old new status
-uri_found ends o x old new status same is = subst (λ o. UriEnds ends true o old new status) (sym same) (inl is)
-
-pub listed_plain : (in_hex : Bool) (uri other : Option (List ℕ)) (old new : Devices) (status : Status) → in_hex ≡ false → other ≡ uri → CapturesEnds other old new status
-    → UriEnds CapturesEnds in_hex (uri_listed in_hex uri) old new status
-listed_plain in_hex uri other old new status plain same is =
-    subst (λ (b : Bool). UriEnds CapturesEnds b (uri_listed b uri) old new status) (sym plain) (inl (subst (λ (o : Option (List ℕ)). CapturesEnds o old new status) same is))
-
-pub listed_hex : (in_hex : Bool) (uri : Option (List ℕ)) (old new : Devices) (status : Status) → in_hex ≡ true → UriEnds CapturesEnds true (uri_listed true uri) old new status
-    → UriEnds CapturesEnds in_hex (uri_listed in_hex uri) old new status
-listed_hex in_hex uri old new status hex is = subst (λ (b : Bool). UriEnds CapturesEnds b (uri_listed b uri) old new status) (sym hex) is
-
-pub listed_as : (uri other : Option (List ℕ)) (old new : Devices) (status : Status) → uri ≡ other → UriEnds CapturesEnds true (uri_listed true other) old new status
-    → UriEnds CapturesEnds true (uri_listed true uri) old new status
-listed_as uri other old new status same is = subst (λ (o : Option (List ℕ)). UriEnds CapturesEnds true (uri_listed true o) old new status) (sym same) is
-
-starved : {X : Type 0} (ends : X → Devices → Devices → Status → Type 0) (o : Option X) (old new : Devices) (status : Status) → IsStarved old new status → UriEnds ends true o old new status
-starved ends None old new status is = inr is
-starved ends (Some x) old new status is = inr is
-
--- nothing was read, since the digits name nothing or memory is wanting
-pub uri_refused : {X : Type 0} (ends : X → Devices → Devices → Status → Type 0) (o : Option X) (fault : UriFault) (source : SeenSource) (out err err' : Seen) (status : Status)
-    → (fault ≡ Digits → o ≡ None) → Reports (reported_line (uri_fault_text fault)) err err' → status ≡ Failed
-    → UriEnds ends true o (devices source out err) (devices source out err') status
-uri_refused ends o Digits source out err err' status none reports is =
-    subst (λ o. UriEnds ends true o (devices source out err) (devices source out err') status) (sym (none refl)) (inl (record { unread = refl; untouched = refl; reported = reports; status_is = is }))
-uri_refused ends o Memory source out err err' status none reports is =
-    starved ends o (devices source out err) (devices source out err') status (record { unread = refl; untouched = refl; reported = reports; status_is = is })
 
 -- ---- a line in pieces
 

@@ -18,10 +18,10 @@ use Rattle.warc_arguments.specs.declared.status.Status.TheVariants.{Failed}
 use Rattle.warc_commands.specs.Closed.{ClosedEnds, ClosureEnds, GivesClosed, NamedEnds, ReadsClosed, SelectedAs, beside, beside_text}
 use Rattle.warc_commands.specs.Devices.{Devices, devices}
 use Rattle.warc_commands.specs.Named.{Names, bad_line}
-use Rattle.warc_commands.specs.Program.{IsBadWord, Reports, reported_line}
+use Rattle.warc_commands.specs.Program.{Reports, reported_line}
 use Rattle.warc_commands.specs.Reads.{SelectReads}
 use Rattle.warc_commands.specs.Selected.{ReadsSome, SendEnds, list_fault_text}
-use Rattle.warc_commands.specs.Uris.{IsStarved}
+use Rattle.warc_commands.specs.Words.{IsBadWord, IsStarved}
 use Rattle.warc_commands.specs.declared.lists.ListFault.{ListFault}
 use Rattle.warc_commands.specs.declared.lists.ListFault.TheVariants.{Line, Memory as NoMemory}
 use Rattle.warc_commands.proofs.ChoiceLemmas.{sent_before}

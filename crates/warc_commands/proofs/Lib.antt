@@ -8,6 +8,7 @@ pub mod RunsLemmas
 pub mod SalvageLemmas
 mod PayloadLemmas
 mod StoredLemmas
+mod WordLemmas
 mod WorkedValues
 pub mod CaptureLemmas
 pub mod ChoiceLemmas

@@ -1,7 +1,7 @@
 -- Which sizes a word gives, computed.
 use Rattle.std.proofs.Common.{◌≡◌, ◌^◌, None, Some, codes, refl}
 use Rattle.warc_field.specs.Decimal.{decimal_of}
-use Rattle.warc_commands.specs.Program.{size_of}
+use Rattle.warc_commands.specs.Words.{size_of}
 
 -- sizes
 small_size : size_of (codes "0002") ≡ Some 2

@@ -1,5 +1,5 @@
 -- How `body` ends: what the capture at a position gives.
-use Rattle.std.specs.Prelude.{◌≡◌, ℕ, List, ◌++◌, codes, Option, Some, None, Result, Ok, Err, ◌⊎◌}
+use Rattle.std.specs.Prelude.{◌≡◌, ℕ, List, ◌++◌, codes, Result, Ok, Err, ◌⊎◌}
 use Rattle.warc_frame.specs.Failing.{HasFailedBy, MayHaveFailedBy, failed_by}
 use Rattle.warc_frame.specs.Record.{Record}
 use Rattle.warc_frame.specs.Seen.{IfHeld}
@@ -10,7 +10,7 @@ use Rattle.warc_replay.specs.declared.fault.BodyFault.TheVariants.{NoRecord, NoC
 use Rattle.warc_arguments.specs.declared.status.Status.{Status}
 use Rattle.warc_arguments.specs.declared.status.Status.TheVariants.{Done, Found}
 use Rattle.warc_commands.specs.Devices.{Devices}
-use Rattle.warc_commands.specs.Program.{AreGoodRecordsOf, IsBadWord, IsNotOpened, Reports, answer_text, replay_status, reported_line}
+use Rattle.warc_commands.specs.Program.{AreGoodRecordsOf, IsNotOpened, Reports, answer_text, replay_status, reported_line}
 
 -- the line that `body` writes by what was answered, and its status
 abbrev pub body_line : Result Answer BodyFault → List ℕ
@@ -41,7 +41,6 @@ pub record IsBodyGiven (position : ℕ) (old new : Devices) (status : Status) : 
   pub reported : Reports (body_line answer) old.err new.err
   pub status_is : status ≡ body_status answer
 
--- how `body` ends, by the position that its word says
-abbrev pub BodyEnds : Option ℕ → Devices → Devices → Status → Type 0
-BodyEnds None old new status = IsBadWord (codes "bad position") old new status
-BodyEnds (Some position) old new status = IsBodyGiven position old new status ⊎ IsNotOpened old new status
+-- how `body` ends, by the position of the capture
+abbrev pub BodyEnds : ℕ → Devices → Devices → Status → Type 0
+BodyEnds position old new status = IsBodyGiven position old new status ⊎ IsNotOpened old new status

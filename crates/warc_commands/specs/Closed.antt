@@ -19,9 +19,9 @@ use Rattle.warc_rewrite.specs.Selecting.{ArePositions}
 use Rattle.warc_arguments.specs.declared.status.Status.{Status}
 use Rattle.warc_arguments.specs.declared.status.Status.TheVariants.{Failed}
 use Rattle.warc_commands.specs.Devices.{Devices}
-use Rattle.warc_commands.specs.Program.{IsBadWord, IsNotOpened, Reports, reported_line}
+use Rattle.warc_commands.specs.Program.{IsNotOpened, Reports, reported_line}
 use Rattle.warc_commands.specs.Selected.{AreTheNamed, IsAbsent, ReadsSome, SelectEnds, SendEnds}
-use Rattle.warc_commands.specs.Uris.{IsStarved}
+use Rattle.warc_commands.specs.Words.{IsBadWord, IsStarved}
 
 -- the positions of what is written: the named ones and those of all that their records need, or those of the records
 -- that need no named one

@@ -1,10 +1,8 @@
 -- How each command ends, and its exit statuses.
 use Rattle.std.specs.Prelude.{◌≡◌, ℕ, ◌⊎◌, Bool, true, false, List, option_map}
-use Rattle.warc_value.specs.Dates.{instant_of}
 use Rattle.warc_rewrite.specs.Forms.{texts_as}
 use Rattle.warc_rewrite.specs.declared.forms.Form.TheVariants.{Canonical, Converted}
 use Rattle.warc_replay.specs.declared.record.part.Part.TheVariants.{Head, Block}
-use Rattle.warc_arguments.specs.Digits.{uri_named}
 use Rattle.warc_arguments.specs.Explanations.{explained}
 use Rattle.warc_arguments.specs.declared.status.Status.{Status}
 use Rattle.warc_arguments.specs.declared.status.Status.TheVariants.{Done, Found, Refused, Failed, Unchecked}
@@ -13,17 +11,17 @@ use Rattle.warc_commands.specs.Closed.{SelectedAs}
 use Rattle.warc_commands.specs.Explaining.{ExplainEnds}
 use Rattle.warc_commands.specs.Fixity.{FixityEnds}
 use Rattle.warc_commands.specs.Instants.{InstantEnds}
-use Rattle.warc_commands.specs.Parts.{PartEnds, position_of}
+use Rattle.warc_commands.specs.Parts.{PartEnds}
 use Rattle.warc_commands.specs.Payloads.{PayloadsEnd}
-use Rattle.warc_commands.specs.Program.{CheckEnds, ExtractEnds, ListEnds, MakeEnds, SplitEnds, WriteEnds, size_of}
+use Rattle.warc_commands.specs.Program.{CheckEnds, ExtractEnds, ListEnds, MakeEnds, SplitEnds, WriteEnds}
 use Rattle.warc_commands.specs.Captures.{CapturesEnds}
 use Rattle.warc_commands.specs.Salvage.{SalvageEnds}
 use Rattle.warc_commands.specs.Named.{bad_line, positions_in}
 use Rattle.warc_commands.specs.Pieces.{PiecesEnd, SalvageAllEnds}
-use Rattle.warc_commands.specs.Stored.{GivenAs, ReplayedAs}
+use Rattle.warc_commands.specs.Stored.{DatedAs, GivenAs}
 use Rattle.warc_commands.specs.Summaries.{SummaryEnds}
 use Rattle.warc_commands.specs.Surveys.{SurveyEnds}
-use Rattle.warc_commands.specs.Uris.{UriEnds, uri_listed}
+use Rattle.warc_commands.specs.Words.{ByUri, ByWord, read_listed, read_moment, read_position, read_size, read_uri}
 use Rattle.warc_arguments.specs.declared.command.Command.{Command}
 use Rattle.warc_arguments.specs.declared.command.Command.TheVariants as command
 
@@ -33,18 +31,18 @@ Ends (command.List json) list = ListEnds json
 Ends command.Check list = CheckEnds
 Ends (command.Extract id) list = ExtractEnds id.now
 Ends (command.Replay uri date hex stored) list =
-    UriEnds (ReplayedAs stored date.now) hex (uri_named hex uri.now)
-Ends (command.Body position stored) list = GivenAs stored (position_of position.now)
+    ByUri (DatedAs stored date.now) hex (read_uri hex uri.now)
+Ends (command.Body position stored) list = ByWord (GivenAs stored) (read_position position.now)
 Ends (command.Captures uri hex) list =
-    UriEnds CapturesEnds hex (uri_listed hex (option_map (λ u. u.now) uri))
+    ByUri CapturesEnds hex (read_listed hex (option_map (λ u. u.now) uri))
 Ends command.Rewrite list = WriteEnds (texts_as Canonical)
 Ends command.Convert list = WriteEnds (texts_as Converted)
-Ends (command.Split size) list = SplitEnds (size_of size.now)
+Ends (command.Split size) list = ByWord SplitEnds (read_size size.now)
 Ends (command.Select positions except closed) list =
     SelectedAs closed except (bad_line list) (positions_in list)
 Ends (command.Write draft) list = MakeEnds draft
-Ends (command.Head position) list = PartEnds Head (position_of position.now)
-Ends (command.Block position) list = PartEnds Block (position_of position.now)
+Ends (command.Head position) list = ByWord (PartEnds Head) (read_position position.now)
+Ends (command.Block position) list = ByWord (PartEnds Block) (read_position position.now)
 Ends (command.Fixity false) list = FixityEnds
 Ends (command.Fixity true) list = PayloadsEnd
 Ends command.Pieces list = PiecesEnd
@@ -53,7 +51,7 @@ Ends (command.Salvage true) list = SalvageAllEnds
 Ends (command.Summary json) list = SummaryEnds json
 Ends command.Survey list = SurveyEnds
 Ends (command.Explain number) list = ExplainEnds (explained number.now)
-Ends (command.Instant date) list = InstantEnds date.now (instant_of date.now)
+Ends (command.Instant date) list = ByWord (λ instant. InstantEnds date.now) (read_moment date.now)
 
 -- the exit statuses of a command that finds nothing by itself
 abbrev pub MayRefuse : Status → Type 0

@@ -1,16 +1,15 @@
 -- How `instant` ends.
-use Rattle.std.specs.Prelude.{◌≡◌, ℕ, ◌⊎◌, List, ◌++◌, codes, Option, Some, None}
+use Rattle.std.specs.Prelude.{◌≡◌, ℕ, ◌⊎◌, List, ◌++◌, codes}
 use Rattle.std.specs.Io.KnownBytes.{append_known}
 use Rattle.warc_frame.specs.Count.{raised}
 use Rattle.warc_frame.specs.FaultText.{out_fault_text}
 use Rattle.warc_frame.specs.Send.{WentOut}
 use Rattle.warc_frame.specs.declared.fault.OutFault.TheVariants.{Write}
-use Rattle.warc_value.specs.Dates.{Instant}
 use Rattle.warc_replay.specs.Captures.{full_date}
 use Rattle.warc_arguments.specs.declared.status.Status.{Status}
 use Rattle.warc_arguments.specs.declared.status.Status.TheVariants.{Done, Failed}
 use Rattle.warc_commands.specs.Devices.{Devices, Outputs, outputs_of}
-use Rattle.warc_commands.specs.Program.{IsBadWord, Reports, reported_line}
+use Rattle.warc_commands.specs.Program.{Reports, reported_line}
 
 -- the line of a date: its instant in full
 abbrev pub instant_line : List ℕ → List ℕ
@@ -34,8 +33,7 @@ pub record IsInstantCutOff (date : List ℕ) (old new : Outputs) (status : Statu
 abbrev pub IsInstantShown : List ℕ → Outputs → Outputs → Status → Type 0
 IsInstantShown date old new status = IsInstantWritten date old new status ⊎ IsInstantCutOff date old new status
 
--- how `instant` ends, by its word and the instant that it says; nothing is read
-abbrev pub InstantEnds : List ℕ → Option Instant → Devices → Devices → Status → Type 0
-InstantEnds date None old new status = IsBadWord (codes "bad date") old new status
-InstantEnds date (Some instant) old new status = (new.source ≡ old.source)
+-- how `instant` ends for a date; nothing is read
+abbrev pub InstantEnds : List ℕ → Devices → Devices → Status → Type 0
+InstantEnds date old new status = (new.source ≡ old.source)
     × IsInstantShown date (outputs_of old.out old.err) (outputs_of new.out new.err) status

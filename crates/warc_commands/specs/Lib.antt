@@ -20,5 +20,5 @@ pub mod Selected
 pub mod Stored
 pub mod Summaries
 pub mod Surveys
-pub mod Uris
 pub mod Walking
+pub mod Words

@@ -2,7 +2,7 @@
 use Rattle.std.specs.Prelude.{◌≡◌, ℕ, ◌+◌, ◌||◌, ◌&&◌, ◌==◌, not, Bool, List, length, map, is_none, Option, Some, None, Result, Ok, Err, Vec, option_map, ⊤}
 use Rattle.std.specs.List.{before_first, filter_map, position}
 use Rattle.bstr.specs.Text.{lines_of, without_terminator}
-use Rattle.warc_commands.specs.Parts.{position_of}
+use Rattle.warc_commands.specs.Words.{position_of}
 use Rattle.warc_commands.specs.declared.lists.ListFault.{ListFault}
 use Rattle.warc_commands.specs.declared.lists.ListFault.TheVariants.{Line, Memory}
 

@@ -1,8 +1,6 @@
 -- How the commands end that give a part of the record at a position.
-use Rattle.std.specs.Prelude.{◌≡◌, ℕ, ◌⊎◌, List, codes, option_and_then, option_map, slice_get, Option, Some, None, Result, Err, nat_le, if◌then◌else◌}
-use Rattle.warc_field.specs.Decimal.{decimal_of}
+use Rattle.std.specs.Prelude.{◌≡◌, ℕ, ◌⊎◌, List, option_map, slice_get, Result, Err}
 use Rattle.warc_frame.specs.Failing.{HasFailedBy, MayHaveFailedBy, failed_by}
-use Rattle.warc_frame.specs.Record.{max_archive}
 use Rattle.warc_frame.specs.Seen.{IfHeld}
 use Rattle.warc_reading.specs.Archive.{IsArchiveOf}
 use Rattle.warc_reading.specs.Row.{Row}
@@ -12,11 +10,7 @@ use Rattle.warc_replay.specs.declared.fault.ExtractFault.TheVariants.{NoRecord}
 use Rattle.warc_replay.specs.declared.record.part.Part.{Part}
 use Rattle.warc_arguments.specs.declared.status.Status.{Status}
 use Rattle.warc_commands.specs.Devices.{Devices}
-use Rattle.warc_commands.specs.Program.{IsBadWord, IsNotOpened, ReportsIf, extract_line, extract_status}
-
--- the position that a word names: decimal digits, a number up to the length of the longest archive
-abbrev pub position_of : List ℕ → Option ℕ
-position_of word = option_and_then (λ n. if nat_le n max_archive then Some n else None) (decimal_of word)
+use Rattle.warc_commands.specs.Program.{IsNotOpened, ReportsIf, extract_line, extract_status}
 
 -- the part of the record at the position, of those that the bytes spell, went out as was answered
 pub record IsPartOf (part : Part) (position : ℕ) (answer : Result ℕ ExtractFault) (bytes : List ℕ)
@@ -38,7 +32,5 @@ pub record IsPartGiven (part : Part) (position : ℕ) (old new : Devices) (statu
   pub status_is : status ≡ extract_status answer
 
 -- how giving a part of the record at a position ends
-abbrev pub PartEnds : Part → Option ℕ → Devices → Devices → Status → Type 0
-PartEnds part None old new status = IsBadWord (codes "bad position") old new status
-PartEnds part (Some position) old new status =
-    IsPartGiven part position old new status ⊎ IsNotOpened old new status
+abbrev pub PartEnds : Part → ℕ → Devices → Devices → Status → Type 0
+PartEnds part position old new status = IsPartGiven part position old new status ⊎ IsNotOpened old new status

@@ -1,12 +1,11 @@
 -- How a run of the program ends: what went to its two sinks, and its exit status.
-use Rattle.std.specs.Prelude.{◌≡◌, ℕ, ◌+◌, ◌^◌, ◌<◌, ◌≤◌, Bool, List, ◌++◌, length, take, codes, decimal, Option, Some, None, Result, Ok, Err, ◌⊎◌, true, false, ◌&&◌, nat_le, nat_lt, option_and_then, if◌then◌else◌, string_bytes}
+use Rattle.std.specs.Prelude.{◌≡◌, ℕ, ◌+◌, ◌^◌, ◌<◌, ◌≤◌, Bool, List, ◌++◌, length, take, codes, decimal, Option, Some, None, Result, Ok, Err, ◌⊎◌, true, false, nat_lt, if◌then◌else◌, string_bytes}
 use Rattle.std.specs.Io.KnownBytes.{append_known}
 use Rattle.warc_answer.specs.ReasonText.{replay_fault_text}
 use Rattle.warc_answer.specs.Replays.{IsReplay, IsSilent, out_result}
 use Rattle.warc_answer.specs.declared.answer.Answer.{Answer}
 use Rattle.warc_answer.specs.declared.answer.ReplayFault.{ReplayFault}
 use Rattle.warc_answer.specs.declared.answer.ReplayFault.TheVariants.{Reason, Out as ReplayOut}
-use Rattle.warc_field.specs.Decimal.{decimal_of}
 use Rattle.warc_frame.specs.Count.{raised}
 use Rattle.warc_frame.specs.FaultText.{fault_text, out_fault_text}
 use Rattle.warc_frame.specs.Record.{Record, max_archive, max_block}
@@ -239,17 +238,9 @@ pub record IsReplayed (uri : List ℕ) (moment : Instant) (old new : Devices) (s
   pub reported : Reports (replay_line answer) old.err new.err
   pub status_is : status ≡ replay_status answer
 
--- a word isn't what it should be, as is reported: nothing was read or written
-pub record IsBadWord (why : List ℕ) (old new : Devices) (status : Status) : Type 0 where
-  pub unread : new.source ≡ old.source
-  pub untouched : new.out ≡ old.out
-  pub reported : Reports (reported_line why) old.err new.err
-  pub status_is : status ≡ Failed
-
--- how `replay` ends, as of the first instant of a date
-abbrev pub ReplayEnds : List ℕ → Option Instant → Devices → Devices → Status → Type 0
-ReplayEnds uri None old new status = IsBadWord (codes "bad date") old new status
-ReplayEnds uri (Some moment) old new status = IsReplayed uri moment old new status ⊎ IsNotOpened old new status
+-- how `replay` ends, as of an instant
+abbrev pub ReplayEnds : List ℕ → Instant → Devices → Devices → Status → Type 0
+ReplayEnds uri moment old new status = IsReplayed uri moment old new status ⊎ IsNotOpened old new status
 
 -- a text of the good records that the bytes spell was written
 pub record IsWrittenOf (text : List Record → List ℕ) (bytes : List ℕ) (old new : Seen) : Type 0 where
@@ -270,14 +261,9 @@ abbrev pub WriteEnds : (List Record → List ℕ) → Devices → Devices → St
 WriteEnds text old new status =
     IsWritten text old new status ⊎ (IsNotOpened old new status ⊎ IsCutOff text old new status)
 
--- how many bytes a segment is to have, by a word: decimal digits, a number from 1 to the length of the longest block
-abbrev pub size_of : List ℕ → Option ℕ
-size_of word = option_and_then (λ n. if nat_lt 0 n && nat_le n max_block then Some n else None) (decimal_of word)
-
--- how `split` ends
-abbrev pub SplitEnds : Option ℕ → Devices → Devices → Status → Type 0
-SplitEnds None old new status = IsBadWord (codes "bad size") old new status
-SplitEnds (Some n) old new status = WriteEnds (split_texts n) old new status
+-- how `split` ends, by how many bytes a segment is to have
+abbrev pub SplitEnds : ℕ → Devices → Devices → Status → Type 0
+SplitEnds size = WriteEnds (split_texts size)
 
 -- what `write` makes a record of, by its words and the bytes of its file: all of them, or one more than a block may
 -- have

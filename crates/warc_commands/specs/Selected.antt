@@ -15,8 +15,8 @@ use Rattle.warc_rewrite.specs.Selecting.{AreOthers, ArePositions, ReadsRecords, 
 use Rattle.warc_arguments.specs.declared.status.Status.{Status}
 use Rattle.warc_arguments.specs.declared.status.Status.TheVariants.{Done, Found, Failed}
 use Rattle.warc_commands.specs.Devices.{Devices}
-use Rattle.warc_commands.specs.Program.{IsBadWord, IsNotOpened, Reports, reported_line}
-use Rattle.warc_commands.specs.Uris.{IsStarved}
+use Rattle.warc_commands.specs.Program.{IsNotOpened, Reports, reported_line}
+use Rattle.warc_commands.specs.Words.{IsBadWord, IsStarved}
 use Rattle.warc_commands.specs.declared.lists.ListFault.{ListFault}
 use Rattle.warc_commands.specs.declared.lists.ListFault.TheVariants.{Line, Memory as NoMemory}
 

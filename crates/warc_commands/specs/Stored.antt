@@ -1,6 +1,6 @@
 -- How `body --stored` and `replay --stored` end: what is stored of the origin of a capture.
-use Rattle.std.specs.Prelude.{◌≡◌, ℕ, Bool, true, false, List, [], ◌++◌, codes, Option, Some, None, Result, Ok, Err, MatchResult, map, ◌⊎◌}
-use Rattle.warc_value.specs.Dates.{Instant, instant_of}
+use Rattle.std.specs.Prelude.{◌≡◌, ℕ, Bool, true, false, List, [], ◌++◌, codes, Result, Ok, Err, MatchResult, map, ◌⊎◌}
+use Rattle.warc_value.specs.Dates.{Instant}
 use Rattle.warc_frame.specs.Failing.{HasFailedBy, MayHaveFailedBy, failed_by}
 use Rattle.warc_frame.specs.Record.{Record}
 use Rattle.warc_frame.specs.Seen.{IfHeld}
@@ -20,7 +20,8 @@ use Rattle.warc_arguments.specs.declared.status.Status.{Status}
 use Rattle.warc_arguments.specs.declared.status.Status.TheVariants.{Done, Found, Failed}
 use Rattle.warc_commands.specs.Bodies.{BodyEnds}
 use Rattle.warc_commands.specs.Devices.{Devices}
-use Rattle.warc_commands.specs.Program.{AreGoodRecordsOf, IsBadWord, IsNotOpened, ReplayEnds, Reports, answer_text, reported_line}
+use Rattle.warc_commands.specs.Program.{AreGoodRecordsOf, IsNotOpened, ReplayEnds, Reports, answer_text, reported_line}
+use Rattle.warc_commands.specs.Words.{ByWord, read_moment}
 
 -- what is said of a coded body: the fields that say that it is coded
 abbrev pub coded_text : Bool → List ℕ → List ℕ
@@ -59,10 +60,9 @@ pub record IsStoredGiven (position : ℕ) (old new : Devices) (status : Status) 
   pub reported : Reports (stored_line answer) old.err new.err
   pub status_is : status ≡ stored_status answer
 
--- how `body --stored` ends, by the position that its word says
-abbrev pub StoredEnds : Option ℕ → Devices → Devices → Status → Type 0
-StoredEnds None old new status = IsBadWord (codes "bad position") old new status
-StoredEnds (Some position) old new status = IsStoredGiven position old new status ⊎ IsNotOpened old new status
+-- how `body --stored` ends, by the position of the capture
+abbrev pub StoredEnds : ℕ → Devices → Devices → Status → Type 0
+StoredEnds position old new status = IsStoredGiven position old new status ⊎ IsNotOpened old new status
 
 -- the capture that is chosen for a URI as of a moment among the records that the bytes spell, or why there is none
 pub record IsChosenOf (uri : List ℕ) (moment : Instant) (found : Result ℕ Unfound) (bytes : List ℕ) : Type 0 where
@@ -84,18 +84,20 @@ pub record IsStoredReplayed (uri : List ℕ) (moment : Instant) (old new : Devic
   pub ends : MatchResult found (λ position. IsStoredGiven position old new status)
       (λ unfound. IsUnfound unfound old new status)
 
--- how `replay --stored` ends, as of the first instant of a date
-abbrev pub StoredReplayEnds : List ℕ → Option Instant → Devices → Devices → Status → Type 0
-StoredReplayEnds uri None old new status = IsBadWord (codes "bad date") old new status
-StoredReplayEnds uri (Some moment) old new status =
-    IsStoredReplayed uri moment old new status ⊎ IsNotOpened old new status
+-- how `replay --stored` ends, as of an instant
+abbrev pub StoredReplayEnds : List ℕ → Instant → Devices → Devices → Status → Type 0
+StoredReplayEnds uri moment old new status = IsStoredReplayed uri moment old new status ⊎ IsNotOpened old new status
 
--- how `replay` ends, with `--stored` or without it
-abbrev pub ReplayedAs : Bool → List ℕ → List ℕ → Devices → Devices → Status → Type 0
-ReplayedAs false date uri = ReplayEnds uri (instant_of date)
-ReplayedAs true date uri = StoredReplayEnds uri (instant_of date)
+-- how `replay` ends as of an instant, with `--stored` or without it
+abbrev pub ReplayedAs : Bool → List ℕ → Instant → Devices → Devices → Status → Type 0
+ReplayedAs false = ReplayEnds
+ReplayedAs true = StoredReplayEnds
+
+-- and as of the first instant of the date that its word says
+abbrev pub DatedAs : Bool → List ℕ → List ℕ → Devices → Devices → Status → Type 0
+DatedAs stored date uri = ByWord (ReplayedAs stored uri) (read_moment date)
 
 -- how `body` ends, with `--stored` or without it
-abbrev pub GivenAs : Bool → Option ℕ → Devices → Devices → Status → Type 0
+abbrev pub GivenAs : Bool → ℕ → Devices → Devices → Status → Type 0
 GivenAs false = BodyEnds
 GivenAs true = StoredEnds

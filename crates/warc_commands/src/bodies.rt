@@ -1,20 +1,20 @@
 //! The command that gives the body of a capture by its position, or what is stored of it, coded or not.
-ghost use Rattle.std.specs.Prelude.{◌≡◌, ◌++◌, ℕ, List, Some, codes, map};
+ghost use Rattle.std.specs.Prelude.{◌≡◌, ◌++◌, ℕ, List, codes, map};
 ghost use Rattle.std.specs.List.{concat};
 ghost use Rattle.warc_answer.specs.Seen.{stored_seen};
 ghost use Rattle.warc_answer.specs.Stored.{answer_with};
 ghost use Rattle.warc_replay.specs.Outcomes.{answer_seen};
 ghost use Rattle.warc_commands.specs.Devices.{outputs, used};
-ghost use Rattle.warc_commands.specs.Parts.{position_of};
 ghost use Rattle.warc_commands.specs.Program.{Reports, answer_text};
 ghost use Rattle.warc_commands.specs.Reads.{ReadsTimes};
 ghost use Rattle.warc_commands.specs.Runs.{Runs, run_seen};
 ghost use Rattle.warc_commands.specs.Stored.{StoredEnds, coded_text, stored_line, stored_status, GivenAs};
 ghost use Rattle.warc_commands.specs.Bodies.{BodyEnds, body_line, body_status};
+ghost use Rattle.warc_commands.specs.Words.{ByWord, read_position};
 
 use crate::console::{Console, Heap, Input, Reporter, Run};
-use crate::parts::position_of;
 use crate::replays::line_of_answer;
+use crate::words::read_position;
 use std::alloc::Allocator;
 use warc::{Archive, BodyFault, StoredAt};
 use warc_answer::Answer;
@@ -30,12 +30,12 @@ impl<W: Sink, E: Sink> Console<W, E> {
         stored: bool,
         source: S,
     ) -> Run<S>
-        ensures { Runs (GivenAs stored (position_of position.now)) (ReadsTimes 3)
+        ensures { Runs (ByWord (GivenAs stored) (read_position position.now)) (ReadsTimes 3)
             (used (S.seen source) W.seen E.seen self.old) (outputs W.seen E.seen self.new) (run_seen S.seen result) }
     {
-        let Some(position) = position_of(position.as_bytes()) else {
-            self.err.report("warc: bad position\n");
-            return Ok((Status::Failed, source));
+        let position = match read_position(position) {
+            Ok(position) => position,
+            Err(fault) => return Ok((self.err.refuse_word(fault), source)),
         };
         if stored {
             return self.stored_at(alloc, position, source);
@@ -45,7 +45,7 @@ impl<W: Sink, E: Sink> Console<W, E> {
 
     /// Writes the body that the capture at a position gives.
     fn body_at<A: Heap, S: Input>(&mut self, alloc: A, position: usize, source: S) -> Run<S>
-        ensures { Runs (BodyEnds (Some position)) (ReadsTimes 3)
+        ensures { Runs (BodyEnds position) (ReadsTimes 3)
             (used (S.seen source) W.seen E.seen self.old) (outputs W.seen E.seen self.new) (run_seen S.seen result) }
     {
         let mut archive = Archive::open(alloc, source)?;
@@ -55,7 +55,7 @@ impl<W: Sink, E: Sink> Console<W, E> {
 
     /// Writes what is stored of the origin of the capture at a position.
     fn stored_at<A: Heap, S: Input>(&mut self, alloc: A, position: usize, source: S) -> Run<S>
-        ensures { Runs (StoredEnds (Some position)) (ReadsTimes 3)
+        ensures { Runs (StoredEnds position) (ReadsTimes 3)
             (used (S.seen source) W.seen E.seen self.old) (outputs W.seen E.seen self.new) (run_seen S.seen result) }
     {
         let mut archive = Archive::open(alloc, source)?;

@@ -1,17 +1,18 @@
 //! The command that lists captures.
-ghost use Rattle.std.specs.Prelude.{Some, None, option_map, true};
+ghost use Rattle.std.specs.Prelude.{Some, None, option_map};
 ghost use Rattle.warc_replay.specs.Captured.{IsCaptured};
 ghost use Rattle.warc_commands.specs.Captures.{AnswerEnds, CapturesEnds, WritesListed};
 ghost use Rattle.warc_commands.specs.Devices.{outputs, used};
 ghost use Rattle.warc_commands.specs.Reads.{AsksNear};
 ghost use Rattle.warc_commands.specs.Runs.{Runs, run_seen};
-ghost use Rattle.warc_commands.specs.Uris.{UriEnds, uri_listed};
+ghost use Rattle.warc_commands.specs.Words.{ByUri, read_listed};
 ghost use Rattle.warc_lookup.specs.Indexed.{IsIndexed};
 
 use crate::console::{Console, Heap, Input, Reporter, Run};
+use crate::words::read_listed;
 use std::alloc::Allocator;
 use warc::{Archive, Captures};
-use warc_arguments::{Status, UriFault, bytes_of};
+use warc_arguments::Status;
 use warc_frame::{OutFault, Sink, Source};
 
 impl<W: Sink, E: Sink> Console<W, E> {
@@ -23,34 +24,13 @@ impl<W: Sink, E: Sink> Console<W, E> {
         uri: Option<&str>,
         source: S,
     ) -> Run<S>
-        ensures { Runs (UriEnds CapturesEnds in_hex (uri_listed in_hex (option_map (λ u. u.now) uri.entry))) AsksNear
+        ensures { Runs (ByUri CapturesEnds in_hex (read_listed in_hex (option_map (λ u. u.now) uri.entry))) AsksNear
             (used (S.seen source) W.seen E.seen self.old) (outputs W.seen E.seen self.new) (run_seen S.seen result) }
     {
-        if in_hex {
-            return self.captures_in_hex(alloc, uri, source);
-        }
-        match uri {
-            Some(uri) => self.list_captures_of(alloc, uri.as_bytes(), source),
-            None => self.list_captures(alloc, source),
-        }
-    }
-
-    /// Writes a line for each capture of the URI whose digits a word has.
-    fn captures_in_hex<A: Heap, S: Input>(
-        &mut self,
-        alloc: A,
-        uri: Option<&str>,
-        source: S,
-    ) -> Run<S>
-        ensures { Runs (UriEnds CapturesEnds true (uri_listed true (option_map (λ u. u.now) uri.entry))) AsksNear
-            (used (S.seen source) W.seen E.seen self.old) (outputs W.seen E.seen self.new) (run_seen S.seen result) }
-    {
-        let Some(word) = uri else {
-            return Ok((self.err.report_uri(UriFault::Digits), source));
-        };
-        match bytes_of(alloc, word) {
-            Ok(uri) => self.list_captures_of(alloc, &uri, source),
-            Err(fault) => Ok((self.err.report_uri(fault), source)),
+        match read_listed(alloc, in_hex, uri) {
+            Ok(Some(uri)) => self.list_captures_of(alloc, uri.bytes(), source),
+            Ok(None) => self.list_captures(alloc, source),
+            Err(fault) => Ok((self.err.refuse_word(fault), source)),
         }
     }
 

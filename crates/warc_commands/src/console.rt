@@ -92,6 +92,16 @@ impl<E: Sink> Reporter<E> {
         self.report(line_of_cut(fault).as_str());
         Status::Failed
     }
+
+    /// Reports a short text, and returns the status.
+    pub(crate) fn stop(&mut self, why: &str) -> Status
+        requires { length why.now ≤ 100 }
+        ensures reported { Reports (reported_line why.now) (E.seen self.old.sink) (E.seen self.new.sink) }
+        ensures status { result ≡ Status.Failed }
+    {
+        self.report(line_of(why).as_str());
+        Status::Failed
+    }
 }
 
 /// The status where an archive isn't opened.
@@ -134,7 +144,7 @@ fn line_of_cut(fault: OutFault) -> ArrayString<LINE>
 }
 
 /// The line of a short text.
-pub(crate) fn line_of(text: &str) -> ArrayString<LINE>
+fn line_of(text: &str) -> ArrayString<LINE>
     requires { length text.now ≤ 100 }
     ensures { result.bytes ≡ reported_line text.now }
 {

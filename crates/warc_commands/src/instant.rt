@@ -4,13 +4,13 @@ ghost use Rattle.std.specs.List.{concat};
 ghost use Rattle.warc_commands.specs.Devices.{outputs, used};
 ghost use Rattle.warc_commands.specs.Instants.{InstantEnds, IsInstantShown, instant_line};
 ghost use Rattle.warc_frame.specs.Effects.{Puts, SendsText};
-ghost use Rattle.warc_value.specs.Dates.{instant_of};
+ghost use Rattle.warc_commands.specs.Words.{ByWord, read_moment};
 
 use crate::console::{Console, Ended, Input};
+use crate::words::read_moment;
 use warc_arguments::Status;
 use warc_frame::{OutBuffer, OutFault, SendFault, Sink, put_all};
 use warc_replay::{date_front, date_rest};
-use warc_value::read_date;
 
 /// Adds a line in two parts to the output.
 fn put_parts<'a, W: Sink>(
@@ -39,19 +39,15 @@ fn send_instant<W: Sink>(date: &[u8], out: &mut W) -> Result<(), OutFault>
 impl<W: Sink, E: Sink> Console<W, E> {
     /// Writes the instant of the date that a word is. Nothing is read.
     pub(crate) fn instant<S: Input>(&mut self, date: &str, source: S) -> Ended<S>
-        ensures ends { InstantEnds date.now (instant_of date.now) (used (S.seen source) W.seen E.seen self.old)
-            (used (S.seen result.1) W.seen E.seen self.new) result.0 }
+        ensures ends { ByWord (λ instant. InstantEnds date.now) (read_moment date.now)
+            (used (S.seen source) W.seen E.seen self.old) (used (S.seen result.1) W.seen E.seen self.new) result.0 }
 
         // The source still holds what it held.
         ensures kept { (S.seen result.1).holds ≡ (S.seen source).holds }
     {
-        let text = date.as_bytes();
-        match read_date(text) {
-            Some(_) => (self.show_instant(text), source),
-            None => {
-                self.err.report("warc: bad date\n");
-                (Status::Failed, source)
-            }
+        match read_moment(date) {
+            Ok(_) => (self.show_instant(date.as_bytes()), source),
+            Err(fault) => (self.err.refuse_word(fault), source),
         }
     }
 

@@ -24,6 +24,7 @@ mod split;
 mod summary;
 mod survey;
 mod walk;
+mod words;
 mod write;
 
 pub use console::{Console, Ended, Heap, Input, Reporter};

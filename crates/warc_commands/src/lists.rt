@@ -4,7 +4,7 @@ ghost use Rattle.std.specs.Prelude.{◌≡◌, ◌↔◌, ℕ, Contains, find, n
 ghost use Rattle.std.specs.List.Sorted.{IsStrictlyIncreasing};
 ghost use Rattle.warc_commands.specs.Named.{Names, is_gap, position_in};
 
-use crate::parts::position_of;
+use crate::words::position_of;
 use bstr::ByteSlice;
 use memchr::memchr2;
 use std::alloc::Allocator;

@@ -1,25 +1,14 @@
 //! The commands that give a part of the record at a position.
-ghost use Rattle.std.specs.Prelude.{◌≡◌};
 ghost use Rattle.warc_commands.specs.Devices.{outputs, used};
-ghost use Rattle.warc_commands.specs.Parts.{PartEnds, position_of};
+ghost use Rattle.warc_commands.specs.Parts.{PartEnds};
 ghost use Rattle.warc_commands.specs.Reads.{ReadsTimes};
 ghost use Rattle.warc_commands.specs.Runs.{Runs, run_seen};
+ghost use Rattle.warc_commands.specs.Words.{ByWord, read_position};
 
 use crate::console::{Console, Heap, Input, Run};
+use crate::words::read_position;
 use warc::{Listing, Part};
-use warc_arguments::Status;
-use warc_field::decimal;
-use warc_frame::{MAX_ARCHIVE, Sink};
-
-/// The position that a word names: a number from 0 to 2^48.
-pub(crate) fn position_of(word: &[u8]) -> Option<usize>
-    ensures { result ≡ position_of word.now }
-{
-    match decimal(word) {
-        Some(position) if position <= MAX_ARCHIVE => Some(position as usize),
-        _ => None,
-    }
-}
+use warc_frame::Sink;
 
 impl<W: Sink, E: Sink> Console<W, E> {
     /// Writes a part of the record at the position that a word names.
@@ -30,12 +19,12 @@ impl<W: Sink, E: Sink> Console<W, E> {
         position: &str,
         source: S,
     ) -> Run<S>
-        ensures { Runs (PartEnds part (position_of position.now)) (ReadsTimes 2)
+        ensures { Runs (ByWord (PartEnds part) (read_position position.now)) (ReadsTimes 2)
             (used (S.seen source) W.seen E.seen self.old) (outputs W.seen E.seen self.new) (run_seen S.seen result) }
     {
-        let Some(position) = position_of(position.as_bytes()) else {
-            self.err.report("warc: bad position\n");
-            return Ok((Status::Failed, source));
+        let position = match read_position(position) {
+            Ok(position) => position,
+            Err(fault) => return Ok((self.err.refuse_word(fault), source)),
         };
         let mut archive = Listing::open(alloc, source)?;
         let answer = archive.part_to(position, part, &mut self.out);

@@ -1,22 +1,22 @@
 //! The commands that give the body of the capture of a URI as of a date, and the lines that they write.
-ghost use Rattle.std.specs.Prelude.{◌≡◌, ◌≤◌, ◌++◌, codes, length, Some, true};
+ghost use Rattle.std.specs.Prelude.{◌≡◌, ◌≤◌, ◌++◌, codes, length};
 ghost use Rattle.warc_answer.specs.ReasonText.{reason_text};
-ghost use Rattle.warc_arguments.specs.Digits.{uri_named};
 ghost use Rattle.warc_commands.specs.Devices.{outputs, used};
 ghost use Rattle.warc_commands.specs.Program.{ReplayEnds, Reports, answer_text, number_or_dash, replay_line, replay_status, reported_line, yes_or_no};
 ghost use Rattle.warc_commands.specs.Reads.{ReadsTimes};
 ghost use Rattle.warc_commands.specs.Runs.{Runs, run_seen};
-ghost use Rattle.warc_commands.specs.Stored.{ReplayedAs, StoredReplayEnds};
-ghost use Rattle.warc_commands.specs.Uris.{UriEnds, uri_fault_text};
+ghost use Rattle.warc_commands.specs.Stored.{DatedAs, StoredReplayEnds};
+ghost use Rattle.warc_commands.specs.Words.{ByUri, read_uri};
 
 use crate::console::{Console, Heap, Input, LINE, Reporter, Run};
+use crate::words::{read_moment, read_uri};
 use arrayvec::ArrayString;
 use itoa::Buffer;
 use warc::Archive;
 use warc_answer::{Answer, Reason, ReplayFault};
-use warc_arguments::{Status, UriFault, bytes_of};
-use warc_frame::{OutFault, Sink};
-use warc_value::{Moment, read_date};
+use warc_arguments::Status;
+use warc_frame::Sink;
+use warc_value::Moment;
 
 /// The date as of which a body is wanted, and whether it is wanted as it is stored.
 #[derive(Clone, Copy)]
@@ -36,25 +36,13 @@ pub(crate) struct Page<'a> {
 impl<W: Sink, E: Sink> Console<W, E> {
     /// Writes the body for the URI that a word names, as of the first instant of a date.
     pub(crate) fn replay<A: Heap, S: Input>(&mut self, alloc: A, page: Page, source: S) -> Run<S>
-        ensures { Runs (UriEnds (ReplayedAs page.entry.as_of.stored page.entry.as_of.date.now) page.entry.in_hex
-            (uri_named page.entry.in_hex page.entry.uri.now)) (ReadsTimes 3)
+        ensures { Runs (ByUri (DatedAs page.entry.as_of.stored page.entry.as_of.date.now) page.entry.in_hex
+            (read_uri page.entry.in_hex page.entry.uri.now)) (ReadsTimes 3)
             (used (S.seen source) W.seen E.seen self.old) (outputs W.seen E.seen self.new) (run_seen S.seen result) }
     {
-        if page.in_hex {
-            return self.replay_in_hex(alloc, page, source);
-        }
-        self.replay_of(alloc, page.uri.as_bytes(), page.as_of, source)
-    }
-
-    /// Writes the body for the URI whose digits a word has, as of the first instant of a date.
-    fn replay_in_hex<A: Heap, S: Input>(&mut self, alloc: A, page: Page, source: S) -> Run<S>
-        ensures { Runs (UriEnds (ReplayedAs page.entry.as_of.stored page.entry.as_of.date.now) true
-            (uri_named true page.entry.uri.now)) (ReadsTimes 3)
-            (used (S.seen source) W.seen E.seen self.old) (outputs W.seen E.seen self.new) (run_seen S.seen result) }
-    {
-        match bytes_of(alloc, page.uri) {
-            Ok(bytes) => self.replay_of(alloc, &bytes, page.as_of, source),
-            Err(fault) => Ok((self.err.report_uri(fault), source)),
+        match read_uri(alloc, page.in_hex, page.uri) {
+            Ok(uri) => self.replay_of(alloc, uri.bytes(), page.as_of, source),
+            Err(fault) => Ok((self.err.refuse_word(fault), source)),
         }
     }
 
@@ -66,12 +54,12 @@ impl<W: Sink, E: Sink> Console<W, E> {
         as_of: AsOf,
         source: S,
     ) -> Run<S>
-        ensures { Runs (ReplayedAs as_of.entry.stored as_of.entry.date.now uri.now) (ReadsTimes 3)
+        ensures { Runs (DatedAs as_of.entry.stored as_of.entry.date.now uri.now) (ReadsTimes 3)
             (used (S.seen source) W.seen E.seen self.old) (outputs W.seen E.seen self.new) (run_seen S.seen result) }
     {
-        let Some(moment) = read_date(as_of.date.as_bytes()) else {
-            self.err.report("warc: bad date\n");
-            return Ok((Status::Failed, source));
+        let moment = match read_moment(as_of.date) {
+            Ok(moment) => moment,
+            Err(fault) => return Ok((self.err.refuse_word(fault), source)),
         };
         if as_of.stored {
             return self.stored_as_of(alloc, uri, &moment, source);
@@ -87,7 +75,7 @@ impl<W: Sink, E: Sink> Console<W, E> {
         moment: &Moment,
         source: S,
     ) -> Run<S>
-        ensures { Runs (ReplayEnds uri.now (Some moment.now)) (ReadsTimes 3)
+        ensures { Runs (ReplayEnds uri.now moment.now) (ReadsTimes 3)
             (used (S.seen source) W.seen E.seen self.old) (outputs W.seen E.seen self.new) (run_seen S.seen result) }
     {
         let mut archive = Archive::open(alloc, source)?;
@@ -103,7 +91,7 @@ impl<W: Sink, E: Sink> Console<W, E> {
         moment: &Moment,
         source: S,
     ) -> Run<S>
-        ensures { Runs (StoredReplayEnds uri.now (Some moment.now)) (ReadsTimes 3)
+        ensures { Runs (StoredReplayEnds uri.now moment.now) (ReadsTimes 3)
             (used (S.seen source) W.seen E.seen self.old) (outputs W.seen E.seen self.new) (run_seen S.seen result) }
     {
         let mut archive = Archive::open(alloc, source)?;
@@ -137,21 +125,6 @@ impl<E: Sink> Reporter<E> {
                 Status::Found
             }
             Err(ReplayFault::Out(fault)) => self.fail(fault),
-        }
-    }
-
-    /// Reports why digits name no URI, and answers the status.
-    pub(crate) fn report_uri(&mut self, fault: UriFault) -> Status
-        ensures reported { Reports (reported_line (uri_fault_text fault))
-            (E.seen self.old.sink) (E.seen self.new.sink) }
-        ensures status { result ≡ Status.Failed }
-    {
-        match fault {
-            UriFault::Digits => {
-                self.report("warc: bad hex\n");
-                Status::Failed
-            }
-            UriFault::Memory => self.fail(OutFault::Memory(0)),
         }
     }
 }

@@ -9,7 +9,7 @@ ghost use Rattle.warc_commands.specs.Running.{Offer, CommandEnds, IsListAt, IsLi
 ghost use Rattle.warc_arguments.specs.Command.{list_word, path_word, reads_once};
 ghost use Rattle.warc_frame.specs.Seen.{IfHeld, Seen};
 
-use crate::console::{Console, Ended, Reporter, line_of};
+use crate::console::{Console, Ended, Reporter};
 use crate::program::{perform, refuse};
 use crate::write::read_front;
 use std::alloc::Global;
@@ -412,15 +412,5 @@ impl<E: Sink> Reporter<E> {
             ErrorKind::OutOfMemory => self.fail(OutFault::Memory(0)),
             _ => self.stop(why),
         }
-    }
-
-    /// Reports a short text, and answers the status.
-    fn stop(&mut self, why: &str) -> Status
-        requires { length why.now ≤ 100 }
-        ensures reported { Reports (reported_line why.now) (E.seen self.old.sink) (E.seen self.new.sink) }
-        ensures status { result ≡ Status.Failed }
-    {
-        self.report(line_of(why).as_str());
-        Status::Failed
     }
 }

@@ -10,7 +10,7 @@ ghost use Rattle.warc_commands.specs.Program.{IsUnsent, MakeEnds, Reports, plan_
 ghost use Rattle.warc_commands.specs.Reads.{ReadsForRecord, file_piece};
 ghost use Rattle.warc_frame.specs.Ranges.{IsReadAt};
 
-use crate::console::{Console, Ended, Heap, Input, Reporter, line_of};
+use crate::console::{Console, Ended, Heap, Input, Reporter};
 use std::alloc::Allocator;
 use warc_arguments::{Draft, Status};
 use warc_frame::{Framed, MAX_BLOCK, OutFault, Sink, Source};
@@ -201,7 +201,6 @@ impl<E: Sink> Reporter<E> {
             (E.seen self.new.sink) }
         ensures status { result ≡ Status.Failed }
     {
-        self.report(line_of(fault.name()).as_str());
-        Status::Failed
+        self.stop(fault.name())
     }
 }

@@ -1,20 +1,28 @@
-use Rattle.std.proofs.Common.{List, ℕ, Bor, Some, sym, ap, ◌∙◌}
+use Rattle.std.proofs.Common.{Some, ap, refl, sym, ◌∙◌}
 use Rattle.std.specs.Prelude.{option_map}
+use Rattle.warc_commands.specs.Captures.{CapturesEnds}
 use Rattle.warc_commands.specs.Runs.{run_seen}
-use Rattle.warc_commands.proofs.CaptureLemmas.{listed_hex, listed_plain}
+use Rattle.warc_commands.specs.Words.{uri_bytes}
+use Rattle.warc_commands.proofs.ReadLemmas.{unread}
 use Rattle.warc_commands.proofs.RunsLemmas.{runs_as}
+use Rattle.warc_commands.proofs.WordLemmas.{bad_uri, by_uri}
 use Rattle.warc_commands.proofs.console.Console.captures.Goals as goal
 
-pub returns-then-in_hex : goal.returns-then-in_hex
-returns-then-in_hex g c =
-    runs_as _ _ _ _ _ _ (run_seen g.S.Source.seen c.captures_in_hex.result) (λ last status. listed_hex c.args.in_hex _ _ last status c.if-in_hex.true) (λ last reads. reads) c.captures_in_hex.ensures
+pub returns-in-Ok-Some : goal.returns-in-Ok-Some
+returns-in-Ok-Some g c =
+    let same = ap Some c.bytes.ensures ∙ sym (ap (option_map uri_bytes) c.in-Ok-Some.field-0-is) in
+    runs_as _ _ _ _ _ _ (run_seen g.S.Source.seen c.list_captures_of.result) (λ last status. by_uri CapturesEnds c.args.in_hex _ _ _ _ last status c.in-Ok-Some.ensures same) (λ last reads. reads)
+    c.list_captures_of.ensures
 
-pub returns-in-Some : goal.returns-in-Some
-returns-in-Some g c =
-    let same = ap (option_map (λ (u : Bor (List ℕ)). u.now)) c.in-Some.is in
-    runs_as _ _ _ _ _ _ (run_seen g.S.Source.seen c.list_captures_of.result) (λ last status. listed_plain c.args.in_hex _ _ _ last status c.if-in_hex.false (ap Some c.as_bytes.ensures.value ∙ sym same)) (λ last reads. reads) c.list_captures_of.ensures
+pub returns-in-Ok-None : goal.returns-in-Ok-None
+returns-in-Ok-None g c =
+    let same = sym (ap (option_map uri_bytes) c.in-Ok-None.field-0-is) in
+    runs_as _ _ _ _ _ _ (run_seen g.S.Source.seen c.list_captures.result) (λ last status. by_uri CapturesEnds c.args.in_hex _ _ _ _ last status c.in-Ok-None.ensures same) (λ last reads. reads)
+    c.list_captures.ensures
 
-pub returns-in-None : goal.returns-in-None
-returns-in-None g c =
-    let same = ap (option_map (λ (u : Bor (List ℕ)). u.now)) c.in-None.is in
-    runs_as _ _ _ _ _ _ (run_seen g.S.Source.seen c.list_captures.result) (λ last status. listed_plain c.args.in_hex _ _ _ last status c.if-in_hex.false (sym same)) (λ last reads. reads) c.list_captures.ensures
+pub returns-in-Err : goal.returns-in-Err
+returns-in-Err g c = record {
+  ends = bad_uri CapturesEnds c.args.in_hex _ c.in-Err.fault _ _ _ _ _ c.in-Err.ensures c.refuse_word.ensures.reported c.refuse_word.ensures.status;
+  kept = refl;
+  reads = (unread (g.S.Source.seen c.args.source)).near;
+}

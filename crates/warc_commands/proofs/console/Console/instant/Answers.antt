@@ -1,10 +1,11 @@
-use Rattle.std.proofs.Common.{None, refl}
-use Rattle.warc_commands.proofs.InstantLemmas.{instant_by}
+use Rattle.std.proofs.Common.{refl}
+use Rattle.warc_commands.specs.Instants.{InstantEnds}
+use Rattle.warc_commands.proofs.InstantLemmas.{shown_as}
+use Rattle.warc_commands.proofs.WordLemmas.{bad_word, by_word}
 use Rattle.warc_commands.proofs.console.Console.instant.Goals as goal
 
-pub returns-in-Some-clause-ends : goal.returns-in-Some-clause-ends
-returns-in-Some-clause-ends g c = instant_by _ _ _ _ _ _ c.as_bytes-text.ensures.value c.in-Some.ensures (refl, c.show_instant.ensures)
+pub returns-in-Ok-clause-ends : goal.returns-in-Ok-clause-ends
+returns-in-Ok-clause-ends g c = by_word (λ instant. InstantEnds c.args.date.now) _ _ _ _ _ c.in-Ok.ensures (refl, shown_as _ _ _ _ _ c.as_bytes.ensures.value c.show_instant.ensures)
 
-pub returns-in-None-clause-ends : goal.returns-in-None-clause-ends
-returns-in-None-clause-ends g c =
-    instant_by _ _ None _ _ _ c.as_bytes-text.ensures.value c.in-None.ensures (record { unread = refl; untouched = refl; reported = c.report.ensures; status_is = refl })
+pub returns-in-Err-clause-ends : goal.returns-in-Err-clause-ends
+returns-in-Err-clause-ends g c = bad_word (λ instant. InstantEnds c.args.date.now) _ c.in-Err.fault _ _ _ _ _ c.in-Err.ensures c.refuse_word.ensures.reported c.refuse_word.ensures.status
