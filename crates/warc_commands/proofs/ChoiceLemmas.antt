@@ -76,7 +76,7 @@ pub fails_over : (rows : List Row) (ps : List ℕ) {e : OutFault} {old new : See
     → FailsBy {X = ℕ} (λ bytes. IsArchiveOf bytes rows) (Err e) old new
 fails_over rows ps {e} {old} {new} fails = fails_as (Unit {0}) ℕ (fails_more (λ bytes held is. (selected_text rows ps bytes, (is, refl))) fails)
 
--- the same, from what the source was before the archive was opened
+-- how sending ends, from what the source was before the archive was opened
 module _ {rows : List Row} {old mid : SeenSource} (kept : mid.holds ≡ old.holds) (cause : mid.faults ≡ old.faults) (out err : Seen) (new : Devices) (status : Status) where
   pub sent_before : (more ps : List ℕ) → SendEnds more rows ps (devices mid out err) new status → SendEnds more rows ps (devices old out err) new status
   sent_before more ps (inl sent) = inl (record {

@@ -107,7 +107,7 @@ module _ {A : Type 0} {S : Type 0} (archive : Archived S) (except : Bool) (once 
         status_is = three;
       })
 
--- the same, from what the source was before the archive was opened
+-- how a closed selection ends, from what the source was before the archive was opened
 module _ {rows : List Row} {old mid : SeenSource} (kept : mid.holds ≡ old.holds) (cause : mid.faults ≡ old.faults) (out err : Seen) (new : Devices) (status : Status) where
   closure_before : (except : Bool) (once : List ℕ) → ClosureEnds except once rows (devices mid out err) new status → ClosureEnds except once rows (devices old out err) new status
   closure_before except once (inl is) = inl (record {

@@ -99,6 +99,6 @@ part_written e opened writes same reports is = record {
   status_is = is;
 }
 
--- the same line
+-- a line that was reported is reported as an equal one
 pub reported_as : {line other : List ℕ} {old new : Seen} → line ≡ other → Reports line old new → Reports other old new
 reported_as {line} {other} {old} {new} same reported = let P : List ℕ → Type 0 = λ l. Reports l old new in subst P same reported

@@ -286,7 +286,7 @@ replay_near {S} {old} {mid} {last} {new} {archive} opens same inside =
     let P : SeenSource → Type 0 = λ t. AsksNear old t in
     subst P (sym same) (inside_near last opens inside)
 
--- the same of what is made of an archive
+-- what is made of an archive reads no byte above offset 2^48
 pub listed_near : {X : Type 0} {Is : List ℕ → X → Type 0} {old mid last new : SeenSource} {archive : X} → Opens Is old mid (Ok archive) → new ≡ last
     → ((bytes : List ℕ) → Is bytes archive → length bytes ≤ max_archive) → ((bytes : List ℕ) → Is bytes archive → AsksOnly (λ at. at < length bytes) mid last) → AsksNear old new
 listed_near {X} {Is} {old} {mid} {last} {new} {archive} opens same short inside =

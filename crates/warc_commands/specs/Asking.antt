@@ -12,7 +12,7 @@ pub record HasReadFront (most room : ℕ) (items : List ℕ) (old new : SeenSour
   pub cost : new.reads ≤ old.reads + length items
   pub watched : new.watches ≡ old.watches
 
--- all was read, or a read or a growth of the memory failed
+-- all was read, or a read or an allocation failed
 pub record ReadsFront (most room : ℕ) (old new : SeenSource) : Type 0 where
   pub near : AsksOnly (λ at. at < most) old new
   pub close : IfHeld old.holds (λ bytes. AsksOnly (λ at. at < length bytes + room) old new)

@@ -32,7 +32,7 @@ pub record AreCapturesIn (uri : Option (List ℕ)) (bytes : List ℕ) (rows : Li
   pub listed : AreListed uri is.are.records positions
   pub outcomes : AreOutcomes (contents is.are.records) positions captures
 
--- the same of the first of them
+-- these are the outcomes of the first of those captures
 pub record AreFrontIn (uri : Option (List ℕ)) (bytes : List ℕ) (rows : List Row) (captures : List CaptureSeen)
     : Type 0 where
   pub is : IsArchiveOf bytes rows
@@ -59,8 +59,8 @@ pub record IsCapturesReported (uri : Option (List ℕ)) (old new : Devices) (sta
   pub sound : new.source.faults ≡ old.source.faults
   pub ends : CountEnds captures old.err new.err status
 
--- a read, a write or a growth of the memory failed: a front of the lines of the first captures went out, as long as
--- the message says
+-- a read, a write or an allocation failed: a front of the lines of the first captures went out, as long as the message
+-- says
 pub record IsCapturesCutOff (uri : Option (List ℕ)) (old new : Devices) (status : Status) : Type 0 where
   pub rows : List Row
   pub captures : List CaptureSeen

@@ -60,7 +60,7 @@ pub record IsClosureSent (except : Bool) (once : List ℕ) (rows : List Row) (ol
   pub ends : SendEnds (beside_text except (beside except (length rows) (length once) (length chosen))) rows chosen old
       new status
 
--- a read or a growth of the memory failed before anything was written
+-- a read or an allocation failed before anything was written
 pub record IsUnclosed (rows : List Row) (old new : Devices) (status : Status) : Type 0 where
   pub fault : OutFault
   pub early : IsEarly (Out fault)

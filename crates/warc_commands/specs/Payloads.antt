@@ -39,7 +39,7 @@ PayloadLinesEnd rows judged out out' err err' status =
     × (out'.faults ≡ raised out.faults) × Reports (reported_line (out_fault_text (Write sent))) err err'
     × (status ≡ Failed))
 
--- the same, or nothing was written since the payloads couldn't be judged
+-- how writing the lines of verdicts ends; or nothing was written since the payloads couldn't be judged
 abbrev pub PayloadsListed : List Row → Result PayloadJudgements OutFault → Seen → Seen → Seen → Seen → Status → Type 0
 PayloadsListed rows (Ok judged) out out' err err' status = PayloadLinesEnd rows judged out out' err err' status
 PayloadsListed rows (Err fault) out out' err err' status =
@@ -69,7 +69,7 @@ pub record IsPayloadsCutOff (old new : Devices) (status : Status) : Type 0 where
   pub reported : Reports (reported_line (out_fault_text (Write sent))) old.err new.err
   pub status_is : status ≡ Failed
 
--- a read or a growth of the memory failed before anything was written
+-- a read or an allocation failed before anything was written
 pub record IsUnjudged (old new : Devices) (status : Status) : Type 0 where
   pub fault : OutFault
   pub early : IsEarly (Out fault)

@@ -48,7 +48,7 @@ reported_line text = codes "warc: " ++ text ++ codes "\n"
 abbrev pub fault_line : Fault → List ℕ
 fault_line f = reported_line (fault_text f)
 
--- the status where an archive isn't opened: by whether a read or a growth of the memory failed
+-- the status where an archive isn't opened: by whether a read or an allocation failed
 abbrev pub status_of_kind : FaultKind → Status
 status_of_kind Read = Failed
 status_of_kind Memory = Failed
@@ -60,9 +60,8 @@ pub record Reports (line : List ℕ) (old new : Seen) : Type 0 where
   pub front : new.reports ≡ append_known old.reports (take count line)
   pub whole : new.faults ≡ old.faults → old.faults + 1 < 2 ^ 64 → count ≡ length line
 
--- a command ends early, before it writes: the bytes were refused for their first fault, or a read or a growth of the
--- memory failed. A read fault is reported only where the source has failed once more, at
--- the offset asked last
+-- a command ends early, before it writes: the bytes were refused for their first fault, or a read or an allocation
+-- failed. A read fault is reported only where the source has failed once more, at the offset asked last
 pub record IsNotOpened (old new : Devices) (status : Status) : Type 0 where
   pub fault : Fault
   pub is : IfHeld old.source.holds (λ bytes. IsRefusalOf bytes old.source new.source fault)
@@ -136,7 +135,7 @@ pub record IsFrontOf (text : List Record → List ℕ) (bytes : List ℕ) (fault
   pub front : WentOut old.out.reports (text records) new.out.reports (sent_of fault)
   pub source : HasFailedBy {X = ℕ} (Err fault) old.source.faults new.source.faults
 
--- a read, a write or a growth of the memory failed while a text of the records was written
+-- a read, a write or an allocation failed while a text of the records was written
 pub record IsCutOff (text : List Record → List ℕ) (old new : Devices) (status : Status) : Type 0 where
   pub fault : OutFault
   pub is : IfHeld old.source.holds (λ bytes. IsFrontOf text bytes fault old new)
@@ -145,8 +144,8 @@ pub record IsCutOff (text : List Record → List ℕ) (old new : Devices) (statu
   pub reported : Reports (reported_line (out_fault_text fault)) old.err new.err
   pub status_is : status ≡ Failed
 
--- a write or a growth of the memory failed after an archive was opened for `check`. All was read before that, so no
--- read failed, and the source has failed as often as before
+-- a write or an allocation failed after an archive was opened for `check`. All was read before that, so no read failed,
+-- and the source has failed as often as before
 pub record IsCheckCutOff (old new : Devices) (status : Status) : Type 0 where
   pub cut : IsCutOff check_text old new status
   pub unread : is_read cut.fault ≡ false
@@ -299,13 +298,13 @@ pub record IsNotMade (d : Draft) (old new : Devices) (status : Status) : Type 0 
   pub reported : Reports (reported_line (make_fault_text fault)) old.err new.err
   pub status_is : status ≡ Failed
 
--- a read or a growth of the memory failed, and no write: nothing went out
+-- a read or an allocation failed, and no write: nothing went out
 abbrev pub IsUnsent : OutFault → Type 0
 IsUnsent (NoRead sent) = sent ≡ 0
 IsUnsent (Write sent) = ⊥
 IsUnsent (NoMemory sent) = sent ≡ 0
 
--- the file wasn't read: a read or a growth of the memory failed
+-- the file wasn't read: a read or an allocation failed
 pub record IsNotRead (old new : Devices) (status : Status) : Type 0 where
   pub fault : OutFault
   pub source : HasFailedBy {X = ℕ} (Err fault) old.source.faults new.source.faults

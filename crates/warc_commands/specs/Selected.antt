@@ -81,7 +81,7 @@ pub record IsAbsent (named : List ℕ) (rows : List Row) (old new : Devices) (st
   pub reported : Reports (reported_line (codes "E1 NoRecord " ++ decimal absent)) old.err new.err
   pub status_is : status ≡ Found
 
--- a growth of the memory was refused before anything was written
+-- an allocation failed before anything was written
 pub record IsUnchosen (old new : Devices) (status : Status) : Type 0 where
   pub sound : new.source.faults ≡ old.source.faults
   pub untouched : new.out ≡ old.out

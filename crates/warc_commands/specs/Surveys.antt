@@ -20,7 +20,7 @@ pub record IsSurveyReported (old new : Devices) (status : Status) : Type 0 where
   pub silent : new.err ≡ old.err
   pub status_is : status ≡ Done
 
--- a read, a write or a growth of the memory failed after the archive was opened: a front of the survey went out
+-- a read, a write or an allocation failed after the archive was opened: a front of the survey went out
 pub record IsSurveyCutOff (old new : Devices) (status : Status) : Type 0 where
   pub fault : OutFault
   pub is : IfHeld old.source.holds (λ bytes. IsSurveyFront bytes (sent_of fault) old.out new.out)

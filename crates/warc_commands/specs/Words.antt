@@ -33,7 +33,7 @@ abbrev pub uri_bytes : {A : Type 0} → Uri A → List ℕ
 uri_bytes (Word text) = text.now
 uri_bytes (Decoded bytes) = bytes.items
 
--- ---- what reading a word answers
+-- ---- what reading a word returns
 
 abbrev pub read_position : List ℕ → Result ℕ WordFault
 read_position word = ok_or (position_of word) Position
@@ -52,7 +52,7 @@ abbrev pub read_listed : Bool → Option (List ℕ) → Result (Option (List ℕ
 read_listed in_hex None = if in_hex then Err Hex else Ok None
 read_listed in_hex (Some word) = result_map_both Some (λ fault. fault) (read_uri in_hex word)
 
--- this is answered, or that memory was refused, which digits alone may want
+-- this is returned, or that an allocation failed, as digits alone need one
 abbrev pub ReadsWord : {X : Type 0} → Bool → Result X WordFault → Result X WordFault → Type 0
 ReadsWord in_hex read answer = (answer ≡ read) ⊎ ((in_hex ≡ true) × (answer ≡ Err Memory))
 
@@ -78,7 +78,7 @@ pub record IsBadWord (why : List ℕ) (old new : Devices) (status : Status) : Ty
   pub reported : Reports (reported_line why) old.err new.err
   pub status_is : status ≡ Failed
 
--- memory was refused before the archive was read
+-- an allocation failed before the archive was read
 abbrev pub IsStarved : Devices → Devices → Status → Type 0
 IsStarved = IsBadWord (word_fault_text Memory)
 

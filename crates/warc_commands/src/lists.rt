@@ -14,7 +14,7 @@ use std::alloc::Allocator;
 pub(crate) enum ListFault {
     /// The line of a number, counted from 1, is neither empty nor begins with a position.
     Line(usize),
-    /// A growth of the memory was refused.
+    /// An allocation failed.
     Memory,
 }
 

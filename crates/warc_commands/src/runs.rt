@@ -401,7 +401,7 @@ impl<W: Sink, E: Sink> Console<W, E> {
 }
 
 impl<E: Sink> Reporter<E> {
-    /// Reports why a run can't begin: the text, or that memory was refused; and answers the status.
+    /// Reports why a run can't begin: the text, or that an allocation failed; and answers the status.
     fn stop_by(&mut self, error: &io::Error, why: &str) -> Status
         requires { length why.now ≤ 100 }
         ensures reported { Reports (reported_line (stop_text why.now (error_kind error.now)))
