@@ -130,7 +130,7 @@ def write_output(out: Output, write: Callable[[int], None], parts: Callable[[], 
 
 
 def _write_joined(out: Output, parts: Iterable[memoryview]) -> None:
-    """Writes parts to an object. What goes wrong after a write raises WriteFailed, as a failed allocation always does."""
+    """Writes parts to an object. What goes wrong after a write raises WriteFailed, and so does a failed allocation."""
     sent = 0
     try:
         for piece in _joined(parts):
